@@ -1,4 +1,5 @@
 -- The laws that the proofs of several functions cite.
+pub mod Nan
 pub mod Values
 pub mod Pack
 pub mod Fields
