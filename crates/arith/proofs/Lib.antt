@@ -8,7 +8,10 @@ pub mod Integral
 pub mod Signs
 pub mod Ends
 pub mod Cast
+pub mod Short
+pub mod Distance
 pub mod Near
+pub mod IntegralNearest
 pub mod RootWhole
 pub mod RootBrought
 pub mod RootDigits
