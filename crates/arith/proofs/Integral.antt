@@ -112,7 +112,7 @@ halfUp-le t u h k = le-of-lt (div-lt-iff-lt-mul (twice u k) .1 (far t u h k))
     far t u h k = omega arith
 
 -- ---- whole already
-rescale : (x : Float) (s : Bool) (a b c d : ℕ) → 0 < b → a * d ≡ c * b → HasValue x s a b → HasValue x s c d
+pub rescale : (x : Float) (s : Bool) (a b c d : ℕ) → 0 < b → a * d ≡ c * b → HasValue x s a b → HasValue x s c d
 rescale nan s a b c d p h v = v
 rescale (inf t) s a b c d p h v = v
 rescale (fin t m e) s a b c d p h v = (

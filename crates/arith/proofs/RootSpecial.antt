@@ -16,44 +16,9 @@ use Rattle.arith.specs.Root.{sqrtOf}
 use Rattle.arith.proofs.RootPatterns.{ofBits-is}
 use Rattle.arith.proofs.RootValue.{nothing-left}
 
-pub T-of : (b : Bool) → b ≡ true → T b
-T-of b e = subst T (sym e) tt
-
-pub T-not-of : (b : Bool) → b ≡ false → T (not b)
-T-not-of b e = subst (λ (x : Bool). T (not x)) (sym e) tt
-
-pub nan-is : (x : Float) → ne x x ≡ true → x ≡ nan
-nan-is x h = differs-from-itself x (T-of (ne x x) h)
-
 pub nan-root : sqrtOf nan ≡ nan
 unfolding sqrtOf
 nan-root = refl
-
-pub nan-bits : toBits binary32 nan ≡ 0x7fc0_0000
-unfolding toBits
-nan-bits = refl
-
-flip : _≡_ {A = Bool} true false → ⊥
-flip e = subst (λ (b : Bool). T b) e tt
-
-pub no-nan : (x : Float) → ne x x ≡ false → T (not (isNan x))
-unfolding ne isNan
-no-nan nan h = absurd (flip h)
-no-nan (inf s) h = tt
-no-nan (fin s m e) h = tt
-
-pub is-nan : (x : Float) → T (isNan x) → x ≡ nan
-unfolding isNan
-is-nan nan t = refl
-is-nan (inf s) t = absurd t
-is-nan (fin s m e) t = absurd t
-
--- a pattern at or below the infinity's is no NaN's, and one above is
-pub above-nan : (b : ℕ) → 2139095040 < b % 2147483648 → ofBits binary32 b ≡ nan
-above-nan b h = is-nan (ofBits binary32 b) (subst T (sym (sym (nanBits-is binary32 b) ∙ nanBits-above binary32 b)) (lt→ltb 2139095040 (b % 2147483648) h))
-
-pub below-no-nan : (b : ℕ) → b % 2147483648 ≤ 2139095040 → T (not (nanBits binary32 b))
-below-no-nan b h = subst (λ (t : Bool). T (not t)) (sym (nanBits-above binary32 b)) (le→nltb 2139095040 (b % 2147483648) h)
 
 -- the pattern of a number that is no NaN
 pub bits-no-nan : (x : Float) → T (fits binary32 x) → T (not (isNan x)) → toBits binary32 x % 2147483648 ≤ 2139095040
@@ -79,10 +44,6 @@ minus-zero-root = refl
 pub infinity-root : sqrtOf (ofBits binary32 2139095040) ≡ ofBits binary32 2139095040
 unfolding sqrtOf ofBits
 infinity-root = refl
-
-pub made-nan : div binary32 (ofBits binary32 0) (ofBits binary32 0) ≡ nan
-unfolding div ofBits
-made-nan = refl
 
 -- ---- negatives
 

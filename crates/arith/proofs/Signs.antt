@@ -85,17 +85,7 @@ abs-above (fin true m e) h k =
     let w : m * up e ≡ 0 = omega arith in
     absurd (true≢false (sym (eq-at true m e ∙ ap (λ (b : Bool). b && (false || b)) (eq-eqb (m * up e) 0 w)) ∙ k))
 
--- ---- a NaN
-pub nan-true : (x : Float) → ne x x ≡ true → isNan x ≡ true
-nan-true x h = ap isNan (differs-from-itself x (subst T (sym h) tt)) ∙ (unfold isNan in refl)
-
-pub nan-false : (x : Float) → ne x x ≡ false → isNan x ≡ false
-unfolding isNan
-nan-false nan h = absurd (true≢false (sym nan-differs ∙ h))
-nan-false (inf s) h = refl
-nan-false (fin s m e) h = refl
-
--- what is above something is no NaN
+-- ---- what is above something is no NaN
 pub above-plain : (x y : Float) → lt x y ≡ true → T (not (isNan y))
 unfolding isNan lt
 above-plain nan y h = absurd (false≢true h)

@@ -1,6 +1,6 @@
 use Rattle.arith.proofs.Integral.{roundOf-nan, whole-already, neg-round}
 use Rattle.arith.proofs.Fields.{by-fields}
-use Rattle.arith.proofs.Values.{is-nan, no-nan}
+use Rattle.arith.proofs.Nan.{is-nan, no-nan}
 use Rattle.arith.specs.Rounding.{roundOf}
 use lib.Ieee.{binary64, toBits, inFloat, ofInt}
 use borrow.Author.Tests.{lt-leb, le-leb}
