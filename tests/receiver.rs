@@ -196,6 +196,15 @@ impl Receiver {
         }
     }
 
+    pub fn idle(&self) -> bool {
+        self.lane.mode == IDLE
+    }
+
+    /// The index of the last accepted call.
+    pub fn last(&self) -> u64 {
+        self.last
+    }
+
     /// Refusal 8.
     fn room(&self, p: &Params) -> bool {
         let slots = 2 * p.max_pulses as usize;
