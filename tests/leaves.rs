@@ -235,23 +235,50 @@ fn either_zero(bits: u32) -> u32 {
 }
 
 fn conversions(run: &mut Run) -> Result<(), String> {
-    run.compare("round", bits_of_f64, leaf_round, |x| {
-        bits64(double(x).round())
-    })?;
-    run.compare("narrow", bits_of_f64, leaf_narrow, |x| {
-        bits32(double(x) as f32)
-    })?;
-    run.compare("to_u32", bits_of_f64, leaf_to_u32, |x| double(x) as u32)?;
-    run.compare("to_u64", bits_of_f64, leaf_to_u64, |x| double(x) as u64)?;
+    run.compare(
+        "round",
+        bits_of_f64,
+        |x| leaf_round(x),
+        |x| bits64(double(x).round()),
+    )?;
+    run.compare(
+        "narrow",
+        bits_of_f64,
+        |x| leaf_narrow(x),
+        |x| bits32(double(x) as f32),
+    )?;
+    run.compare(
+        "to_u32",
+        bits_of_f64,
+        |x| leaf_to_u32(x),
+        |x| double(x) as u32,
+    )?;
+    run.compare(
+        "to_u64",
+        bits_of_f64,
+        |x| leaf_to_u64(x),
+        |x| double(x) as u64,
+    )?;
     let any32 = |r: &mut Random| r.u32() >> r.below(32);
     let any64 = |r: &mut Random| r.u64() >> r.below(64);
-    run.compare("u32_to_f32", any32, leaf_u32_to_f32, |n| {
-        (n as f32).to_bits()
-    })?;
-    run.compare("u64_to_f64", any64, leaf_u64_to_f64, |n| {
-        (n as f64).to_bits()
-    })?;
-    run.compare("lead_len", any32, leaf_lead_len, published::lead_len_of)
+    run.compare(
+        "u32_to_f32",
+        any32,
+        |x| leaf_u32_to_f32(x),
+        |n| (n as f32).to_bits(),
+    )?;
+    run.compare(
+        "u64_to_f64",
+        any64,
+        |x| leaf_u64_to_f64(x),
+        |n| (n as f64).to_bits(),
+    )?;
+    run.compare(
+        "lead_len",
+        any32,
+        |x| leaf_lead_len(x),
+        published::lead_len_of,
+    )
 }
 
 fn of_f32(run: &mut Run) -> Result<(), String> {
@@ -261,8 +288,13 @@ fn of_f32(run: &mut Run) -> Result<(), String> {
         |(a, b)| leaf_midpoint(a, b),
         |(a, b)| published::midpoint(a, b),
     )?;
-    run.compare("flush", bits_of_f32, leaf_flush, published::flush)?;
-    run.compare("a_gain", bits_of_f32, leaf_a_gain, published::a_gain_bits)?;
+    run.compare("flush", bits_of_f32, |x| leaf_flush(x), published::flush)?;
+    run.compare(
+        "a_gain",
+        bits_of_f32,
+        |x| leaf_a_gain(x),
+        published::a_gain_bits,
+    )?;
     run.compare(
         "atan2_fast",
         two_of_f32,
@@ -313,11 +345,16 @@ fn of_times(run: &mut Run) -> Result<(), String> {
         |(idx, frac)| leaf_edge(idx, frac),
         |(idx, frac)| published::edge_bits(idx, frac),
     )?;
-    run.compare("whole", bits_of_f64, leaf_whole, published::whole_bits)?;
+    run.compare(
+        "whole",
+        bits_of_f64,
+        |x| leaf_whole(x),
+        published::whole_bits,
+    )?;
     run.compare(
         "step_of",
         bits_of_f64,
-        leaf_step_of,
+        |x| leaf_step_of(x),
         published::step_of_bits,
     )?;
     run.compare(
@@ -335,7 +372,7 @@ fn of_times(run: &mut Run) -> Result<(), String> {
     run.compare(
         "run_fix",
         bits_of_f64,
-        leaf_run_fix,
+        |x| leaf_run_fix(x),
         published::run_fix_bits,
     )
 }
