@@ -153,7 +153,7 @@ fn bits_of_f32(r: &mut Random) -> u32 {
                 0x7f80_0000,
                 0x3f80_0000,
                 0x0da2_4260,
-                0x2680_0000,
+                0x2690_1d7d,
             ]);
             at.wrapping_add_signed(r.below(64) as i32 - 32) | (r.u32() & 1) << 31
         }
