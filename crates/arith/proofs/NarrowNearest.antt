@@ -2,8 +2,8 @@
 use mathlib.Core.Path.{_≡_, refl, sym, ap, _∙_, subst}
 use mathlib.Core.Logic.{_⊎_, inl, inr, ⊎-elim}
 use mathlib.Core.Bool.{Bool, true, false, not, cond}
-use Prim.Native.Nat.{ℕ, zero, suc, _+_, _-_, _*_, _/_, _%_, _^_, _≤_, _<_}
-use native.Mathlib.Nat.{mul-assoc, mul-one, zero-mul, zero-lt-suc, mul-le-mul-right, le-trans, le-of-mul-le-mul-right, lt-of-not-le}
+use Prim.Native.Nat.{ℕ, zero, suc, _+_, _-_, _*_, _%_, _^_, _≤_, _<_}
+use native.Mathlib.Nat.{mul-assoc, mul-one, zero-lt-suc, mul-le-mul-right, le-trans, le-of-mul-le-mul-right, lt-of-not-le}
 use native.Mathlib.Omega.{arith}
 use lib.Dec.{T, ltb, ltb→lt, nltb→le}
 use lib.Pow.{pow-pos}
@@ -16,7 +16,7 @@ use Rattle.arith.specs.Units.{inUnits, signOf, apart, distance}
 use Rattle.arith.specs.Rounding.{narrowOf}
 use Rattle.arith.specs.RoundingNearest.{NearestSingle, limit32}
 use Rattle.arith.proofs.Distance.{distance-same, by-sign, apart-scale}
-use Rattle.arith.proofs.Short.{Short, short, in-units, in-units-exact}
+use Rattle.arith.proofs.Short.{short, in-units, in-units-exact}
 use Rattle.arith.proofs.Near.{round-near, round-tie, kept-most, kept-least}
 use Rattle.arith.proofs.Pack.{units-over, bits-of-units}
 use Rattle.arith.proofs.Fields.{narrowOf-at}

@@ -1,8 +1,8 @@
 -- The leaves of the lane's arithmetic: each operation rounded once, in the order of the text. A constant is written by its bit pattern.
 use Prim.Native.Nat.{ℕ, min, _-_, _*_, _/_, _%_, _^_}
-use mathlib.Core.Bool.{Bool, true, false, cond, _||_}
-use lib.IntN.{pos, negsuc}
-use lib.Ieee.{Float, nan, inf, fin, binary32, binary64, add, sub, mul, div, neg, lt, eq, isNan, ofInt, ofBits, toBits, up, down}
+use mathlib.Core.Bool.{false, cond}
+use lib.IntN.{pos}
+use lib.Ieee.{Float, nan, inf, fin, binary32, binary64, add, sub, mul, div, lt, isNan, ofInt, ofBits, toBits, up, down}
 use Rattle.arith.specs.declared.C32.{C32}
 use Rattle.arith.specs.declared.Steps.{Steps}
 use Rattle.arith.specs.declared.Fix64.{Fix64}
