@@ -1,9 +1,8 @@
 -- Distances of numbers with their signs. Assumes nothing.
 use mathlib.Core.Path.{_≡_, refl, sym, ap, _∙_}
 use mathlib.Core.Bool.{Bool, true, false}
-use Prim.Native.Nat.{ℕ, _+_, _-_, _*_, _≤_, _<_}
+use Prim.Native.Nat.{ℕ, _+_, _-_, _*_}
 use native.Mathlib.Nat.{mul-comm, mul-sub, add-mul}
-use native.Mathlib.Omega.{arith}
 use Rattle.arith.specs.Units.{apart, distance}
 
 -- of one sign

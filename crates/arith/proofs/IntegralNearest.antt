@@ -1,9 +1,9 @@
 -- `roundOf` gives the whole number nearest to a finite f64, a tie away from zero (`nearest-integral`). Assumes nothing.
-use mathlib.Core.Path.{_≡_, refl, sym, ap, _∙_, subst}
+use mathlib.Core.Path.{_≡_, sym, ap, _∙_, subst}
 use mathlib.Core.Logic.{_⊎_, inl, inr, ⊎-elim}
 use mathlib.Core.Bool.{Bool, true, false, not}
-use Prim.Native.Nat.{ℕ, zero, suc, _+_, _-_, _*_, _/_, _%_, _^_, _≤_, _<_}
-use native.Mathlib.Nat.{mul-assoc, mul-comm, mul-one, mul-left-comm, mul-le-mul-right, mul-lt-mul-of-pos-right, mod-lt, div-add-mod', suc-mul, zero-mul, le-trans, le-of-eq, le-of-lt, lt-of-lt-of-le, eq-or-lt-of-le, div-lt-iff-lt-mul, mul-pos, lt-irrefl}
+use Prim.Native.Nat.{ℕ, zero, suc, _+_, _-_, _*_, _^_, _≤_, _<_}
+use native.Mathlib.Nat.{mul-assoc, mul-one, mul-left-comm, mul-le-mul-right, mod-lt, div-add-mod', suc-mul, zero-mul, le-trans, le-of-eq, le-of-lt, lt-of-lt-of-le, eq-or-lt-of-le, div-lt-iff-lt-mul}
 use native.Mathlib.Omega.{arith}
 use lib.Dec.{T, leb, leb→le, nleb→lt}
 use lib.Pow.{pow-add, pow-pos, pow-mono, shl-lt}
@@ -16,7 +16,7 @@ use Rattle.arith.specs.Units.{inUnits, signOf, apart, distance}
 use Rattle.arith.specs.Rounding.{halfUp, roundOf}
 use Rattle.arith.specs.RoundingNearest.{NearestIntegral}
 use Rattle.arith.proofs.Distance.{distance-same, by-sign}
-use Rattle.arith.proofs.Short.{Short, short, in-units-exact}
+use Rattle.arith.proofs.Short.{short, in-units-exact}
 use Rattle.arith.proofs.Integral.{roundOf-at, rescale}
 
 -- ---- `halfUp a c` among the multiples of c

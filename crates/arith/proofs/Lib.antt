@@ -12,6 +12,7 @@ pub mod Short
 pub mod Distance
 pub mod Near
 pub mod IntegralNearest
+pub mod NarrowNearest
 pub mod RootWhole
 pub mod RootBrought
 pub mod RootDigits

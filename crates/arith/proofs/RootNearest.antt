@@ -1,22 +1,20 @@
 -- The root of a positive f32 is the nearest f32 to the exact root, and there is never a tie (`nearest-root`). Assumes nothing.
 use mathlib.Core.Path.{_≡_, refl, sym, ap, _∙_, subst}
-use mathlib.Core.Bool.{Bool, true, false, _&&_}
-use Prim.Native.Nat.{ℕ, zero, suc, _+_, _-_, _*_, _/_, _%_, _^_, _≤_, _<_}
-use native.Mathlib.Nat.{le-trans, le-of-lt, le-of-suc-le-suc, lt-of-not-le, lt-of-lt-of-le, lt-of-le-of-lt, not-le-of-lt, zero-lt-suc, zero-mul, zero-div, mul-assoc, mul-comm, mul-one, mul-right-comm, mul-div-cancel, mul-mul-mul-comm, mul-lt-mul-of-pos-right, lt-of-mul-lt-mul-right, pow-suc}
+use mathlib.Core.Bool.{true, false}
+use Prim.Native.Nat.{ℕ, suc, _+_, _*_, _/_, _%_, _^_, _≤_, _<_}
+use native.Mathlib.Nat.{le-of-lt, lt-of-lt-of-le, zero-lt-suc, mul-assoc, mul-comm, mul-lt-mul-of-pos-right, pow-suc}
 use native.Mathlib.Omega.{arith}
-use lib.IntN.{ℤ, pos, negsuc}
-use lib.Dec.{T, leb, ltb, eqb, ltb→lt, leb→le}
-use lib.Pow.{pow-add, pow-pos, pow-lt, pow-mono, shl-lt}
-use lib.Ieee.{Float, nan, inf, fin, binary32, up, down, size, odd, units, nearest, fits}
+use lib.Dec.{T, ltb}
+use lib.Pow.{pow-add, pow-pos, pow-mono, shl-lt}
+use lib.Ieee.{Float, nan, inf, fin, binary32, size, odd, nearest, fits}
 use lib.Ieee.Digits.{size-le}
-use lib.Ieee.Fits.{and-l, and-r, down-pos, odd-fits}
+use lib.Ieee.Fits.{odd-fits}
 use lib.Ieee.Exact.{HasValue, odd-sign}
-use lib.Ieee.Scale.{finite}
 use lib.Ieee.Positive.{num, den, positive, positive-finite, value-pos, first-pos}
-use Rattle.arith.specs.Root.{wholeRoot, brought, power, dropped, exactOf, roundExact, roundExactOf, sqrtOf}
+use Rattle.arith.specs.Root.{wholeRoot, brought, power, dropped, exactOf, roundExactOf, sqrtOf}
 use Rattle.arith.specs.Units.{inUnits}
 use Rattle.arith.specs.RootNearest.{OnSide, NearestRoot}
-use Rattle.arith.proofs.Short.{Short, short, in-units}
+use Rattle.arith.proofs.Short.{short, in-units}
 use Rattle.arith.proofs.RootWhole.{wholeRoot-is}
 use Rattle.arith.proofs.RootBrought.{four-pow}
 use Rattle.arith.proofs.RootDigits.{Kept, kept}

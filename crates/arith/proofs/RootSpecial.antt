@@ -1,20 +1,21 @@
 -- Special operands: zeros, plus infinity, NaN and negatives. Assumes nothing.
 use mathlib.Core.Path.{_≡_, refl, sym, ap, _∙_, subst}
 use mathlib.Core.Bool.{Bool, true, false, not, cond}
-use Prim.Native.Nat.{ℕ, zero, suc, _+_, _-_, _*_, _/_, _%_, _^_, _≤_, _<_}
-use native.Mathlib.Nat.{mul-pos, mul-one}
+use Prim.Native.Nat.{ℕ, zero, suc, _+_, _*_, _/_, _%_, _^_, _≤_, _<_}
+use native.Mathlib.Nat.{mul-pos, zero-mul}
 use native.Mathlib.Omega.{arith}
-use lib.Dec.{T, leb, ltb, eqb, le→leb, lt→ltb, nltb→le}
-use lib.Arith.{le→nltb}
+use lib.Dec.{T, leb, ltb, eqb, le→leb, ltb→lt, nltb→le}
 use lib.Pow.{pow-pos}
 use lib.IntN.{ℤ}
-use lib.Ieee.{Float, nan, inf, fin, binary32, up, down, odd, div, ne, fits, isNan, ofFields, ofBits, toBits, nanBits}
-use lib.Ieee.Bits.{is-true, is-false, ofBits-toBits, nanBits-is, nanBits-above}
+use lib.Ieee.{Float, nan, inf, fin, binary32, up, down, odd, lt, fits, isNan, ofFields, ofBits, toBits}
+use lib.Ieee.Bits.{is-true, ofBits-toBits, nanBits-is, nanBits-above}
 use lib.Ieee.Exact.{HasValue, odd-sign}
-use lib.Ieee.Compare.{differs-from-itself}
+use Rattle.arith.specs.Leaves.{zero32}
 use Rattle.arith.specs.Root.{sqrtOf}
+use Rattle.arith.specs.RootNearest.{SpecialRoots}
 use Rattle.arith.proofs.RootPatterns.{ofBits-is}
 use Rattle.arith.proofs.RootValue.{nothing-left}
+use Rattle.arith.proofs.Signs.{lt-neg, lt-plus, never}
 
 pub nan-root : sqrtOf nan ≡ nan
 unfolding sqrtOf
@@ -78,3 +79,25 @@ negative-root b h k =
     let l : 2147483648 ≤ b = omega arith in
     ap sqrtOf (ofBits-is b ∙ ap (λ (s : Bool). ofFields binary32 s (b % 2147483648 / 8388608) (b % 8388608)) (is-true (leb 2147483648 b) (le→leb 2147483648 b l)))
     ∙ negative-fields (b % 2147483648 / 8388608) (b % 8388608) (λ e. omega arith)
+
+-- ---- all of them
+below-zero-root : (x : Float) → T (lt x zero32) → sqrtOf x ≡ nan
+unfolding sqrtOf
+below-zero-root nan t = refl
+below-zero-root (inf true) t = refl
+below-zero-root (inf false) t = absurd (unfold lt ofBits in t)
+below-zero-root (fin true zero e) t = absurd (no-less (0 * up e) (zero-mul (up e)) (ltb→lt 0 (0 * up e) (subst T (lt-neg 0 e) t)))
+  where
+    no-less : (a : ℕ) → a ≡ 0 → 0 < a → ⊥
+    no-less a e h = omega arith
+below-zero-root (fin true (suc m) e) t = refl
+below-zero-root (fin false m e) t = absurd (never (m * up e * 1) (is-true (ltb (m * up e * 1) 0) (subst T (lt-plus m e) t)))
+
+pub special-roots : SpecialRoots sqrtOf
+unfolding sqrtOf
+special-roots = record {
+  no-number = refl;
+  infinity = refl;
+  zero = λ s e. refl;
+  negative = below-zero-root;
+}

@@ -1,6 +1,6 @@
 -- A finite number of a format is m * 2 ^ j of the format's smallest value, with m of no more digits than the format keeps: `inUnits` loses nothing. Assumes nothing.
 use mathlib.Core.Path.{_≡_, refl, sym, ap, _∙_, subst}
-use mathlib.Core.Bool.{Bool, true, false, _&&_}
+use mathlib.Core.Bool.{Bool, _&&_}
 use Prim.Native.Nat.{ℕ, zero, suc, _+_, _-_, _*_, _/_, _%_, _^_, _≤_, _<_}
 use native.Mathlib.Nat.{le-of-suc-le-suc, lt-of-not-le, not-le-of-lt, zero-mul, zero-div, mul-assoc, mul-one, mul-right-comm, mul-div-cancel, mul-lt-mul-of-pos-right, lt-of-mul-lt-mul-right}
 use native.Mathlib.Omega.{arith}

@@ -1,2 +1,2 @@
 -- What holds of the exported functions' definitions.
-pub mod SpecialRoots
+pub mod SpecialPatterns

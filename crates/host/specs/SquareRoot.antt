@@ -8,7 +8,7 @@ abbrev pub laneSqrtOf : ℕ → ℕ
 laneSqrtOf bits = toBits binary32 (sqrtOf (ofBits binary32 bits))
 
 -- document 01 on the special operands: -0 gives -0, plus infinity itself, a NaN or any other negative 7fc00000
-pub record SpecialRoots (root : ℕ → ℕ) : Type 0 where
+pub record SpecialPatterns (root : ℕ → ℕ) : Type 0 where
   pub minus-zero : root 0x8000_0000 ≡ 0x8000_0000
   pub infinity : root 0x7f80_0000 ≡ 0x7f80_0000
   pub no-number : (b : ℕ) → 0x7f80_0000 < b % 0x8000_0000 → root b ≡ 0x7fc0_0000

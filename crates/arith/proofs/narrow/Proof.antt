@@ -7,9 +7,9 @@ use borrow.Author.Tests.{lt-leb, le-leb}
 use lib.Dec.{T}
 use native.Mathlib.Omega.{arith}
 use native.Mathlib.Nat.{zero-add}
-use Prim.Native.Nat.{ℕ, _+_, _^_}
+use Prim.Native.Nat.{_^_}
 use mathlib.Core.Bool.{true, false}
-use mathlib.Core.Path.{_≡_, refl, sym, ap, _∙_, subst}
+use mathlib.Core.Path.{sym, ap, _∙_, subst}
 use borrow.Author.Needs.{needs}
 use Rattle.arith.proofs.narrow.Statement.{statement}
 use Rattle.arith.proofs.narrow.Tie as tie

@@ -1,12 +1,11 @@
 -- `arith::sqrt` meets its contract: special operands (`RootSpecial.antt`), then the exact result and the rounding (`RootSteps.antt`). Assumes nothing.
-use mathlib.Core.Path.{_≡_, refl, sym, ap, _∙_, subst}
-use Prim.Native.Nat.{ℕ, _%_, _^_, _≤_, _<_}
+use mathlib.Core.Path.{sym, ap, _∙_, subst}
+use Prim.Native.Nat.{_<_}
 use native.Mathlib.Omega.{arith}
 use lib.Dec.{T}
-use lib.Ieee.{Float, nan, binary32, fits, ofBits, toBits}
+use lib.Ieee.{binary32, fits, toBits}
 use lib.Ieee.Bits.{ofBits-toBits, toBits-lt}
-use Rattle.arith.specs.Root.{sqrtOf, roundExact, roundExactOf}
-use Rattle.arith.specs.declared.Exact.{Exact}
+use Rattle.arith.specs.Root.{sqrtOf, roundExactOf}
 use Rattle.arith.proofs.RootSpecial.{nan-root, bits-no-nan, own-root, zero-root, minus-zero-root, infinity-root, negative-root}
 use Rattle.arith.proofs.Nan.{is-nan, no-nan, plain-read, zero-by-zero}
 use Rattle.arith.proofs.RootSteps.{read, read-root, read-range}

@@ -4,11 +4,11 @@ use lib.Ieee.{binary32, ofBits, toBits}
 use Rattle.arith.specs.Root.{sqrtOf}
 use Rattle.arith.proofs.Nan.{nan-read, nan-written32}
 use Rattle.arith.proofs.RootSpecial.{nan-root, negative-root}
-use Rattle.host.specs.SquareRoot.{laneSqrtOf, SpecialRoots}
+use Rattle.host.specs.SquareRoot.{laneSqrtOf, SpecialPatterns}
 
-pub special-roots : SpecialRoots laneSqrtOf
+pub special-patterns : SpecialPatterns laneSqrtOf
 unfolding sqrtOf ofBits toBits
-special-roots = record {
+special-patterns = record {
   minus-zero = refl;
   infinity = refl;
   no-number = λ b h. ap (toBits binary32) (ap sqrtOf (nan-read binary32 b h) ∙ nan-root) ∙ nan-written32;
