@@ -2,3 +2,4 @@
 pub mod See
 pub mod Act
 pub mod Tail
+pub mod Limits
