@@ -79,7 +79,7 @@ digits-hi t h = omega arith
 
 pub whole-none : (s : Bool) (e t : ℕ) → e < 1022 → t < 2 ^ 52 → roundOf (ofFields binary64 s e t) ≡ round binary64 s 0 1
 whole-none s zero t h k =
-    roundOf-at (ofFields binary64 s 0 t) s t (2 ^ 1074) (pow-pos 1074) (value-zero s t) ∙ ap (λ (n : ℕ). round binary64 s n 1) (half-none t (lt-of-lt-of-le k (pow-mono r)))
+    roundOf-at (ofFields binary64 s 0 t) s t (2 ^ 1074) (pow-pos 1074) (value-zero binary64 s t) ∙ ap (λ (n : ℕ). round binary64 s n 1) (half-none t (lt-of-lt-of-le k (pow-mono r)))
   where
     r : 52 ≤ 1073
     r = omega arith
@@ -87,7 +87,7 @@ whole-none s (suc x) t h k =
     let p : 0 < suc x = omega arith in
     let l : suc x < 2047 = omega arith in
     let r : 53 + (suc x - 1) ≤ 1073 = omega arith in
-    roundOf-at (ofFields binary64 s (suc x) t) s ((2 ^ 52 + t) * 2 ^ (suc x - 1)) (2 ^ 1074) (pow-pos 1074) (value-finite s (suc x) t p l)
+    roundOf-at (ofFields binary64 s (suc x) t) s ((2 ^ 52 + t) * 2 ^ (suc x - 1)) (2 ^ 1074) (pow-pos 1074) (value-finite binary64 s (suc x) t p l)
     ∙ ap (λ (n : ℕ). round binary64 s n 1) (half-none ((2 ^ 52 + t) * 2 ^ (suc x - 1)) (lt-of-lt-of-le (shl-lt 53 (suc x - 1) (digits-hi t k)) (pow-mono r)))
 
 -- ---- with a fraction
@@ -97,7 +97,7 @@ whole-some s e t h k l =
     let q : e < 2047 = omega arith in
     let x : e - 1 + (1075 - e) ≡ 1074 = omega arith in
     let D = 2 ^ 52 + t in
-    roundOf-at (ofFields binary64 s e t) s (D * 2 ^ (e - 1)) (2 ^ 1074) (pow-pos 1074) (value-finite s e t p q)
+    roundOf-at (ofFields binary64 s e t) s (D * 2 ^ (e - 1)) (2 ^ 1074) (pow-pos 1074) (value-finite binary64 s e t p q)
     ∙ ap (λ (n : ℕ). round binary64 s n 1)
     (halfUp-same (D * 2 ^ (e - 1)) (2 ^ 1074) D (2 ^ (1075 - e)) (pow-pos 1074) (pow-pos (1075 - e))
     (mul-assoc D (2 ^ (e - 1)) (2 ^ (1075 - e)) ∙ ap (λ (z : ℕ). D * z) (sym (pow-add 2 (e - 1) (1075 - e)) ∙ ap (λ (z : ℕ). 2 ^ z) x)))
@@ -132,7 +132,7 @@ whole-finite s e t h k l f =
     let W = D * 2 ^ (e - 1075) in
     let split : e - 1 ≡ e - 1075 + 1074 = omega arith in
     let fr : D * 2 ^ (e - 1) ≡ W * 2 ^ 1074 = ap (λ (z : ℕ). D * z) (ap (λ (z : ℕ). 2 ^ z) split ∙ pow-add 2 (e - 1075) 1074) ∙ sym (mul-assoc D (2 ^ (e - 1075)) (2 ^ 1074)) in
-    let v : HasValue x s W 1 = rescale x s (D * 2 ^ (e - 1)) (2 ^ 1074) W 1 (pow-pos 1074) (mul-one (D * 2 ^ (e - 1)) ∙ fr) (value-finite s e t p k) in
+    let v : HasValue x s W 1 = rescale x s (D * 2 ^ (e - 1)) (2 ^ 1074) W 1 (pow-pos 1074) (mul-one (D * 2 ^ (e - 1)) ∙ fr) (value-finite binary64 s e t p k) in
     let r : 53 + (e - 1) ≤ 1074 + 1024 = omega arith in
     let y : HasValue (round binary64 s W 1) s W 1 =
     round-exact binary64 s W 1 D (e - 1) (pow-pos 0) (digits-hi t l) (lt-of-lt-of-le (shl-lt 53 (e - 1) (digits-hi t l)) (pow-mono r)) (sym fr ∙ sym (mul-one (D * 2 ^ (e - 1)))) in
@@ -149,7 +149,7 @@ whole-already x f n h =
     let small : t < 2 ^ 52 = omega arith in
     ⊎-elim
     (λ (q : E ≡ 2047).
-    let i : x ≡ inf s = sym is ∙ ap (λ (z : ℕ). ofFields binary64 s z t) q ∙ ap (λ (z : ℕ). ofFields binary64 s 2047 z) (top-plain x f n q) ∙ value-top s in
+    let i : x ≡ inf s = sym is ∙ ap (λ (z : ℕ). ofFields binary64 s z t) q ∙ ap (λ (z : ℕ). ofFields binary64 s 2047 z) (top-plain x f n q) ∙ value-top binary64 s in
     ap roundOf i ∙ roundOf-inf s ∙ sym i)
     (λ (q : E < 2047).
     ap roundOf (sym is) ∙ whole-finite s E t h q small (subst (λ (z : Float). T (fits binary64 z)) (sym is) f) ∙ is)

@@ -17,7 +17,6 @@ pub mod RootWhole
 pub mod RootBrought
 pub mod RootDigits
 pub mod RootSides
-pub mod RootPatterns
 pub mod RootValue
 pub mod RootHalving
 pub mod RootAssembled

@@ -137,7 +137,7 @@ digits-lo : (t : ℕ) → 2 ^ 52 ≤ 2 ^ 52 + t
 digits-lo t = omega arith
 
 pub mag-tiny : (s : Bool) (e t : ℕ) → e < 872 → t < 2 ^ 52 → ofBits binary32 (cond s (2 ^ 31) 0 + 0) ≡ narrowOf (ofFields binary64 s e t)
-mag-tiny s zero t h k = narrow-tiny s t (lt-of-lt-of-le k (pow-mono r)) ∙ sym (narrowOf-at (ofFields binary64 s 0 t) s t (2 ^ 1074) (pow-pos 1074) (value-zero s t))
+mag-tiny s zero t h k = narrow-tiny s t (lt-of-lt-of-le k (pow-mono r)) ∙ sym (narrowOf-at (ofFields binary64 s 0 t) s t (2 ^ 1074) (pow-pos 1074) (value-zero binary64 s t))
   where
     r : 52 ≤ 924
     r = omega arith
@@ -146,18 +146,18 @@ mag-tiny s (suc x) t h k =
     let l : suc x < 2047 = omega arith in
     let r : 53 + (suc x - 1) ≤ 924 = omega arith in
     narrow-tiny s ((2 ^ 52 + t) * 2 ^ (suc x - 1)) (lt-of-lt-of-le (shl-lt 53 (suc x - 1) (digits-hi t k)) (pow-mono r))
-    ∙ sym (narrowOf-at (ofFields binary64 s (suc x) t) s ((2 ^ 52 + t) * 2 ^ (suc x - 1)) (2 ^ 1074) (pow-pos 1074) (value-finite s (suc x) t p l))
+    ∙ sym (narrowOf-at (ofFields binary64 s (suc x) t) s ((2 ^ 52 + t) * 2 ^ (suc x - 1)) (2 ^ 1074) (pow-pos 1074) (value-finite binary64 s (suc x) t p l))
 
 pub mag-over : (s : Bool) (e t : ℕ) → 1150 < e → e ≤ 2047 → t < 2 ^ 52 → (e ≡ 2047 → t ≡ 0) → ofBits binary32 (cond s (2 ^ 31) 0 + 255 * 2 ^ 23) ≡ narrowOf (ofFields binary64 s e t)
 mag-over s e t h k l z =
     ⊎-elim
     (λ (q : e ≡ 2047).
-    inf-bits s ∙ sym (ap (λ (x : ℕ). narrowOf (ofFields binary64 s x t)) q ∙ ap (λ (x : ℕ). narrowOf (ofFields binary64 s 2047 x)) (z q) ∙ ap narrowOf (value-top s) ∙ narrowOf-inf s))
+    inf-bits s ∙ sym (ap (λ (x : ℕ). narrowOf (ofFields binary64 s x t)) q ∙ ap (λ (x : ℕ). narrowOf (ofFields binary64 s 2047 x)) (z q) ∙ ap narrowOf (value-top binary64 s) ∙ narrowOf-inf s))
     (λ (q : e < 2047).
     let p : 0 < e = omega arith in
     inf-bits s
     ∙ sym
-    (narrowOf-at (ofFields binary64 s e t) s ((2 ^ 52 + t) * 2 ^ (e - 1)) (2 ^ 1074) (pow-pos 1074) (value-finite s e t p q)
+    (narrowOf-at (ofFields binary64 s e t) s ((2 ^ 52 + t) * 2 ^ (e - 1)) (2 ^ 1074) (pow-pos 1074) (value-finite binary64 s e t p q)
     ∙ narrow-over (2 ^ 52 + t) e (digits-lo t) (digits-hi t l) p s h))
     (eq-or-lt-of-le k)
 
@@ -166,7 +166,7 @@ mag-digits : (s : Bool) (e t : ℕ) → 0 < e → e ≤ 1150 → t < 2 ^ 52
 mag-digits s e t p h l =
     let q : e < 2047 = omega arith in
     narrow-digits (2 ^ 52 + t) e (digits-lo t) (digits-hi t l) p s h
-    ∙ sym (narrowOf-at (ofFields binary64 s e t) s ((2 ^ 52 + t) * 2 ^ (e - 1)) (2 ^ 1074) (pow-pos 1074) (value-finite s e t p q))
+    ∙ sym (narrowOf-at (ofFields binary64 s e t) s ((2 ^ 52 + t) * 2 ^ (e - 1)) (2 ^ 1074) (pow-pos 1074) (value-finite binary64 s e t p q))
 
 pub mag-low : (s : Bool) (e t : ℕ) → 872 ≤ e → e < 897 → t < 2 ^ 52 → ofBits binary32 (cond s (2 ^ 31) 0 + closest (2 ^ 52 + t) (2 ^ (926 - e))) ≡ narrowOf (ofFields binary64 s e t)
 mag-low s e t h k l =
