@@ -168,7 +168,7 @@ mag-digits s e t p h l =
     narrow-digits (2 ^ 52 + t) e (digits-lo t) (digits-hi t l) p s h
     ∙ sym (narrowOf-at (ofFields binary64 s e t) s ((2 ^ 52 + t) * 2 ^ (e - 1)) (2 ^ 1074) (pow-pos 1074) (value-finite binary64 s e t p q))
 
-pub mag-low : (s : Bool) (e t : ℕ) → 872 ≤ e → e < 897 → t < 2 ^ 52 → ofBits binary32 (cond s (2 ^ 31) 0 + closest (2 ^ 52 + t) (2 ^ (926 - e))) ≡ narrowOf (ofFields binary64 s e t)
+mag-low : (s : Bool) (e t : ℕ) → 872 ≤ e → e < 897 → t < 2 ^ 52 → ofBits binary32 (cond s (2 ^ 31) 0 + closest (2 ^ 52 + t) (2 ^ (926 - e))) ≡ narrowOf (ofFields binary64 s e t)
 mag-low s e t h k l =
     let a : 0 < e = omega arith in
     let b : e ≤ 1150 = omega arith in
@@ -177,19 +177,35 @@ mag-low s e t h k l =
     sym (ap (λ (z : ℕ). ofBits binary32 (cond s (2 ^ 31) 0 + z)) (ap (λ (z : ℕ). z * 2 ^ 23 + closest (2 ^ 52 + t) (2 ^ (29 + (897 - e)))) x ∙ zero-add (closest (2 ^ 52 + t) (2 ^ (29 + (897 - e)))) ∙ ap (λ (z : ℕ). closest (2 ^ 52 + t) (2 ^ z)) y))
     ∙ mag-digits s e t a b l
 
-pub mag-normal : (s : Bool) (e t : ℕ) → 897 ≤ e → e ≤ 1150 → t < 2 ^ 52 → ofBits binary32 (cond s (2 ^ 31) 0 + ((e - 897) * 2 ^ 23 + closest (2 ^ 52 + t) (2 ^ 29))) ≡ narrowOf (ofFields binary64 s e t)
+mag-normal : (s : Bool) (e t : ℕ) → 897 ≤ e → e ≤ 1150 → t < 2 ^ 52 → ofBits binary32 (cond s (2 ^ 31) 0 + ((e - 897) * 2 ^ 23 + closest (2 ^ 52 + t) (2 ^ 29))) ≡ narrowOf (ofFields binary64 s e t)
 mag-normal s e t h k l =
     let a : 0 < e = omega arith in
     let y : 29 + (897 - e) ≡ 29 = omega arith in
     sym (ap (λ (z : ℕ). ofBits binary32 (cond s (2 ^ 31) 0 + ((e - 897) * 2 ^ 23 + closest (2 ^ 52 + t) (2 ^ z)))) y) ∙ mag-digits s e t a k l
 
 -- what is kept has at most 24 digits, and 2 ^ 24 itself
-pub closest-hi : (t sh : ℕ) → t < 2 ^ 52 → 29 ≤ sh → closest (2 ^ 52 + t) (2 ^ sh) ≤ 2 ^ 24
+closest-hi : (t sh : ℕ) → t < 2 ^ 52 → 29 ≤ sh → closest (2 ^ 52 + t) (2 ^ sh) ≤ 2 ^ 24
 closest-hi t sh l h =
     let u = 2 ^ sh in
     let D = 2 ^ 52 + t in
     let r : 53 ≤ 24 + sh = omega arith in
     le-trans (nearest-le (D / u) (compare (D % u * 2) u)) (shr-lt 24 sh (lt-of-lt-of-le (digits-hi t l) (pow-mono r)))
+
+-- ---- what `narrow_fields` asks, of either sign, with r for the digits kept
+
+abbrev pub Narrowed : ℕ → ℕ → ℕ → Type 0
+Narrowed e t b = (s : Bool) → ofBits binary32 (cond s (2 ^ 31) 0 + b) ≡ narrowOf (ofFields binary64 s e t)
+
+pub low-result : (e t u r : ℕ) → 872 ≤ e → e < 897 → t < 2 ^ 52 → u ≡ 2 ^ (926 - e) → r ≡ closest (2 ^ 52 + t) u → Narrowed e t r × (r ≤ 2 ^ 24)
+low-result e t u r h k l i j =
+    let q : r ≡ closest (2 ^ 52 + t) (2 ^ (926 - e)) = j ∙ ap (closest (2 ^ 52 + t)) i in
+    (λ s. ap (λ (x : ℕ). ofBits binary32 (cond s (2 ^ 31) 0 + x)) q ∙ mag-low s e t h k l, subst (λ (x : ℕ). x ≤ 2 ^ 24) (sym q) (closest-hi t (926 - e) l (omega arith)))
+
+pub normal-result : (e t r : ℕ) → 897 ≤ e → e ≤ 1150 → t < 2 ^ 52 → r ≡ closest (2 ^ 52 + t) (2 ^ 29) → Narrowed e t ((e - 897) * 2 ^ 23 + r) × (r ≤ 2 ^ 24)
+normal-result e t r h k l i = (
+  λ s. ap (λ (x : ℕ). ofBits binary32 (cond s (2 ^ 31) 0 + ((e - 897) * 2 ^ 23 + x))) i ∙ mag-normal s e t h k l,
+  subst (λ (x : ℕ). x ≤ 2 ^ 24) (sym i) (closest-hi t 29 l (omega arith)),
+)
 
 -- `1 << j` at u64
 pub one-shl : (j : ℕ) → j < 64 → 1 * 2 ^ j % 2 ^ 64 ≡ 2 ^ j

@@ -6,9 +6,8 @@ use native.Mathlib.Nat.{le-of-lt, lt-of-lt-of-le, zero-lt-suc, mul-assoc, mul-co
 use native.Mathlib.Omega.{arith}
 use lib.Dec.{T, ltb}
 use lib.Pow.{pow-add, pow-pos, pow-mono, shl-lt}
-use lib.Ieee.{Float, nan, inf, fin, binary32, units, size, odd, nearest, fits}
+use lib.Ieee.{Float, nan, inf, fin, binary32, units, size, nearest, fits}
 use lib.Ieee.Digits.{size-le}
-use lib.Ieee.Fits.{odd-fits}
 use lib.Ieee.Exact.{HasValue, units-val}
 use lib.Ieee.Positive.{num, den, positive, positive-finite, value-pos, first-pos}
 use Rattle.arith.specs.Root.{wholeRoot, brought, power, dropped, exactOf, roundExactOf, sqrtOf}

@@ -8,9 +8,9 @@ use native.Mathlib.Omega.{arith}
 use lib.Dec.{T, leb, ltb, eqb, le→leb, ltb→lt, nltb→le}
 use lib.Pow.{pow-pos}
 use lib.IntN.{ℤ}
-use lib.Ieee.{Float, nan, inf, fin, binary32, up, down, odd, lt, fits, isNan, ofFields, ofBits, toBits}
+use lib.Ieee.{Float, nan, inf, fin, binary32, up, down, lt, fits, isNan, ofFields, ofBits, toBits}
 use lib.Ieee.Bits.{is-true, ofBits-toBits, nanBits-is, nanBits-above}
-use lib.Ieee.Exact.{HasValue, odd-sign}
+use lib.Ieee.Exact.{HasValue}
 use Rattle.arith.specs.Leaves.{zero32}
 use Rattle.arith.specs.Root.{sqrtOf}
 use Rattle.arith.specs.RootNearest.{SpecialRoots}

@@ -2,13 +2,13 @@
 use mathlib.Core.Path.{_≡_, refl, sym, ap, _∙_, subst}
 use mathlib.Core.Bool.{false}
 use Prim.Native.Nat.{ℕ, zero, suc, _+_, _-_, _*_, _/_, _%_, _^_, _≤_, _<_}
-use native.Mathlib.Nat.{le-trans, lt-of-not-le, not-le-of-lt, mod-eq-of-lt, mul-pos, mul-assoc, mul-one, pow-suc}
+use native.Mathlib.Nat.{le-trans, lt-of-not-le, not-le-of-lt, mod-eq-of-lt, mul-pos, mul-assoc, pow-suc}
 use native.Mathlib.Omega.{arith}
 use lib.Dec.{ltb}
 use lib.Pow.{pow-pos, pow-mono}
 use lib.Count.{leadingZeros, leading-top}
 use lib.Ieee.{Float, binary32, ofFields, ofBits}
-use lib.Ieee.Exact.{HasValue, odd-sign}
+use lib.Ieee.Exact.{HasValue}
 use Rattle.arith.specs.declared.Exact.{Exact}
 use Rattle.arith.specs.Root.{IsRoot, wholeRoot, brought, power, exactOf, roundExactOf, scaled, sqrtOf}
 use Rattle.arith.proofs.RootWhole.{wholeRoot-is, root-unique}
