@@ -1,0 +1,26 @@
+-- The laws that the proofs of several functions cite.
+pub mod Nan
+pub mod Values
+pub mod Pack
+pub mod Fields
+pub mod Narrowing
+pub mod Integral
+pub mod Signs
+pub mod Ends
+pub mod Cast
+pub mod Short
+pub mod Distance
+pub mod Near
+pub mod IntegralNearest
+pub mod NarrowNearest
+pub mod RootWhole
+pub mod RootBrought
+pub mod RootDigits
+pub mod RootSides
+pub mod RootPatterns
+pub mod RootValue
+pub mod RootHalving
+pub mod RootAssembled
+pub mod RootSteps
+pub mod RootSpecial
+pub mod RootNearest

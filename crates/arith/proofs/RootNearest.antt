@@ -1,0 +1,123 @@
+-- The root of a positive f32 is the nearest f32 to the exact root, and there is never a tie (`nearest-root`). Assumes nothing.
+use mathlib.Core.Path.{_≡_, refl, sym, ap, _∙_, subst}
+use mathlib.Core.Bool.{true, false}
+use Prim.Native.Nat.{ℕ, suc, _+_, _*_, _/_, _%_, _^_, _≤_, _<_}
+use native.Mathlib.Nat.{le-of-lt, lt-of-lt-of-le, zero-lt-suc, mul-assoc, mul-comm, mul-lt-mul-of-pos-right, pow-suc}
+use native.Mathlib.Omega.{arith}
+use lib.Dec.{T, ltb}
+use lib.Pow.{pow-add, pow-pos, pow-mono, shl-lt}
+use lib.Ieee.{Float, nan, inf, fin, binary32, size, odd, nearest, fits}
+use lib.Ieee.Digits.{size-le}
+use lib.Ieee.Fits.{odd-fits}
+use lib.Ieee.Exact.{HasValue, odd-sign}
+use lib.Ieee.Positive.{num, den, positive, positive-finite, value-pos, first-pos}
+use Rattle.arith.specs.Root.{wholeRoot, brought, power, dropped, exactOf, roundExactOf, sqrtOf}
+use Rattle.arith.specs.Units.{inUnits}
+use Rattle.arith.specs.RootNearest.{OnSide, NearestRoot}
+use Rattle.arith.proofs.Short.{short, in-units}
+use Rattle.arith.proofs.RootWhole.{wholeRoot-is}
+use Rattle.arith.proofs.RootBrought.{four-pow}
+use Rattle.arith.proofs.RootDigits.{Kept, kept}
+use Rattle.arith.proofs.RootSides.{nearer}
+use Rattle.arith.proofs.RootPatterns.{units-is}
+use Rattle.arith.proofs.RootAssembled.{round-exact-is}
+use Rattle.arith.proofs.RootValue.{root-is}
+use Rattle.arith.proofs.RootSteps.{Ready, ready, in-25}
+
+-- ---- the root of m * 2 ^ j units
+
+module _ (m j : ℕ) (p : 0 < m) (small : m < 2 ^ 24) (within : m * 2 ^ j < 2 ^ 277) where
+  abbrev v : ℕ
+  v = m * 2 ^ suc j
+
+  twice : m * 2 ^ j * 2 ≡ v
+  twice = mul-assoc m (2 ^ j) 2 ∙ ap (λ (x : ℕ). m * x) (sym (pow-suc 2 j))
+
+  abbrev n : ℕ
+  n = brought v
+
+  abbrev r : ℕ
+  r = wholeRoot 25 n
+
+  abbrev q : ℕ
+  q = nearest (r / 2) (dropped (r % 2) (ltb (r * r) n))
+
+  abbrev k : ℕ
+  k = power v + 50
+
+  ok : Ready v
+  ok = ready m (suc j) p small
+
+  keeps : Kept n q
+  keeps = kept n (ok .lo) (ok .hi) (ok .even) r (wholeRoot-is 25 n (in-25 v ok))
+
+  k-le : k ≤ 253
+  k-le =
+      let l : v < 2 ^ 278 = subst (λ (x : ℕ). x < 2 ^ 278) twice (mul-lt-mul-of-pos-right within (zero-lt-suc 1)) in
+      at-most (size v) (size-le v 278 l)
+    where
+      at-most : (s : ℕ) → s ≤ 278 → (s + 1) / 2 + 50 ≤ 253
+      at-most s h = omega arith
+
+  q-pos : 0 < q
+  q-pos = lt-of-lt-of-le (pow-pos 23) (keeps .least)
+
+  result : roundExactOf (exactOf v) ≡ odd 24 false q k 149
+  unfolding exactOf
+  result = round-exact-is r (ltb (r * r) n) (power v) ∙ units-is q k q-pos (keeps .most) k-le
+
+  -- four times the operand, as the middles' squares are measured
+  scale : 4 * (m * 2 ^ j * 2 ^ 149) ≡ n * (2 ^ k * 2 ^ k)
+  scale =
+      let u = m * 2 ^ j in
+      mul-comm 4 (u * 2 ^ 149)
+      ∙ mul-assoc u (2 ^ 149) 4
+      ∙ sym (mul-assoc (u * 2) (4 ^ 25) (4 ^ 50) ∙ mul-assoc u 2 (4 ^ 75))
+      ∙ ap (λ (x : ℕ). x * 4 ^ 25 * 4 ^ 50) twice
+      ∙ ap (λ (x : ℕ). x * 4 ^ 50) (sym (ok .exact))
+      ∙ mul-assoc n (4 ^ power v) (4 ^ 50)
+      ∙ ap (λ (x : ℕ). n * x) (sym (pow-add 4 (power v) 50) ∙ four-pow k ∙ pow-add 2 k k)
+
+  q-within : q * 2 ^ k < 2 ^ 277
+  q-within =
+      lt-of-lt-of-le (shl-lt 24 k (keeps .most)) (pow-mono (more k k-le))
+    where
+      more : (x : ℕ) → x ≤ 253 → 24 + x ≤ 277
+      more x h = omega arith
+
+  y-value : HasValue (roundExactOf (exactOf v)) false (q * 2 ^ k) (2 ^ 149)
+  y-value = subst (λ (x : Float). HasValue x false (q * 2 ^ k) (2 ^ 149)) (sym result) (odd-sign 24 false q k 149)
+
+  root-nearest : (x : Float) → inUnits binary32 x ≡ m * 2 ^ j → NearestRoot x (roundExactOf (exactOf v))
+  root-nearest x e =
+      let y = roundExactOf (exactOf v) in
+      let i : inUnits binary32 y ≡ q * 2 ^ k = in-units binary32 y false (q * 2 ^ k) y-value in
+      record {
+        held = subst (λ (x : Float). T (fits binary32 x)) (sym result) (odd-fits binary32 24 false q k (keeps .most) (le-of-lt (keeps .most)) q-within);
+        plain = subst (λ (u : ℕ). HasValue y false u (2 ^ 149)) (sym i) y-value;
+        nearest = λ z f t.
+            let s = short binary32 z f t in
+            subst (λ (u : ℕ). OnSide u (inUnits binary32 y) (inUnits binary32 z)) (sym e)
+            (subst (λ (u : ℕ). OnSide (m * 2 ^ j) u (inUnits binary32 z)) (sym i)
+            (subst (λ (u : ℕ). OnSide (m * 2 ^ j) (q * 2 ^ k) u) (sym (s .size-is))
+            (nearer n q k (s .m) (s .j) (ok .lo) keeps (s .small) (m * 2 ^ j * 2 ^ 149) scale)));
+      }
+
+-- ---- the law
+
+signed : (x : Float) → T (positive x) → (u : ℕ) → num x * 2 ^ 149 ≡ u * den x → HasValue x false u (2 ^ 149)
+signed nan t u e = absurd t
+signed (inf s) t u e = absurd t
+signed (fin true m d) t u e = absurd t
+signed (fin false m d) t u e = (refl, e)
+
+-- for every f32 that is finite and above zero
+pub nearest-root : (x : Float) → T (fits binary32 x) → T (positive x) → NearestRoot x (sqrtOf x)
+nearest-root x f t =
+    let s = short binary32 x f (positive-finite x t) in
+    let h = signed x t (s .m * 2 ^ (s .j)) (s .exact) in
+    let u : 0 < s .m * 2 ^ (s .j) = value-pos x (s .m * 2 ^ (s .j)) (2 ^ 149) t (pow-pos 149) h in
+    let p : 0 < s .m = first-pos (s .m) (2 ^ (s .j)) u in
+    subst (λ (y : Float). NearestRoot x y)
+    (sym (root-is x (s .m * 2 ^ (s .j)) u h ∙ ap (λ (v : ℕ). roundExactOf (exactOf v)) (twice (s .m) (s .j) p (s .small) (s .within))))
+    (root-nearest (s .m) (s .j) p (s .small) (s .within) x (s .size-is))
