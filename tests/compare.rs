@@ -19,6 +19,9 @@ use receiver::{Receiver, Reply};
 
 const LEFT: &str = "target/tests/differing.bin";
 
+/// Bytes of a stream that are written in small pieces.
+const IN_PIECES: usize = 4000;
+
 /// What the reference prints.
 fn reference(mut input: &[u8]) -> Vec<u8> {
     let mut receiver = Receiver::new();
@@ -33,6 +36,20 @@ fn reference(mut input: &[u8]) -> Vec<u8> {
     out
 }
 
+/// Writes the input, the front of it in small pieces: a program reads what is there, and a command may lie across two reads.
+fn feed(mut stdin: impl Write, input: &[u8]) -> std::io::Result<()> {
+    let (front, rest) = input.split_at(input.len().min(IN_PIECES));
+    let mut sizes = [1, 7, 24, 25, 26, 61, 300].into_iter().cycle();
+    let mut front = front;
+    while !front.is_empty() {
+        let (piece, after) = front.split_at(sizes.next().unwrap_or(1).min(front.len()));
+        stdin.write_all(piece)?;
+        stdin.flush()?;
+        front = after;
+    }
+    stdin.write_all(rest)
+}
+
 /// What the program prints.
 fn printed(program: &str, input: &[u8]) -> Result<Vec<u8>, String> {
     let mut child = Command::new(program)
@@ -40,10 +57,10 @@ fn printed(program: &str, input: &[u8]) -> Result<Vec<u8>, String> {
         .stdout(Stdio::piped())
         .spawn()
         .map_err(|e| format!("{program}: {e}"))?;
-    let mut stdin = child.stdin.take().unwrap();
+    let stdin = child.stdin.take().unwrap();
     std::thread::scope(|s| {
         // A program that has met refusal 1 may close its input early.
-        s.spawn(move || drop(stdin.write_all(input)));
+        s.spawn(move || drop(feed(stdin, input)));
         let output = child.wait_with_output().map_err(|e| e.to_string())?;
         if output.status.success() {
             Ok(output.stdout)

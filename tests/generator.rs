@@ -16,14 +16,17 @@ pub enum Kind {
     Ook,
     Fsk,
     Auto,
+    /// Small binary fractions and quarter turns: thresholds, ties and windows are met exactly.
+    Exact,
     Edges,
     Damaged,
 }
 
-pub const KINDS: [(&str, Kind); 5] = [
+pub const KINDS: [(&str, Kind); 6] = [
     ("ook", Kind::Ook),
     ("fsk", Kind::Fsk),
     ("auto", Kind::Auto),
+    ("exact", Kind::Exact),
     ("edges", Kind::Edges),
     ("damaged", Kind::Damaged),
 ];
@@ -144,12 +147,43 @@ impl Generator {
             Kind::Ook => 0,
             Kind::Fsk => 1,
             Kind::Auto => 2,
-            Kind::Edges | Kind::Damaged => self.r.below(3) as u8,
+            _ => self.r.below(3) as u8,
+        }
+    }
+
+    /// alpha, gap_ratio, fsk_delta, fsk_split.
+    fn usual_floats(&mut self) -> [f32; 4] {
+        let r = &mut self.r;
+        let quarter = std::f32::consts::FRAC_PI_2;
+        if self.kind == Kind::Exact {
+            [
+                r.pick(&[0.25, 0.5, 1.0, 1.0]),
+                r.pick(&[0.5, 1.0, 1.5, 2.0, 4.0]),
+                r.pick(&[0.0, 0.5, 1.0, quarter]),
+                r.pick(&[0.0, 1.0, quarter, 2.0 * quarter]),
+            ]
+        } else if r.once_in(3) {
+            [
+                r.pick(&[0.0, 0.1, 0.25, 0.5, 0.544, 0.9, 1.0]),
+                r.pick(&[0.0, 0.5, 1.5, 4.0, 10.0, 100.0, 1e6]),
+                r.pick(&[0.0, 0.05, 0.1, 0.3, 0.6, 4.0]),
+                r.pick(&[0.0, 0.2, 0.376_991_12, 1.0, 7.0]),
+            ]
+        } else {
+            // 0.03 and 0.06 of a turn.
+            let ratio = r.pick(&[1.5, 3.0, 10.0, 10.0]);
+            [
+                r.between(0.3, 1.0) as f32,
+                ratio,
+                0.188_495_56,
+                0.376_991_12,
+            ]
         }
     }
 
     fn usual_settings(&mut self) -> Settings {
         let mode = self.mode();
+        let floats = self.usual_floats();
         let r = &mut self.r;
         let min_steps = match r.below(8) {
             0 => r.from_to(1, 40),
@@ -176,17 +210,6 @@ impl Generator {
             0 => r.from_to(1, 3),
             1 | 2 => r.from_to(2, 12),
             _ => r.pick(&[20, 40, 64, 300, 2048]),
-        };
-        let plain = !r.once_in(3);
-        let floats = if plain {
-            [r.between(0.3, 1.0) as f32, 10.0, 0.188_495_56, 0.376_991_12]
-        } else {
-            [
-                r.pick(&[0.0, 0.1, 0.25, 0.5, 0.544, 0.9, 1.0]),
-                r.pick(&[0.0, 0.5, 1.5, 4.0, 10.0, 100.0, 1e6]),
-                r.pick(&[0.0, 0.05, 0.1, 0.3, 0.6, 4.0]),
-                r.pick(&[0.0, 0.2, 0.376_991_12, 1.0, 7.0]),
-            ]
         };
         Settings {
             mode,
@@ -305,27 +328,27 @@ impl Generator {
         }
     }
 
-    /// A frame of two tones, on a symbol grid or off it.
+    /// A frame of two tones, on a symbol grid or off it; its first run may be short.
     fn frame(&mut self, plan: &mut Vec<Stretch>) {
+        let shortest = (self.settings.min_steps / 2).clamp(2, 8);
         let r = &mut self.r;
         let split = r.pick(&[0.02, 0.1, 0.2, 0.3, 0.4, 0.4, 0.5, 0.6, 0.8, 1.0, 1.5]);
         let centre = r.between(-0.6, 0.6);
-        let shortest = f64::from((self.settings.min_steps / 2).clamp(2, 8));
         let symbol = match r.below(6) {
             0 => r.between(1.2, 14.0),
-            _ => shortest * r.between(1.1, 3.0),
+            _ => f64::from(shortest) * r.between(1.1, 3.0),
         };
         let jitter = symbol * r.pick(&[0.0, 0.0, 0.05, 0.1, 0.2, 0.4]);
         let on_grid = !r.once_in(4);
         let most = if r.once_in(4) { 90 } else { 24 };
-        let count = r.from_to(2, most);
+        let short_first = r.once_in(4);
         let mut up = r.once_in(2);
         let (mut at, mut done) = (0.0, 0u64);
-        for _ in 0..count {
-            at += if on_grid {
-                symbol * r.pick(&[1.0, 1.0, 1.0, 2.0, 2.0, 3.0])
-            } else {
-                r.between(1.0, 4.0 * symbol)
+        for i in 0..r.from_to(2, most) {
+            at += match i {
+                0 if short_first => r.between(1.0, f64::from(shortest) + 1.0),
+                _ if on_grid => symbol * r.pick(&[1.0, 1.0, 1.0, 2.0, 2.0, 3.0]),
+                _ => r.between(1.0, 4.0 * symbol),
             };
             let end = (at + r.between(-jitter, jitter)).max(0.0).round() as u64;
             let len = end.saturating_sub(done);
@@ -364,35 +387,50 @@ impl Generator {
         });
     }
 
-    /// The stretches of one burst.
+    fn part(&mut self, plan: &mut Vec<Stretch>) {
+        let tones = match self.settings.mode {
+            0 => 1,
+            1 => 6,
+            _ => 5,
+        };
+        if self.r.below(10) < tones {
+            self.frame(plan);
+        } else if self.r.once_in(8) {
+            self.carrier(plan);
+        } else if self.r.once_in(14) {
+            let len = self.r.from_to(1, 30);
+            self.silence(plan, len);
+        } else {
+            self.pulses(plan);
+        }
+    }
+
+    /// The stretches of one burst. In Auto mode pulses before a frame and after it are frequent.
     fn plan(&mut self) -> Vec<Stretch> {
         let mut plan = Vec::new();
         let low = self.r.below(4);
         self.silence(&mut plan, low);
-        let parts = match self.r.below(4) {
-            0 => 2,
-            1 => 3,
-            _ => 1,
-        };
-        for i in 0..parts {
-            if i > 0 {
-                let len = self.run_length(4);
-                self.silence(&mut plan, len);
-            }
-            let tones = match self.settings.mode {
-                0 => 1,
-                1 => 6,
-                _ => 5,
-            };
-            if self.r.below(10) < tones {
-                self.frame(&mut plan);
-            } else if self.r.once_in(8) {
-                self.carrier(&mut plan);
-            } else if self.r.once_in(14) {
-                let len = self.r.from_to(1, 30);
-                self.silence(&mut plan, len);
-            } else {
-                self.pulses(&mut plan);
+        if self.settings.mode == 2 && self.r.once_in(4) {
+            self.pulses(&mut plan);
+            let gap = self
+                .settings
+                .gap_steps
+                .min(300)
+                .max(self.settings.min_steps);
+            let len = self
+                .r
+                .from_to(u64::from(self.settings.min_steps.min(60)), u64::from(gap));
+            self.silence(&mut plan, len);
+            self.frame(&mut plan);
+            self.silence(&mut plan, len);
+            self.pulses(&mut plan);
+        } else {
+            for i in 0..self.r.pick(&[1, 1, 2, 3]) {
+                if i > 0 {
+                    let len = self.run_length(4);
+                    self.silence(&mut plan, len);
+                }
+                self.part(&mut plan);
             }
         }
         let gap = u64::from(self.settings.gap_steps.max(self.settings.min_steps));
@@ -400,91 +438,175 @@ impl Generator {
         plan
     }
 
-    /// The samples of a plan: levels, edges, noise, phase.
-    fn ticks(&mut self, plan: &[Stretch]) -> Vec<Tick> {
+    /// How the samples of a burst look. Two bursts in three are plain: a steady noise, and samples as large as the envelope.
+    fn shape(&mut self) -> Shape {
         let r = &mut self.r;
-        let level = if self.kind == Kind::Edges && r.once_in(2) {
+        let edges = self.kind == Kind::Edges;
+        let plain = !r.once_in(3);
+        let level = if edges && r.once_in(2) {
             r.pick(&[
                 1e-42, 1e-38, 1e-30, 1e-16, 1e-14, 1e-12, 1e5, 1e12, 9e17, 1e18, 1e18,
             ])
         } else {
             r.pick(&[8.0, 8.0, 1.0, 0.37, 0.001, 100.0])
         };
-        // Two bursts in three are plain: a steady noise, and samples as large as the envelope.
-        let plain = !r.once_in(3);
-        let unless_plain = |usual: u64, other: u64| if plain { usual } else { other };
-        let quiet = level
-            * r.pick(if plain {
-                &[0.01, 0.05, 0.1]
-            } else {
-                &[0.0, 0.001, 0.2, 0.4]
-            });
-        let noise_kind = unless_plain(3, r.below(4));
-        // How an edge looks: at once, by a step between, or by a low-pass.
-        let edge_kind = r.below(3);
-        let low_pass = r.between(0.3, 0.95);
-        let ripple = r.pick(if plain {
-            &[0.0, 0.02, 0.1]
-        } else {
-            &[0.0, 0.1, 0.3]
-        });
-        let weak = r.pick(if plain {
-            &[1.0, 1.0, 0.6]
-        } else {
-            &[1.0, 0.5, 0.2]
-        });
-        let sample_kind = if self.kind == Kind::Edges {
-            r.below(6)
-        } else {
-            unless_plain(3, r.below(4))
+        let usual: [&[f64]; 3] = [&[0.01, 0.05, 0.1], &[0.0, 0.02, 0.1], &[1.0, 1.0, 0.6]];
+        let other: [&[f64]; 3] = [&[0.0, 0.001, 0.2, 0.4], &[0.0, 0.1, 0.3], &[1.0, 0.5, 0.2]];
+        let [quiet, ripple, weak] = if plain { usual } else { other }.map(|of| r.pick(of));
+        Shape {
+            level,
+            quiet: level * quiet,
+            factor: match r.below(24) {
+                0 => 0.0,
+                1 => 1e6,
+                2 | 3 => r.pick(&[0.5, 4.0, 10.0]),
+                _ => r.between(1.2, 2.5) as f32,
+            },
+            noise: if plain { 3 } else { r.below(4) },
+            edge: r.below(3),
+            low_pass: r.between(0.3, 0.95),
+            ripple,
+            weak,
+            sample: match (edges, plain) {
+                (true, _) => r.below(6),
+                (_, true) => 3,
+                _ => r.below(4),
+            },
+            odd_values: edges && r.once_in(2),
+        }
+    }
+
+    fn ticks(&mut self, shape: &Shape, plan: &[Stretch]) -> Vec<Tick> {
+        let mut state = State {
+            noise: shape.quiet,
+            before: 0.0,
+            phase: self.r.between(0.0, TAU),
         };
-        let odd_values = self.kind == Kind::Edges && r.once_in(2);
-        let mut noise = quiet;
-        let (mut before, mut phase) = (0.0f64, r.between(0.0, TAU));
         let mut ticks = Vec::new();
         for s in plan {
+            ticks.extend((0..s.len).map(|i| shape.tick(&mut self.r, &mut state, s, i)));
+        }
+        ticks
+    }
+
+    /// A burst of small binary fractions: some samples of each stretch stand at a threshold or beside it.
+    fn exact_ticks(&mut self, shape: &Shape, plan: &[Stretch]) -> Vec<Tick> {
+        let r = &mut self.r;
+        let noise = shape.quiet;
+        let (middle, trigger) = ((noise + shape.level) / 2.0, noise * f64::from(shape.factor));
+        let places = [
+            middle * 1.125,
+            middle * 0.875,
+            middle,
+            trigger * 1.125,
+            trigger * 0.875,
+            trigger * 2.25,
+            shape.level / 2.0,
+            shape.level / 4.0,
+            noise,
+        ];
+        let mut quarters = 0i64;
+        let mut ticks = Vec::new();
+        for s in plan {
+            let held = if r.once_in(2) { 0 } else { r.from_to(1, 5) };
+            let place = r.pick(&places);
+            let aim = if s.on {
+                shape.level
+            } else {
+                r.pick(&[0.0, noise / 2.0, noise])
+            };
             for i in 0..s.len {
-                noise = match noise_kind {
-                    0 => r.between(0.0, level),
-                    1 => quiet * r.between(0.2, 3.0),
-                    2 => (noise * r.between(0.9, 1.1)).min(level),
-                    _ => quiet,
-                };
-                let aim = match (s.on, s.turn < 0.0) {
-                    (true, false) => level,
-                    (true, true) => level * weak,
-                    _ => quiet * r.between(0.3, 1.2),
-                };
-                let mut envelope = match edge_kind {
-                    0 => aim,
-                    1 if i == 0 => before + (aim - before) * r.unit(),
-                    1 => aim,
-                    _ => before + low_pass * (aim - before),
-                };
-                before = envelope;
-                envelope *= 1.0 + ripple * r.between(-1.0, 1.0);
-                phase += s.turn;
-                let size = match sample_kind {
-                    0 => 1.0,
-                    1 => level * r.unit(),
-                    2 => r.pick(&[1e-20, 1e-3, 1e9, 1e18]),
-                    // Sums of these pass the largest float.
-                    4 => 1.5e18,
-                    _ => envelope,
-                };
-                let (sin, cos) = phase.sin_cos();
-                let mut t = Tick {
+                quarters += (s.turn / (TAU / 4.0)).round() as i64;
+                let size = shape.level as f32;
+                ticks.push(Tick {
                     noise: value(noise),
-                    envelope: value(envelope),
-                    sample: [part(size * cos), part(size * sin)],
-                };
-                if odd_values && r.once_in(40) {
-                    odd(r, &mut t);
-                }
-                ticks.push(t);
+                    envelope: value(if i < held { place } else { aim }),
+                    sample: [[size, 0.0], [0.0, size], [-size, 0.0], [0.0, -size]]
+                        [quarters.rem_euclid(4) as usize],
+                });
             }
         }
         ticks
+    }
+
+    /// The factor and the samples of a burst.
+    fn samples(&mut self, plan: &[Stretch]) -> (f32, Vec<Tick>) {
+        let mut shape = self.shape();
+        if self.kind != Kind::Exact {
+            return (shape.factor, self.ticks(&shape, plan));
+        }
+        shape.level = self.r.pick(&[1.0, 4.0, 8.0, 8.0]);
+        shape.quiet = shape.level * self.r.pick(&[0.0, 0.03125, 0.0625, 0.125]);
+        shape.factor = self.r.pick(&[0.5, 1.0, 2.0, 2.0, 4.0]);
+        (shape.factor, self.exact_ticks(&shape, plan))
+    }
+}
+
+/// How the samples of a burst look.
+struct Shape {
+    /// The envelope where the carrier is on, and the noise.
+    level: f64,
+    quiet: f64,
+    factor: f32,
+    /// Kinds, by number: how noise changes, how an edge looks, how large samples are.
+    noise: u64,
+    edge: u64,
+    sample: u64,
+    low_pass: f64,
+    ripple: f64,
+    /// The envelope of the lower tone, as a part of the level.
+    weak: f64,
+    odd_values: bool,
+}
+
+/// What one sample hands to the next.
+struct State {
+    noise: f64,
+    before: f64,
+    phase: f64,
+}
+
+impl Shape {
+    /// Sample number `i` of a stretch.
+    fn tick(&self, r: &mut Random, state: &mut State, s: &Stretch, i: u64) -> Tick {
+        state.noise = match self.noise {
+            0 => r.between(0.0, self.level),
+            1 => self.quiet * r.between(0.2, 3.0),
+            2 => (state.noise * r.between(0.9, 1.1)).min(self.level),
+            _ => self.quiet,
+        };
+        let aim = match (s.on, s.turn < 0.0) {
+            (true, false) => self.level,
+            (true, true) => self.level * self.weak,
+            _ => self.quiet * r.between(0.3, 1.2),
+        };
+        let before = state.before;
+        state.before = match self.edge {
+            0 => aim,
+            1 if i == 0 => before + (aim - before) * r.unit(),
+            1 => aim,
+            _ => before + self.low_pass * (aim - before),
+        };
+        let envelope = state.before * (1.0 + self.ripple * r.between(-1.0, 1.0));
+        let size = match self.sample {
+            0 => 1.0,
+            1 => self.level * r.unit(),
+            2 => r.pick(&[1e-20, 1e-3, 1e9, 1e18]),
+            // Sums of these pass the largest float.
+            4 => 1.5e18,
+            _ => envelope,
+        };
+        state.phase += s.turn;
+        let (sin, cos) = state.phase.sin_cos();
+        let mut t = Tick {
+            noise: value(state.noise),
+            envelope: value(envelope),
+            sample: [part(size * cos), part(size * sin)],
+        };
+        if self.odd_values && r.once_in(40) {
+            odd(r, &mut t);
+        }
+        t
     }
 }
 
@@ -596,13 +718,7 @@ impl Stream {
 
 fn burst(g: &mut Generator, s: &mut Stream) {
     let plan = g.plan();
-    let ticks = g.ticks(&plan);
-    let factor = match g.r.below(24) {
-        0 => 0.0,
-        1 => 1e6,
-        2 | 3 => g.r.pick(&[0.5, 4.0, 10.0]),
-        _ => g.r.between(1.2, 2.5) as f32,
-    };
+    let (factor, ticks) = g.samples(&plan);
     let last = s.receiver.last();
     let mut index = match g.r.below(40) {
         0..3 => g.r.below(10),

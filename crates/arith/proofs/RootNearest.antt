@@ -6,10 +6,9 @@ use native.Mathlib.Nat.{le-of-lt, lt-of-lt-of-le, zero-lt-suc, mul-assoc, mul-co
 use native.Mathlib.Omega.{arith}
 use lib.Dec.{T, ltb}
 use lib.Pow.{pow-add, pow-pos, pow-mono, shl-lt}
-use lib.Ieee.{Float, nan, inf, fin, binary32, size, odd, nearest, fits}
+use lib.Ieee.{Float, nan, inf, fin, binary32, units, size, nearest, fits}
 use lib.Ieee.Digits.{size-le}
-use lib.Ieee.Fits.{odd-fits}
-use lib.Ieee.Exact.{HasValue, odd-sign}
+use lib.Ieee.Exact.{HasValue, units-val}
 use lib.Ieee.Positive.{num, den, positive, positive-finite, value-pos, first-pos}
 use Rattle.arith.specs.Root.{wholeRoot, brought, power, dropped, exactOf, roundExactOf, sqrtOf}
 use Rattle.arith.specs.Units.{inUnits}
@@ -19,7 +18,7 @@ use Rattle.arith.proofs.RootWhole.{wholeRoot-is}
 use Rattle.arith.proofs.RootBrought.{four-pow}
 use Rattle.arith.proofs.RootDigits.{Kept, kept}
 use Rattle.arith.proofs.RootSides.{nearer}
-use Rattle.arith.proofs.RootPatterns.{units-is}
+use Rattle.arith.proofs.Pack.{units-fit}
 use Rattle.arith.proofs.RootAssembled.{round-exact-is}
 use Rattle.arith.proofs.RootValue.{root-is}
 use Rattle.arith.proofs.RootSteps.{Ready, ready, in-25}
@@ -59,12 +58,9 @@ module _ (m j : ℕ) (p : 0 < m) (small : m < 2 ^ 24) (within : m * 2 ^ j < 2 ^ 
       at-most : (s : ℕ) → s ≤ 278 → (s + 1) / 2 + 50 ≤ 253
       at-most s h = omega arith
 
-  q-pos : 0 < q
-  q-pos = lt-of-lt-of-le (pow-pos 23) (keeps .least)
-
-  result : roundExactOf (exactOf v) ≡ odd 24 false q k 149
+  result : roundExactOf (exactOf v) ≡ units binary32 false q k
   unfolding exactOf
-  result = round-exact-is r (ltb (r * r) n) (power v) ∙ units-is q k q-pos (keeps .most) k-le
+  result = round-exact-is r (ltb (r * r) n) (power v)
 
   -- four times the operand, as the middles' squares are measured
   scale : 4 * (m * 2 ^ j * 2 ^ 149) ≡ n * (2 ^ k * 2 ^ k)
@@ -86,14 +82,14 @@ module _ (m j : ℕ) (p : 0 < m) (small : m < 2 ^ 24) (within : m * 2 ^ j < 2 ^ 
       more x h = omega arith
 
   y-value : HasValue (roundExactOf (exactOf v)) false (q * 2 ^ k) (2 ^ 149)
-  y-value = subst (λ (x : Float). HasValue x false (q * 2 ^ k) (2 ^ 149)) (sym result) (odd-sign 24 false q k 149)
+  y-value = subst (λ (x : Float). HasValue x false (q * 2 ^ k) (2 ^ 149)) (sym result) (units-val binary32 false q k q-within)
 
   root-nearest : (x : Float) → inUnits binary32 x ≡ m * 2 ^ j → NearestRoot x (roundExactOf (exactOf v))
   root-nearest x e =
       let y = roundExactOf (exactOf v) in
       let i : inUnits binary32 y ≡ q * 2 ^ k = in-units binary32 y false (q * 2 ^ k) y-value in
       record {
-        held = subst (λ (x : Float). T (fits binary32 x)) (sym result) (odd-fits binary32 24 false q k (keeps .most) (le-of-lt (keeps .most)) q-within);
+        held = subst (λ (x : Float). T (fits binary32 x)) (sym result) (units-fit binary32 false q k (le-of-lt (keeps .most)));
         plain = subst (λ (u : ℕ). HasValue y false u (2 ^ 149)) (sym i) y-value;
         nearest = λ z f t.
             let s = short binary32 z f t in
