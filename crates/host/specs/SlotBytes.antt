@@ -1,6 +1,6 @@
 -- `lane_fsk_widths` (document 01, "Commands" and refusal 9): the FSK widths of little-endian slots, or the refusal with nothing changed.
 use Prim.Native.Nat.{ℕ, _/_, _%_, _<_, _≤_}
-use mathlib.Core.Bool.{Bool, true, false, cond, not, _||_}
+use mathlib.Core.Bool.{Bool, cond, not, _||_}
 use mathlib.Core.List.{List}
 use mathlib.Core.Path.{_≡_}
 use lib.ListN.{length}
