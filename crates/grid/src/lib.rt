@@ -5,11 +5,12 @@ ghost use mathlib.Core.Path.{_≡_};
 ghost use mathlib.Core.Bool.{true, cond, _&&_};
 ghost use Prim.Native.Nat.{_+_, _<_, _≤_};
 ghost use lib.ListN.{length, getD};
-ghost use lib.Dec.{ltb};
+ghost use lib.Dec.{ltb, eqb};
+ghost use lib.Ieee.{binary64, toBits};
 ghost use Rattle.arith.specs.Leaves.{zero64};
 ghost use Rattle.grid.specs.Slots.{timeOf, slotBefore, lastRise, upTo, fold, turned};
 ghost use Rattle.grid.specs.Fit.{symbolsOf, kAfter, fitStep, noSums, sumsOf, lineWith, lineOf, fitOf, runAfter, checkStep, checkOf, secondOf, gridFitOf};
-ghost use Rattle.grid.specs.Widths.{shorterOf, runsStep, noRuns, runsOf, addedOf, meanAfter, meanStep, meanOf, betterOf, triedOf, tryAfter, tryStep, searchOf, gridOf, endOf, clockOf, placeOf, atStart, onGridOf, measuredOf, fskWidthsOf};
+ghost use Rattle.grid.specs.Widths.{gridCand, shorterOf, runsStep, noRuns, runsOf, addedOf, meanAfter, meanStep, meanOf, betterOf, triedOf, tryAfter, tryStep, searchOf, gridOf, endOf, clockOf, placeOf, atStart, onGridOf, measuredOf, fskWidthsOf};
 
 // The resolution of the run ends kept during an FSK frame: 1 / RUN_FIX steps.
 const RUN_FIX: f64 = 64.0;
@@ -462,15 +463,16 @@ pub struct Fitted {
     pub grid: Grid,
 }
 
+// Whether two numbers have one pattern.
 fn same(t: f64, u: f64) -> bool
-    ensures { λ r. ⌜ (r ≡ true → t ≡ u) ⌝ }
+    ensures { λ r. ⌜ (r ≡ eqb (toBits binary64 t) (toBits binary64 u)) × (r ≡ true → t ≡ u) ⌝ }
 {
     arith::bits_of_f64(t) == arith::bits_of_f64(u)
 }
 
 // The least-squares grid of the transitions for the symbol length guess: every run between two transitions is a whole
-// number of symbols, rounded with guess, then once more with the fitted symbol. Where its first fit has the symbol of the mean's,
-// the second is the mean's too, and so is its grid.
+// number of symbols, rounded with guess, then once more with the fitted symbol. Where the first fit has the symbol of
+// the mean's first fit, the second is the mean's too, and its grid is known.
 fn grid_fit(slots: &[u32], last: usize, mean: Fitted, guess: f64) -> Grid
     requires { ⌜ (last ≤ length (now slots)) × (mean .grid ≡ secondOf (upTo last (now slots)) (mean .line)) ⌝ }
     ensures { λ r. ⌜ r ≡ gridFitOf (upTo last (now (slots .entry))) guess ⌝ }
@@ -501,7 +503,7 @@ fn tried_with(
     x: f64,
 ) -> Tries
     requires { ⌜ (last ≤ length (now slots)) × (mean .grid ≡ secondOf (upTo last (now slots)) (mean .line)) ⌝ }
-    ensures { λ r. ⌜ r ≡ triedOf (one && ltb (s .tried) 8) (upTo last (now (slots .entry))) s d x ⌝ }
+    ensures { λ r. ⌜ r ≡ triedOf (one && ltb (s .tried) gridCand) (upTo last (now (slots .entry))) s d x ⌝ }
 {
     let here = Prev::At(x);
     let grid = s.grid;
