@@ -182,6 +182,15 @@ pub struct Receiver {
     before: C32,
     ook: Vec<u32>,
     fsk: Vec<u32>,
+    record: Vec<Sample>,
+}
+
+/// A sample of a burst's record (document 01, "Lists, burst records and pulses"): its level, and the edge of the run under way
+/// as it stands after the sample.
+#[derive(Clone, Copy)]
+pub struct Sample {
+    pub high: bool,
+    pub edge: f64,
 }
 
 impl Receiver {
@@ -193,6 +202,7 @@ impl Receiver {
             before: C32::default(),
             ook: vec![0; BUFFER_SLOTS],
             fsk: vec![0; BUFFER_SLOTS],
+            record: Vec::new(),
         }
     }
 
@@ -247,6 +257,7 @@ impl Receiver {
             return Err(8);
         }
         self.enter(b.index, b.envelope);
+        self.record.clear();
         self.before = b.sample;
         self.lane
             .begin_lead(b.index, b.factor, b.envelope, b.sample, b.before);
@@ -283,18 +294,98 @@ impl Receiver {
             fsk: &mut self.fsk,
         };
         let next = if self.lane.mode == LEAD {
-            self.lane
-                .lead(&p, s.noise, &mut pairs, s.envelope, s.sample)
+            let filling = self.lane;
+            let next = self
+                .lane
+                .lead(&p, s.noise, &mut pairs, s.envelope, s.sample);
+            if self.lane.mode == BURST {
+                self.record = replayed(filling, &p, s);
+            }
+            next
         } else {
-            self.lane.sample(
+            let next = self.lane.sample(
                 &p, s.noise, &mut pairs, s.envelope, s.sample, before, s.index,
-            )
+            );
+            self.record.push(sample_of(&self.lane));
+            next
         };
         if next != Next::Stay {
             self.lane.mode = IDLE;
         }
         Ok(next)
     }
+}
+
+fn sample_of(lane: &Lane) -> Sample {
+    Sample {
+        high: lane.level == 1,
+        edge: lane.t_run,
+    }
+}
+
+/// The samples of the lead that the step fills, as `lead` replays them: up to the first answer that is not stay.
+fn replayed(mut lane: Lane, p: &Params, s: &Step) -> Vec<Sample> {
+    let len = p.lead_len as usize;
+    lane.lead_e[len - 1] = s.envelope;
+    lane.lead_x[len] = s.sample;
+    lane.high = lane.lead_e[..len]
+        .iter()
+        .fold(0.0, |m, &v| if v > m { v } else { m });
+    lane.begin_burst(lane.lead_at as f64, lane.lead_e[0]);
+    let mut pairs = LanePairs {
+        ook: &mut [],
+        fsk: &mut [],
+    };
+    let mut samples = Vec::new();
+    for i in 0..len {
+        let (e, x, xp) = (lane.lead_e[i], lane.lead_x[i + 1], lane.lead_x[i]);
+        let next = lane.sample(p, s.noise, &mut pairs, e, x, xp, lane.lead_at + i as u64);
+        samples.push(sample_of(&lane));
+        if next != Next::Stay {
+            break;
+        }
+    }
+    samples
+}
+
+/// A decided OOK train: its cut mark and its pulses' widths.
+pub struct Train {
+    pub cut: bool,
+    pub widths: Vec<u32>,
+}
+
+/// What demand 3 speaks of.
+impl Receiver {
+    /// min_steps and max_pulses of a lane in OOK mode.
+    pub fn in_ook_mode(&self) -> Option<(usize, usize)> {
+        let p = self
+            .settings
+            .filter(|p| p.modulation == PulseModulation::Ook)?;
+        Some((p.min_steps as usize, p.max_pulses as usize))
+    }
+
+    /// The samples of the burst so far; none before its lead is full.
+    pub fn record(&self) -> &[Sample] {
+        &self.record
+    }
+
+    /// The OOK train that the last accepted call decided.
+    pub fn decided(&self) -> Option<Train> {
+        let r = &self.lane.out[0];
+        (r.state == OUT_DECIDE).then(|| Train {
+            cut: r.flags == 1,
+            widths: self.ook[..2 * r.pairs as usize]
+                .iter()
+                .step_by(2)
+                .copied()
+                .collect(),
+        })
+    }
+}
+
+/// The width between two edges.
+pub fn width_between(a: f64, b: f64) -> u32 {
+    width(a, b)
 }
 
 /// The bits of a float; every NaN as one.
