@@ -9,9 +9,11 @@ mod generator;
 mod random;
 #[allow(dead_code)]
 mod receiver;
+mod signal;
 
-use generator::{Kind, stream};
+use generator::stream;
 use receiver::{Receiver, Reply, Sample, Train, width_between};
+use signal::Kind;
 
 /// A longest stretch of one level that has at least min_steps samples, with its edge at sample number min_steps.
 struct Run {
@@ -22,12 +24,7 @@ struct Run {
 fn counted_runs(record: &[Sample], min_steps: usize) -> Vec<Run> {
     let stretches = record.chunk_by(|a, b| a.high == b.high);
     let counted = stretches.filter(|s| s.len() >= min_steps);
-    counted
-        .map(|s| Run {
-            high: s[0].high,
-            edge: s[min_steps - 1].edge,
-        })
-        .collect()
+    counted.map(|s| Run { high: s[0].high, edge: s[min_steps - 1].edge }).collect()
 }
 
 /// The width of each row of high runs that a low run closes.
@@ -53,12 +50,7 @@ struct Counts {
 }
 
 /// Demand 3 for an ended burst and the trains that its calls gave.
-fn check(
-    c: &mut Counts,
-    record: &[Sample],
-    limits: (usize, usize),
-    trains: &[Train],
-) -> Result<(), String> {
+fn check(c: &mut Counts, record: &[Sample], limits: (usize, usize), trains: &[Train]) -> Result<(), String> {
     let (min_steps, max_pulses) = limits;
     let pulses = pulses(record, min_steps);
     c.bursts += 1;
@@ -73,10 +65,7 @@ fn check(
     c.cut += u64::from(train.cut);
     let kept = &pulses[..pulses.len().min(max_pulses)];
     if kept.is_empty() || train.widths != kept || train.cut != (pulses.len() > max_pulses) {
-        return Err(format!(
-            "pulses {pulses:?}, train {:?}, cut {}",
-            train.widths, train.cut
-        ));
+        return Err(format!("pulses {pulses:?}, train {:?}, cut {}", train.widths, train.cut));
     }
     Ok(())
 }
@@ -91,9 +80,7 @@ fn follow(c: &mut Counts, mut input: &[u8]) -> Result<(), String> {
             Reply::Refused(_) => {}
             _ => trains.extend(receiver.decided()),
         }
-        if let (Reply::Idle { .. } | Reply::Carrier { .. }, Some(limits)) =
-            (&reply, receiver.in_ook_mode())
-        {
+        if let (Reply::Idle { .. } | Reply::Carrier { .. }, Some(limits)) = (&reply, receiver.in_ook_mode()) {
             check(c, receiver.record(), limits, &trains)?;
         }
         if reply.ends() {
@@ -107,10 +94,7 @@ fn run() -> Result<Counts, String> {
     let (mut streams, mut calls) = (40, 20_000);
     let mut args = std::env::args().skip(1);
     while let Some(a) = args.next() {
-        let number = args
-            .next()
-            .and_then(|v| v.parse().ok())
-            .ok_or(format!("{a}: a number"))?;
+        let number = args.next().and_then(|v| v.parse().ok()).ok_or(format!("{a}: a number"))?;
         match a.as_str() {
             "--streams" => streams = number,
             "--calls" => calls = number,
@@ -130,15 +114,8 @@ fn run() -> Result<Counts, String> {
 fn main() -> ExitCode {
     match run() {
         Ok(c) => {
-            let Counts {
-                bursts,
-                trains,
-                pulses,
-                cut,
-            } = c;
-            println!(
-                "{bursts} OOK bursts ended, {trains} trains, {cut} cut, {pulses} pulses, each as in its record"
-            );
+            let Counts { bursts, trains, pulses, cut } = c;
+            println!("{bursts} OOK bursts ended, {trains} trains, {cut} cut, {pulses} pulses, each as in its record");
             ExitCode::SUCCESS
         }
         Err(e) => {

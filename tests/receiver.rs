@@ -81,10 +81,7 @@ impl Operands<'_> {
     }
 
     fn c32(&mut self) -> C32 {
-        C32 {
-            re: self.f32(),
-            im: self.f32(),
-        }
+        C32 { re: self.f32(), im: self.f32() }
     }
 
     fn opening(mut self) -> Opening {
@@ -114,12 +111,7 @@ impl Operands<'_> {
     }
 
     fn step(mut self) -> Step {
-        Step {
-            index: self.u64(),
-            noise: self.f32(),
-            envelope: self.f32(),
-            sample: self.c32(),
-        }
+        Step { index: self.u64(), noise: self.f32(), envelope: self.f32(), sample: self.c32() }
     }
 }
 
@@ -150,11 +142,7 @@ fn settings(o: &Opening) -> Option<Params> {
         && within(o.gap_ratio, RATIO_MOST)
         && within(o.fsk_delta, RATIO_MOST)
         && within(o.fsk_split, RATIO_MOST);
-    let Derived {
-        fsk_min,
-        lead_len,
-        refine_at,
-    } = derived(o.min_steps);
+    let Derived { fsk_min, lead_len, refine_at } = derived(o.min_steps);
     good.then_some(Params {
         modulation,
         alpha: o.alpha,
@@ -259,8 +247,7 @@ impl Receiver {
         self.enter(b.index, b.envelope);
         self.record.clear();
         self.before = b.sample;
-        self.lane
-            .begin_lead(b.index, b.factor, b.envelope, b.sample, b.before);
+        self.lane.begin_lead(b.index, b.factor, b.envelope, b.sample, b.before);
         // `history` reads the envelopes in the order of time, with begin's own last.
         let mut env = [0.0; HIST];
         env[HIST - 1] = b.envelope;
@@ -278,9 +265,7 @@ impl Receiver {
         if s.index > INDEX_MOST || s.index != self.last + 1 {
             return Err(6);
         }
-        let values = within(s.noise, VALUE_MOST)
-            && within(s.envelope, VALUE_MOST)
-            && sample_within(s.sample);
+        let values = within(s.noise, VALUE_MOST) && within(s.envelope, VALUE_MOST) && sample_within(s.sample);
         if !values {
             return Err(7);
         }
@@ -289,23 +274,16 @@ impl Receiver {
         }
         self.enter(s.index, s.envelope);
         let before = std::mem::replace(&mut self.before, s.sample);
-        let mut pairs = LanePairs {
-            ook: &mut self.ook,
-            fsk: &mut self.fsk,
-        };
+        let mut pairs = LanePairs { ook: &mut self.ook, fsk: &mut self.fsk };
         let next = if self.lane.mode == LEAD {
             let filling = self.lane;
-            let next = self
-                .lane
-                .lead(&p, s.noise, &mut pairs, s.envelope, s.sample);
+            let next = self.lane.lead(&p, s.noise, &mut pairs, s.envelope, s.sample);
             if self.lane.mode == BURST {
                 self.record = replayed(filling, &p, s);
             }
             next
         } else {
-            let next = self.lane.sample(
-                &p, s.noise, &mut pairs, s.envelope, s.sample, before, s.index,
-            );
+            let next = self.lane.sample(&p, s.noise, &mut pairs, s.envelope, s.sample, before, s.index);
             self.record.push(sample_of(&self.lane));
             next
         };
@@ -317,10 +295,7 @@ impl Receiver {
 }
 
 fn sample_of(lane: &Lane) -> Sample {
-    Sample {
-        high: lane.level == 1,
-        edge: lane.t_run,
-    }
+    Sample { high: lane.level == 1, edge: lane.t_run }
 }
 
 /// The samples of the lead that the step fills, as `lead` replays them: up to the first answer that is not stay.
@@ -328,14 +303,9 @@ fn replayed(mut lane: Lane, p: &Params, s: &Step) -> Vec<Sample> {
     let len = p.lead_len as usize;
     lane.lead_e[len - 1] = s.envelope;
     lane.lead_x[len] = s.sample;
-    lane.high = lane.lead_e[..len]
-        .iter()
-        .fold(0.0, |m, &v| if v > m { v } else { m });
+    lane.high = lane.lead_e[..len].iter().fold(0.0, |m, &v| if v > m { v } else { m });
     lane.begin_burst(lane.lead_at as f64, lane.lead_e[0]);
-    let mut pairs = LanePairs {
-        ook: &mut [],
-        fsk: &mut [],
-    };
+    let mut pairs = LanePairs { ook: &mut [], fsk: &mut [] };
     let mut samples = Vec::new();
     for i in 0..len {
         let (e, x, xp) = (lane.lead_e[i], lane.lead_x[i + 1], lane.lead_x[i]);
@@ -358,9 +328,7 @@ pub struct Train {
 impl Receiver {
     /// min_steps and max_pulses of a lane in OOK mode.
     pub fn in_ook_mode(&self) -> Option<(usize, usize)> {
-        let p = self
-            .settings
-            .filter(|p| p.modulation == PulseModulation::Ook)?;
+        let p = self.settings.filter(|p| p.modulation == PulseModulation::Ook)?;
         Some((p.min_steps as usize, p.max_pulses as usize))
     }
 
@@ -374,11 +342,7 @@ impl Receiver {
         let r = &self.lane.out[0];
         (r.state == OUT_DECIDE).then(|| Train {
             cut: r.flags == 1,
-            widths: self.ook[..2 * r.pairs as usize]
-                .iter()
-                .step_by(2)
-                .copied()
-                .collect(),
+            widths: self.ook[..2 * r.pairs as usize].iter().step_by(2).copied().collect(),
         })
     }
 }
@@ -400,14 +364,7 @@ fn train(out: &mut impl Write, kind: &str, r: &Out, buffer: &[u32]) -> io::Resul
     }
     let widths = buffer.get(..2 * r.pairs as usize).unwrap_or_default();
     let span: u64 = widths.iter().map(|&w| u64::from(w)).sum();
-    write!(
-        out,
-        "{kind} {} {} {} {span} {:08x} ",
-        r.index,
-        r.end,
-        r.flags,
-        bits(r.level)
-    )?;
+    write!(out, "{kind} {} {} {} {span} {:08x} ", r.index, r.end, r.flags, bits(r.level))?;
     match r.freq {
         Carrier::Angle(a) => write!(out, "angle {:08x}", bits(a))?,
         Carrier::Vector(re, im) => write!(out, "vector {:08x} {:08x}", bits(re), bits(im))?,
