@@ -12,8 +12,10 @@ mod generator;
 mod random;
 #[allow(dead_code)]
 mod receiver;
+mod signal;
 
-use generator::{KINDS, stream};
+use generator::stream;
+use signal::KINDS;
 
 fn main() -> io::Result<()> {
     let (mut seed, mut calls, mut kind, mut census) = (1u64, 10_000u64, None, false);
@@ -42,8 +44,6 @@ fn main() -> io::Result<()> {
 }
 
 fn usage() -> ! {
-    eprintln!(
-        "streams [--seed N] [--calls N] [--kind ook|fsk|auto|exact|edges|damaged|any] [--census]"
-    );
+    eprintln!("streams [--seed N] [--calls N] [--kind ook|fsk|auto|exact|edges|damaged|any] [--census]");
     std::process::exit(2)
 }

@@ -3,7 +3,7 @@ use mathlib.Core.Path.{_≡_, sym, ap, _∙_, subst}
 use mathlib.Core.Logic.{_⊎_, inl, inr, ⊎-elim}
 use mathlib.Core.Bool.{Bool, true, false, not}
 use Prim.Native.Nat.{ℕ, zero, suc, _+_, _-_, _*_, _^_, _≤_, _<_}
-use native.Mathlib.Nat.{mul-assoc, mul-comm, mul-one, mul-left-comm, add-mul, mul-le-mul-right, mod-lt, div-add-mod', suc-mul, zero-mul, le-trans, le-of-eq, le-of-lt, lt-of-lt-of-le, eq-or-lt-of-le, div-lt-iff-lt-mul}
+use native.Mathlib.Nat.{mul-assoc, mul-comm, mul-one, mul-left-comm, add-mul, mul-le-mul-right, mod-lt, div-add-mod', suc-mul, zero-mul, le-trans, le-of-eq, le-of-lt, lt-of-lt-of-le, eq-or-lt-of-le, div-lt-iff-lt-mul, lt-irrefl}
 use native.Mathlib.Omega.{arith}
 use lib.Dec.{T, leb, leb→le, nleb→lt}
 use lib.Pow.{pow-add, pow-pos, pow-mono, shl-lt}
@@ -16,7 +16,7 @@ use lib.Ieee.Scale.{finite}
 use Rattle.arith.specs.Units.{inUnits, signOf, apart}
 use Rattle.arith.specs.Rounding.{halfUp, roundOf}
 use Rattle.arith.proofs.Values.{rescale}
-use Rattle.arith.proofs.Short.{short, in-units-exact}
+use Rattle.arith.proofs.Short.{Short, short, in-units-exact}
 
 -- ---- equal fractions
 pub halfUp-same : (a b c d : ℕ) → 0 < b → 0 < d → a * d ≡ c * b → halfUp a b ≡ halfUp c d
@@ -134,23 +134,23 @@ small a c C h = le-of-lt (div-lt-iff-lt-mul (twice c C) .1 (more a c C h))
     more : (a c : ℕ) → 0 < c → 2 * a < 2 ^ 53 * c → 2 * a + c < 2 ^ 53 * (2 * c)
     more a c C h = omega arith
 
+over : (m j : ℕ) → 1074 ≤ j → m * 2 ^ j ≡ m * 2 ^ (j - 1074) * 2 ^ 1074
+over m j h = ap (λ (x : ℕ). m * 2 ^ x) (back j h) ∙ ap (λ (x : ℕ). m * x) (pow-add 2 (j - 1074) 1074) ∙ sym (mul-assoc m (2 ^ (j - 1074)) (2 ^ 1074))
+  where
+    back : (j : ℕ) → 1074 ≤ j → j ≡ j - 1074 + 1074
+    back j h = omega arith
+
 whole-value : (s : Bool) (m j : ℕ) → m < 2 ^ 53 → m * 2 ^ j < 2 ^ 2098 → HasValue (round binary64 s (halfUp (m * 2 ^ j) (2 ^ 1074)) 1) s (halfUp (m * 2 ^ j) (2 ^ 1074)) 1
 whole-value s m j M W = go (leb 1074 j) (leb→le 1074 j) (nleb→lt 1074 j)
   where
     a : ℕ
     a = m * 2 ^ j
 
-    split : 1074 ≤ j → a ≡ m * 2 ^ (j - 1074) * 2 ^ 1074
-    split h = ap (λ (x : ℕ). m * 2 ^ x) (back j h) ∙ ap (λ (x : ℕ). m * x) (pow-add 2 (j - 1074) 1074) ∙ sym (mul-assoc m (2 ^ (j - 1074)) (2 ^ 1074))
-      where
-        back : (j : ℕ) → 1074 ≤ j → j ≡ j - 1074 + 1074
-        back j h = omega arith
-
     large : 1074 ≤ j → HasValue (round binary64 s (halfUp a (2 ^ 1074)) 1) s (halfUp a (2 ^ 1074)) 1
     large h =
-        let e : halfUp a (2 ^ 1074) ≡ m * 2 ^ (j - 1074) = half-own a (2 ^ 1074) (pow-pos 1074) (m * 2 ^ (j - 1074)) (split h) in
+        let e : halfUp a (2 ^ 1074) ≡ m * 2 ^ (j - 1074) = half-own a (2 ^ 1074) (pow-pos 1074) (m * 2 ^ (j - 1074)) (over m j h) in
         subst (λ (n : ℕ). HasValue (round binary64 s n 1) s n 1) (sym e)
-        (round-exact binary64 s (m * 2 ^ (j - 1074)) 1 m j (pow-pos 0) M W (sym (split h) ∙ sym (mul-one a)))
+        (round-exact binary64 s (m * 2 ^ (j - 1074)) 1 m j (pow-pos 0) M W (sym (over m j h) ∙ sym (mul-one a)))
 
     fraction : j < 1074 → HasValue (round binary64 s (halfUp a (2 ^ 1074)) 1) s (halfUp a (2 ^ 1074)) 1
     fraction h = round-whole binary64 s (halfUp a (2 ^ 1074)) (small a (2 ^ 1074) (pow-pos 1074) (lt-of-lt-of-le (twice a (2 ^ (53 + j)) (shl-lt 53 j M)) room))
@@ -189,3 +189,20 @@ roundOf-own x f t k q =
     whole-unique binary64 (roundOf x) x s k (roundOf-fits x f t) f
     (subst (λ (z : ℕ). HasValue (roundOf x) s z 1) (half-own u (2 ^ 1074) (pow-pos 1074) k q) (roundOf-value x f t))
     (rescale x s u (2 ^ 1074) k 1 (pow-pos 1074) (mul-one u ∙ q) (in-units-exact binary64 x f t))
+
+-- with 2 ^ 52 or more there is no fraction left
+pub roundOf-large : (x : Float) → T (fits binary64 x) → T (finite x) → 2 ^ 52 * 2 ^ 1074 ≤ inUnits binary64 x → roundOf x ≡ x
+roundOf-large x f t h =
+    let a = short binary64 x f t in
+    go a (leb 1074 (a .j)) (leb→le 1074 (a .j)) (nleb→lt 1074 (a .j))
+  where
+    short-of : (j : ℕ) → j < 1074 → 53 + j ≤ 52 + 1074
+    short-of j h = omega arith
+
+    go : (a : Short binary64 x) (b : Bool) → (T b → 1074 ≤ a .j) → (T (not b) → a .j < 1074) → roundOf x ≡ x
+    go a true l g = roundOf-own x f t (a .m * 2 ^ (a .j - 1074)) (a .size-is ∙ over (a .m) (a .j) (l tt))
+    go a false l g =
+        absurd
+        (lt-irrefl (inUnits binary64 x)
+        (lt-of-lt-of-le (subst (λ (u : ℕ). u < 2 ^ (53 + a .j)) (sym (a .size-is)) (shl-lt 53 (a .j) (a .small)))
+        (le-trans (pow-mono (short-of (a .j) (g tt))) (le-trans (le-of-eq (pow-add 2 52 1074)) h))))

@@ -25,7 +25,7 @@ use Rattle.grid.specs.declared.Place.{Place}
 use Rattle.grid.specs.declared.Grid.{Grid}
 use Rattle.grid.specs.declared.Grid.the-variants.{NoGrid, On}
 
--- the roundOf time of a slot
+-- the rounded time of a slot
 abbrev boundary : ℕ → Float
 boundary v = roundOf (timeOf (fix v))
 
