@@ -1,0 +1,111 @@
+-- Document 01, "Replies other than an answer, in checking order", for begin and step.
+use Prim.Native.Nat.{ℕ, _+_, _-_, _^_, _<_, _≤_}
+use mathlib.Core.Bool.{Bool, true, false, not, _&&_, _||_}
+use mathlib.Core.Path.{_≡_, refl, sym, ap}
+use native.Mathlib.Omega.{arith}
+use borrow.Author.Tests.{eqb-true, eqb-false, eq-eqb, ne-eqb, leb-true, ltb-true, not-false}
+use lib.Dec.{leb, ltb, eqb}
+use Rattle.ook.specs.declared.Settings.{Settings}
+use Rattle.arith.specs.Leaves.{leadLenOf}
+use Rattle.burst.specs.declared.Lead.{Lead}
+use Rattle.refusals.specs.Domain.{settingsOk, factorOk, envelopeOk, sampleOk, indexOk, roomOk}
+use Rattle.refusals.specs.State.{burstOk, leadOk, candOk}
+use Rattle.refusals.specs.Order.{firstFailed, none-failed, both-true, other-true}
+use Rattle.lane.specs.declared.History.{History}
+use Rattle.lane.specs.declared.BeginArgs.{BeginArgs}
+use Rattle.lane.specs.declared.StepArgs.{StepArgs}
+use Rattle.lane.specs.declared.Lane.{Lane}
+
+-- a lane that never had settings is idle; one that had has them in the domain
+unfoldable pub openedOk : ℕ → ℕ → Settings → Bool
+openedOk had phase p = (eqb had 0 && eqb phase 0) || (eqb had 1 && settingsOk p)
+
+-- refusal 4
+unfoldable pub laneOk : Lane → Bool
+laneOk l =
+    openedOk (l .opened) (l .phase) (l .settings)
+    && leb (l .phase) 2
+    && burstOk (l .settings .«max_pulses») (l .burst)
+    && leadOk (l .phase) (l .settings .«min_steps») (l .lead)
+    && candOk (l .phase) (l .settings .«min_steps») (l .burst .frame)
+    && indexOk (l .last)
+
+-- refusal 7
+unfoldable pub historyOk : History → Bool
+historyOk h = envelopeOk (h .e1) && envelopeOk (h .e2) && envelopeOk (h .e3) && envelopeOk (h .e4) && envelopeOk (h .e5) && envelopeOk (h .e6) && envelopeOk (h .e7)
+
+unfoldable pub beginFloatsOk : BeginArgs → Bool
+beginFloatsOk b = factorOk (b .factor) && envelopeOk (b .envelope) && sampleOk (b .x) && sampleOk (b .before) && historyOk (b .history)
+
+unfoldable pub stepFloatsOk : StepArgs → Bool
+stepFloatsOk s = envelopeOk (s .noise) && envelopeOk (s .envelope) && sampleOk (s .x)
+
+-- refusal 6 of a step: the last index plus 1
+unfoldable pub followsOf : ℕ → ℕ → Bool
+followsOf last index = eqb index (last + 1)
+
+-- as the code asks it, without the sum
+pub follows-back : (last index : ℕ) → (index ≡ 0 → ⊥) → eqb (index - 1) last ≡ followsOf last index
+unfolding followsOf
+follows-back last index h = go (eqb (index - 1) last) refl where
+  go : (b : Bool) → eqb (index - 1) last ≡ b → b ≡ eqb index (last + 1)
+  go true q = sym (eq-eqb index (last + 1) (omega (arith, eqb-true (index - 1) last q, h)))
+  go false q = sym (ne-eqb index (last + 1) (λ e. eqb-false (index - 1) last q (omega arith)))
+
+pub follows-none : (last index : ℕ) → index ≡ 0 → false ≡ followsOf last index
+unfolding followsOf
+follows-none last index e = sym (ne-eqb index (last + 1) (λ q. omega arith))
+
+-- the number of the refusal, 0 for an accepted call; ook and fsk are the buffers' lengths
+unfoldable pub beginRefusal : Lane → BeginArgs → ℕ → ℕ → ℕ
+beginRefusal l b ook fsk = firstFailed (not (eqb (l .opened) 0)) (laneOk l) (eqb (l .phase) 0) (indexOk (b .index)) (beginFloatsOk b) (roomOk (l .settings) ook fsk)
+
+unfoldable pub stepRefusal : Lane → StepArgs → ℕ → ℕ → ℕ
+stepRefusal l s ook fsk = firstFailed true (laneOk l) (not (eqb (l .phase) 0)) (indexOk (s .index) && followsOf (l .last) (s .index)) (stepFloatsOk s) (roomOk (l .settings) ook fsk)
+
+-- the six checks of refusal 4, one by one
+pub record Passes (l : Lane) : Type 0 where
+  pub had : openedOk (l .opened) (l .phase) (l .settings) ≡ true
+  pub named : leb (l .phase) 2 ≡ true
+  pub within : burstOk (l .settings .«max_pulses») (l .burst) ≡ true
+  pub filled : leadOk (l .phase) (l .settings .«min_steps») (l .lead) ≡ true
+  pub waits : candOk (l .phase) (l .settings .«min_steps») (l .burst .frame) ≡ true
+  pub near : indexOk (l .last) ≡ true
+
+pub lane-passes : (l : Lane) → laneOk l ≡ true → Passes l
+unfolding laneOk
+lane-passes l h =
+    let a : Bool = openedOk (l .opened) (l .phase) (l .settings) in
+    let b : Bool = leb (l .phase) 2 in
+    let c : Bool = burstOk (l .settings .«max_pulses») (l .burst) in
+    let d : Bool = leadOk (l .phase) (l .settings .«min_steps») (l .lead) in
+    let e : Bool = candOk (l .phase) (l .settings .«min_steps») (l .burst .frame) in
+    let f : Bool = indexOk (l .last) in
+    let hf : ((a && b && c && d && e) ≡ true) × (f ≡ true) = both-true (a && b && c && d && e) f h in
+    let he : ((a && b && c && d) ≡ true) × (e ≡ true) = both-true (a && b && c && d) e (hf .0) in
+    let hd : ((a && b && c) ≡ true) × (d ≡ true) = both-true (a && b && c) d (he .0) in
+    let hc : ((a && b) ≡ true) × (c ≡ true) = both-true (a && b) c (hd .0) in
+    let hb : (a ≡ true) × (b ≡ true) = both-true a b (hc .0) in
+    record { had = hb .0; named = hb .1; within = hc .1; filled = hd .1; waits = he .1; near = hf .1 }
+
+pub passes-lane : (l : Lane) → Passes l → laneOk l ≡ true
+unfolding laneOk
+passes-lane l p = simp (p .had, p .named, p .within, p .filled, p .waits, p .near)
+
+-- what the work of an accepted step needs: in lead, phase 1, the next sample has its place, and the lead's indices fit
+pub record Ready (l : Lane) : Type 0 where
+  pub room : l .phase ≡ 1 → l .lead .«lead_n» < 16
+  pub near : l .lead .«lead_at» ≤ 2 ^ 40
+
+lead-ready : (phase m : ℕ) (l : Lead) → leadOk phase m l ≡ true → (phase ≡ 1 → l .«lead_n» < 16) × (l .«lead_at» ≤ 2 ^ 40)
+unfolding leadOk
+lead-ready phase m l h =
+    let a : (leb (l .«lead_at») (2 ^ 40) ≡ true) × ((not (eqb phase 1) || ltb (l .«lead_n») (leadLenOf m)) ≡ true) = both-true (leb (l .«lead_at») (2 ^ 40)) (not (eqb phase 1) || ltb (l .«lead_n») (leadLenOf m)) h in
+    ((λ e. let n : l .«lead_n» < leadLenOf m = ltb-true (l .«lead_n») (leadLenOf m) (other-true (not (eqb phase 1)) (ltb (l .«lead_n») (leadLenOf m)) (a .1) (ap not (eq-eqb phase 1 e))) in omega arith), leb-true (l .«lead_at») (2 ^ 40) (a .0))
+
+pub step-ready : (l : Lane) (s : StepArgs) (ook fsk : ℕ) → stepRefusal l s ook fsk ≡ 0 → Ready l
+unfolding stepRefusal
+step-ready l s ook fsk e =
+    let h : Passes l = lane-passes l (none-failed true (laneOk l) _ _ _ _ e .1) in
+    let r : (l .phase ≡ 1 → l .lead .«lead_n» < 16) × (l .lead .«lead_at» ≤ 2 ^ 40) = lead-ready (l .phase) (l .settings .«min_steps») (l .lead) (h .filled) in
+    record { room = r .0; near = r .1 }
