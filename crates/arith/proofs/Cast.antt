@@ -2,13 +2,13 @@
 -- Assumes nothing.
 use mathlib.Core.Path.{_≡_, refl, sym, ap, _∙_, subst}
 use Prim.Native.Nat.{ℕ, zero, suc, _+_, _-_, _*_, _/_, _%_, _^_, _≤_, _<_, min}
-use native.Mathlib.Nat.{mul-one, zero-mul, mul-assoc, mul-pos, mul-div-cancel, le-trans, le-of-eq, le-of-lt, lt-of-lt-of-le, div-lt-iff-lt-mul, mul-le-mul-left, mul-lt-mul-of-pos-right}
+use native.Mathlib.Nat.{mul-one, zero-mul, mul-assoc, mul-pos, mul-div-cancel, le-of-eq, le-of-lt, lt-of-lt-of-le, div-lt-iff-lt-mul, mul-lt-mul-of-pos-right}
 use native.Mathlib.Omega.{arith}
-use mathlib.Core.Bool.{Bool, true, false, not, cond, _&&_, true≢false, false≢true}
+use mathlib.Core.Bool.{Bool, cond, _&&_}
 use lib.IntN.{ℤ, pos, negsuc}
 use lib.Dec.{T, ltb, leb, eqb, ltb→lt}
 use lib.Pow.{pow-add, pow-pos, pow-mono}
-use lib.Ieee.{Float, nan, inf, fin, Format, binary64, prec, emax, low, up, down, round, fits, toUnsigned}
+use lib.Ieee.{Float, nan, inf, fin, binary64, up, down, round, fits, toUnsigned}
 use lib.Ieee.Fits.{down-pos, and-l, and-r}
 use lib.Ieee.Back.{round-whole}
 use lib.Ieee.Exact.{HasValue, round-exact}

@@ -1,13 +1,13 @@
 -- An f64 by its exponent's field E and its digits' field T: the fraction that it equals. And `narrowOf` by any fraction that a value equals.
 -- Assumes nothing.
 use mathlib.Core.Path.{_≡_, refl, sym, ap, _∙_, subst}
-use Prim.Native.Nat.{ℕ, zero, suc, _+_, _-_, _*_, _/_, _%_, _^_, _≤_, _<_}
+use Prim.Native.Nat.{ℕ, zero, suc, _+_, _-_, _*_, _/_, _%_, _^_, _<_}
 use native.Mathlib.Nat.{mul-one, lt-irrefl}
 use native.Mathlib.Omega.{arith}
 use mathlib.Core.Bool.{Bool, true, false, not, cond, _&&_}
 use lib.Dec.{T, leb, eqb, eqb→eq}
 use borrow.Author.Tests.{ne-eqb}
-use lib.Ieee.{Float, nan, inf, fin, Format, binary32, binary64, up, down, odd, round, ofBits, ofFields, toBits, fits, isNan, nanBits}
+use lib.Ieee.{Float, nan, inf, fin, binary32, binary64, up, down, odd, round, ofBits, ofFields, toBits, fits, isNan, nanBits}
 use lib.Ieee.Fits.{down-pos, eq→eqb}
 use lib.Ieee.Bits.{ofBits-toBits, nanBits-is}
 use lib.Ieee.Exact.{HasValue, odd-sign}

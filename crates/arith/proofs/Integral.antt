@@ -1,14 +1,14 @@
 -- What `roundOf` is at an f64's fields e and t, in the three ranges of e that the code tells apart.
 -- Assumes nothing.
 use mathlib.Core.Path.{_≡_, refl, sym, ap, _∙_, subst}
-use mathlib.Core.Logic.{_⊎_, inl, inr, ⊎-elim}
-use Prim.Native.Nat.{ℕ, zero, suc, _+_, _-_, _*_, _/_, _%_, _^_, _≤_, _<_, compare}
-use native.Mathlib.Nat.{mul-one, one-mul, mul-assoc, mul-comm, mul-left-comm, mul-right-comm, add-mul, mul-pos, eq-of-mul-eq-mul-right, le-trans, le-of-eq, lt-of-lt-of-le, lt-of-le-of-lt, div-eq-of-lt, eq-or-lt-of-le, div-lt-iff-lt-mul, le-of-lt}
+use mathlib.Core.Logic.{⊎-elim}
+use Prim.Native.Nat.{ℕ, zero, suc, _+_, _-_, _*_, _/_, _%_, _^_, _≤_, _<_}
+use native.Mathlib.Nat.{mul-one, mul-assoc, mul-comm, mul-left-comm, mul-right-comm, add-mul, eq-of-mul-eq-mul-right, lt-of-lt-of-le, div-eq-of-lt, eq-or-lt-of-le, div-lt-iff-lt-mul, le-of-lt}
 use native.Mathlib.Omega.{arith}
 use mathlib.Core.Bool.{Bool, true, false, not, cond}
 use lib.Dec.{T, leb, ltb}
-use lib.Pow.{pow-add, pow-pos, pow-mono, pow-lt, shl-lt}
-use lib.Ieee.{Float, nan, inf, fin, Format, binary64, prec, emax, low, up, down, size, nearest, odd, units, round, neg, fits, isNan, ofFields, toBits}
+use lib.Pow.{pow-add, pow-pos, pow-mono, shl-lt}
+use lib.Ieee.{Float, nan, inf, fin, Format, binary64, prec, emax, low, up, down, size, odd, units, round, neg, fits, isNan, ofFields, toBits}
 use lib.Ieee.Fits.{down-pos, round-is, round-fits}
 use lib.Ieee.Back.{whole-unique}
 use lib.Ieee.Exact.{HasValue, round-exact}
@@ -112,7 +112,7 @@ halfUp-le t u h k = le-of-lt (div-lt-iff-lt-mul (twice u k) .1 (far t u h k))
     far t u h k = omega arith
 
 -- ---- whole already
-rescale : (x : Float) (s : Bool) (a b c d : ℕ) → 0 < b → a * d ≡ c * b → HasValue x s a b → HasValue x s c d
+pub rescale : (x : Float) (s : Bool) (a b c d : ℕ) → 0 < b → a * d ≡ c * b → HasValue x s a b → HasValue x s c d
 rescale nan s a b c d p h v = v
 rescale (inf t) s a b c d p h v = v
 rescale (fin t m e) s a b c d p h v = (

@@ -1,4 +1,5 @@
 -- The laws that the proofs of several functions cite.
+pub mod Nan
 pub mod Values
 pub mod Pack
 pub mod Fields
@@ -7,7 +8,11 @@ pub mod Integral
 pub mod Signs
 pub mod Ends
 pub mod Cast
+pub mod Short
+pub mod Distance
 pub mod Near
+pub mod IntegralNearest
+pub mod NarrowNearest
 pub mod RootWhole
 pub mod RootBrought
 pub mod RootDigits

@@ -3,12 +3,12 @@
 use mathlib.Core.Path.{_≡_, refl, sym, ap, _∙_, subst}
 use mathlib.Core.Logic.{_⊎_, inl, inr, ⊎-elim}
 use Prim.Native.Nat.{ℕ, zero, suc, _+_, _-_, _*_, _/_, _%_, _^_, _≤_, _<_, compare}
-use native.Mathlib.Nat.{zero-add, mul-assoc, one-mul, mul-one, mul-le-mul-left, mul-le-mul-right, mul-pos, le-trans, le-of-eq, lt-of-lt-of-le, lt-of-le-of-lt, le-div-iff-mul-le, div-lt-iff-lt-mul, div-eq-of-lt, mod-eq-of-lt, eq-or-lt-of-le}
+use native.Mathlib.Nat.{zero-add, mul-assoc, one-mul, mul-le-mul-left, mul-le-mul-right, mul-pos, le-trans, le-of-eq, lt-of-lt-of-le, lt-of-le-of-lt, le-div-iff-mul-le, div-lt-iff-lt-mul, div-eq-of-lt, mod-eq-of-lt, eq-or-lt-of-le}
 use native.Mathlib.Omega.{arith}
 use mathlib.Core.Bool.{Bool, true, false, not, cond}
 use lib.Dec.{T, ltb, ltb→lt, nltb→le}
 use lib.Pow.{pow-add, pow-pos, pow-mono, pow-lt, shl-lt, shr-lt}
-use lib.Ieee.{Float, inf, binary32, binary64, size, nearest, units, round, ofBits, ofFields}
+use lib.Ieee.{inf, binary32, binary64, size, nearest, units, round, ofBits, ofFields}
 use lib.Ieee.Digits.{size-le}
 use lib.Ieee.Fits.{round-is, nearest-le}
 use lib.Ieee.Nearest.{closest, closest-same, nearest-ge}

@@ -1,9 +1,9 @@
 -- The pattern that `round_exact` puts together, for each way the digits are rounded. Assumes nothing.
-use mathlib.Core.Path.{_≡_, refl, sym, ap, _∙_, subst}
+use mathlib.Core.Path.{_≡_, refl, sym, ap, _∙_}
 use mathlib.Core.Bool.{Bool, true, false}
-use Prim.Native.Nat.{ℕ, zero, suc, _+_, _-_, _*_, _/_, _%_, _^_, _≤_, _<_}
+use Prim.Native.Nat.{ℕ, zero, suc, _+_, _*_, _/_, _%_, _^_, _≤_, _<_}
 use native.Mathlib.Omega.{arith}
-use lib.Ieee.{Float, binary32, ofBits, nearest, units}
+use lib.Ieee.{binary32, ofBits, nearest, units}
 use Rattle.arith.specs.Root.{roundExact, dropped}
 use Rattle.arith.proofs.RootPatterns.{pattern, units-is}
 

@@ -1,59 +1,25 @@
 -- Special operands: zeros, plus infinity, NaN and negatives. Assumes nothing.
 use mathlib.Core.Path.{_≡_, refl, sym, ap, _∙_, subst}
 use mathlib.Core.Bool.{Bool, true, false, not, cond}
-use Prim.Native.Nat.{ℕ, zero, suc, _+_, _-_, _*_, _/_, _%_, _^_, _≤_, _<_}
-use native.Mathlib.Nat.{mul-pos, mul-one}
+use Prim.Native.Nat.{ℕ, zero, suc, _+_, _*_, _/_, _%_, _^_, _≤_, _<_}
+use native.Mathlib.Nat.{mul-pos, zero-mul}
 use native.Mathlib.Omega.{arith}
-use lib.Dec.{T, leb, ltb, eqb, le→leb, lt→ltb, nltb→le}
-use lib.Arith.{le→nltb}
+use lib.Dec.{T, leb, ltb, eqb, le→leb, ltb→lt, nltb→le}
 use lib.Pow.{pow-pos}
 use lib.IntN.{ℤ}
-use lib.Ieee.{Float, nan, inf, fin, binary32, up, down, odd, div, ne, fits, isNan, ofFields, ofBits, toBits, nanBits}
-use lib.Ieee.Bits.{is-true, is-false, ofBits-toBits, nanBits-is, nanBits-above}
+use lib.Ieee.{Float, nan, inf, fin, binary32, up, down, odd, lt, fits, isNan, ofFields, ofBits, toBits}
+use lib.Ieee.Bits.{is-true, ofBits-toBits, nanBits-is, nanBits-above}
 use lib.Ieee.Exact.{HasValue, odd-sign}
-use lib.Ieee.Compare.{differs-from-itself}
+use Rattle.arith.specs.Leaves.{zero32}
 use Rattle.arith.specs.Root.{sqrtOf}
+use Rattle.arith.specs.RootNearest.{SpecialRoots}
 use Rattle.arith.proofs.RootPatterns.{ofBits-is}
 use Rattle.arith.proofs.RootValue.{nothing-left}
-
-pub T-of : (b : Bool) → b ≡ true → T b
-T-of b e = subst T (sym e) tt
-
-pub T-not-of : (b : Bool) → b ≡ false → T (not b)
-T-not-of b e = subst (λ (x : Bool). T (not x)) (sym e) tt
-
-pub nan-is : (x : Float) → ne x x ≡ true → x ≡ nan
-nan-is x h = differs-from-itself x (T-of (ne x x) h)
+use Rattle.arith.proofs.Signs.{lt-neg, lt-plus, never}
 
 pub nan-root : sqrtOf nan ≡ nan
 unfolding sqrtOf
 nan-root = refl
-
-pub nan-bits : toBits binary32 nan ≡ 0x7fc0_0000
-unfolding toBits
-nan-bits = refl
-
-flip : _≡_ {A = Bool} true false → ⊥
-flip e = subst (λ (b : Bool). T b) e tt
-
-pub no-nan : (x : Float) → ne x x ≡ false → T (not (isNan x))
-unfolding ne isNan
-no-nan nan h = absurd (flip h)
-no-nan (inf s) h = tt
-no-nan (fin s m e) h = tt
-
-pub is-nan : (x : Float) → T (isNan x) → x ≡ nan
-unfolding isNan
-is-nan nan t = refl
-is-nan (inf s) t = absurd t
-is-nan (fin s m e) t = absurd t
-
--- a pattern at or below the infinity's is no NaN's, and one above is
-pub above-nan : (b : ℕ) → 2139095040 < b % 2147483648 → ofBits binary32 b ≡ nan
-above-nan b h = is-nan (ofBits binary32 b) (subst T (sym (sym (nanBits-is binary32 b) ∙ nanBits-above binary32 b)) (lt→ltb 2139095040 (b % 2147483648) h))
-
-pub below-no-nan : (b : ℕ) → b % 2147483648 ≤ 2139095040 → T (not (nanBits binary32 b))
-below-no-nan b h = subst (λ (t : Bool). T (not t)) (sym (nanBits-above binary32 b)) (le→nltb 2139095040 (b % 2147483648) h)
 
 -- the pattern of a number that is no NaN
 pub bits-no-nan : (x : Float) → T (fits binary32 x) → T (not (isNan x)) → toBits binary32 x % 2147483648 ≤ 2139095040
@@ -79,10 +45,6 @@ minus-zero-root = refl
 pub infinity-root : sqrtOf (ofBits binary32 2139095040) ≡ ofBits binary32 2139095040
 unfolding sqrtOf ofBits
 infinity-root = refl
-
-pub made-nan : div binary32 (ofBits binary32 0) (ofBits binary32 0) ≡ nan
-unfolding div ofBits
-made-nan = refl
 
 -- ---- negatives
 
@@ -117,3 +79,25 @@ negative-root b h k =
     let l : 2147483648 ≤ b = omega arith in
     ap sqrtOf (ofBits-is b ∙ ap (λ (s : Bool). ofFields binary32 s (b % 2147483648 / 8388608) (b % 8388608)) (is-true (leb 2147483648 b) (le→leb 2147483648 b l)))
     ∙ negative-fields (b % 2147483648 / 8388608) (b % 8388608) (λ e. omega arith)
+
+-- ---- all of them
+below-zero-root : (x : Float) → T (lt x zero32) → sqrtOf x ≡ nan
+unfolding sqrtOf
+below-zero-root nan t = refl
+below-zero-root (inf true) t = refl
+below-zero-root (inf false) t = absurd (unfold lt ofBits in t)
+below-zero-root (fin true zero e) t = absurd (no-less (0 * up e) (zero-mul (up e)) (ltb→lt 0 (0 * up e) (subst T (lt-neg 0 e) t)))
+  where
+    no-less : (a : ℕ) → a ≡ 0 → 0 < a → ⊥
+    no-less a e h = omega arith
+below-zero-root (fin true (suc m) e) t = refl
+below-zero-root (fin false m e) t = absurd (never (m * up e * 1) (is-true (ltb (m * up e * 1) 0) (subst T (lt-plus m e) t)))
+
+pub special-roots : SpecialRoots sqrtOf
+unfolding sqrtOf
+special-roots = record {
+  no-number = refl;
+  infinity = refl;
+  zero = λ s e. refl;
+  negative = below-zero-root;
+}

@@ -1,18 +1,16 @@
 -- What the functions of the square root need of one another, from the files beside this one. Assumes nothing.
 use mathlib.Core.Path.{_≡_, refl, sym, ap, _∙_, subst}
-use mathlib.Core.Bool.{Bool, true, false, not, cond}
+use mathlib.Core.Bool.{false}
 use Prim.Native.Nat.{ℕ, zero, suc, _+_, _-_, _*_, _/_, _%_, _^_, _≤_, _<_}
-use native.Mathlib.Nat.{le-trans, le-of-eq, lt-of-not-le, lt-of-lt-of-le, lt-of-le-of-lt, not-le-of-lt, lt-irrefl, mod-eq-of-lt, mul-pos, mul-assoc, mul-one, pow-suc, add-comm}
+use native.Mathlib.Nat.{le-trans, lt-of-not-le, not-le-of-lt, mod-eq-of-lt, mul-pos, mul-assoc, mul-one, pow-suc}
 use native.Mathlib.Omega.{arith}
-use lib.Dec.{T, leb, ltb, eqb, lt→ltb, ltb→lt, nltb→le, not-T, T-not}
-use lib.Arith.{le→nltb}
+use lib.Dec.{ltb}
 use lib.Pow.{pow-pos, pow-mono}
 use lib.Count.{leadingZeros, leading-top}
-use lib.Ieee.{Float, nan, inf, fin, binary32, odd, ofBits, toBits, nanBits, isNan, fits, ne}
-use lib.Ieee.Bits.{is-true, is-false, nanBits-is, nanBits-above, ofBits-toBits}
+use lib.Ieee.{Float, binary32, ofBits}
 use lib.Ieee.Exact.{HasValue, odd-sign}
 use Rattle.arith.specs.declared.Exact.{Exact}
-use Rattle.arith.specs.Root.{IsRoot, wholeRoot, brought, power, exactOf, roundExact, roundExactOf, scaled, sqrtOf}
+use Rattle.arith.specs.Root.{IsRoot, wholeRoot, brought, power, exactOf, roundExactOf, scaled, sqrtOf}
 use Rattle.arith.proofs.RootWhole.{wholeRoot-is, root-unique}
 use Rattle.arith.proofs.RootBrought as B
 use Rattle.arith.proofs.RootDigits.{r-lo, r-hi}

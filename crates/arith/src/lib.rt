@@ -13,6 +13,46 @@ ghost use Rattle.arith.specs.Rounding.{roundOf, narrowOf, halfUp};
 ghost use Rattle.arith.specs.Leaves.{absOf, midpointOf, flushOf, maxOf, minOf, cmulConjOf, crossOf, edgeOf, stepOf, wholeOf, widthOf, fskWidthOf, runFixOf, gainOf, leadLenOf};
 ghost use Rattle.arith.specs.Angle.{octant, fold, signed, atan2Of};
 
+// ---- bit patterns
+
+// The float of a pattern: each pattern of a NaN gives the one NaN.
+pub fn f32_of_bits(n: u32) -> f32
+    ensures { λ r. ⌜ r ≡ Ieee.ofBits binary32 n ⌝ }
+{
+    if 0x7f80_0000 < n % 0x8000_0000 {
+        return 0.0 / 0.0;
+    }
+    f32::from_bits(n)
+}
+
+pub fn f64_of_bits(n: u64) -> f64
+    ensures { λ r. ⌜ r ≡ Ieee.ofBits binary64 n ⌝ }
+{
+    if 0x7ff0_0000_0000_0000 < n % 0x8000_0000_0000_0000 {
+        return 0.0 / 0.0;
+    }
+    f64::from_bits(n)
+}
+
+// The pattern of a float: a NaN's is the quiet one with no other digit set.
+pub fn bits_of_f32(x: f32) -> u32
+    ensures { λ r. ⌜ r ≡ Ieee.toBits binary32 x ⌝ }
+{
+    if x != x {
+        return 0x7fc0_0000;
+    }
+    f32::to_bits(x)
+}
+
+pub fn bits_of_f64(x: f64) -> u64
+    ensures { λ r. ⌜ r ≡ Ieee.toBits binary64 x ⌝ }
+{
+    if x != x {
+        return 0x7ff8_0000_0000_0000;
+    }
+    f64::to_bits(x)
+}
+
 // ---- change of width and rounding to integral
 
 // v / u to the nearest whole number, a tie to the even one.

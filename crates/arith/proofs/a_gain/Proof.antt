@@ -4,7 +4,7 @@ use Rattle.arith.specs.Leaves.{gainOf, exponentOf}
 use lib.Ieee.{binary32, ofBits, toBits, mul}
 use native.Mathlib.Omega.{arith}
 use Prim.Native.Nat.{ℕ, _-_, _*_, _≤_}
-use mathlib.Core.Path.{_≡_, refl, sym, ap, _∙_, subst}
+use mathlib.Core.Path.{_≡_}
 use borrow.Author.Needs.{needs}
 use Rattle.arith.proofs.a_gain.Statement.{statement}
 use Rattle.arith.proofs.a_gain.Tie as tie

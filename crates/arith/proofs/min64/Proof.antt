@@ -1,4 +1,4 @@
-use Rattle.arith.proofs.Signs.{nan-true, nan-false}
+use Rattle.arith.proofs.Nan.{nan-true, nan-false}
 use Rattle.arith.proofs.min64.Statement.{statement}
 use Rattle.arith.proofs.min64.Tie as tie
 

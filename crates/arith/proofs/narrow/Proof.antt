@@ -1,20 +1,21 @@
 use Rattle.arith.proofs.Fields.{by-fields, top-plain, narrowOf-nan}
-use Rattle.arith.proofs.Values.{is-nan, no-nan, nan-is, plain-bits-plus, plain-bits-minus}
+use Rattle.arith.proofs.Nan.{is-nan, no-nan, zero-by-zero}
+use Rattle.arith.proofs.Values.{plain-bits-plus, plain-bits-minus}
 use Rattle.arith.specs.Rounding.{narrowOf}
 use lib.Ieee.{binary32, binary64, ofBits, toBits}
 use borrow.Author.Tests.{lt-leb, le-leb}
 use lib.Dec.{T}
 use native.Mathlib.Omega.{arith}
 use native.Mathlib.Nat.{zero-add}
-use Prim.Native.Nat.{ℕ, _+_, _^_}
+use Prim.Native.Nat.{_^_}
 use mathlib.Core.Bool.{true, false}
-use mathlib.Core.Path.{_≡_, refl, sym, ap, _∙_, subst}
+use mathlib.Core.Path.{sym, ap, _∙_, subst}
 use borrow.Author.Needs.{needs}
 use Rattle.arith.proofs.narrow.Statement.{statement}
 use Rattle.arith.proofs.narrow.Tie as tie
 
 returns : tie.Need-returns
-returns c = nan-is ∙ sym (ap narrowOf (is-nan (c .before .args .x) (c .if1 .taken)) ∙ narrowOf-nan)
+returns c = zero-by-zero binary32 ∙ sym (ap narrowOf (is-nan (c .before .args .x) (c .if1 .taken)) ∙ narrowOf-nan)
 
 float-to-bits-b : tie.Need-float-to-bits-b
 float-to-bits-b c = no-nan (c .before .args .x) (c .if1 .left)

@@ -4,7 +4,7 @@ use lib.Ieee.{binary32, ofBits}
 use lib.Pow.{pow-pos}
 use native.Mathlib.Omega.{arith}
 use Prim.Native.Nat.{ℕ, _+_, _-_, _*_, _^_, _<_, _≤_}
-use mathlib.Core.Bool.{Bool, cond}
+use mathlib.Core.Bool.{cond}
 use mathlib.Core.Path.{_≡_, sym, ap, _∙_, subst}
 use borrow.Author.Needs.{needs}
 use Rattle.arith.proofs.narrow_fields.Statement.{statement}

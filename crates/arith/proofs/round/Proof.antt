@@ -1,13 +1,13 @@
 use Rattle.arith.proofs.Integral.{roundOf-nan, whole-already, neg-round}
 use Rattle.arith.proofs.Fields.{by-fields}
-use Rattle.arith.proofs.Values.{is-nan, no-nan}
+use Rattle.arith.proofs.Nan.{is-nan, no-nan}
 use Rattle.arith.specs.Rounding.{roundOf}
 use lib.Ieee.{binary64, toBits, inFloat, ofInt}
 use borrow.Author.Tests.{lt-leb, le-leb}
 use lib.Dec.{T, le→leb}
-use Prim.Native.Nat.{ℕ, _^_}
+use Prim.Native.Nat.{_^_}
 use mathlib.Core.Bool.{true, false}
-use mathlib.Core.Path.{_≡_, sym, ap, _∙_, subst}
+use mathlib.Core.Path.{sym, ap, _∙_, subst}
 use borrow.Author.Needs.{needs}
 use Rattle.arith.proofs.round.Statement.{statement}
 use Rattle.arith.proofs.round.Tie as tie

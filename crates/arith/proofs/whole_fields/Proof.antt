@@ -2,8 +2,8 @@ use Rattle.arith.proofs.Integral.{whole-none, whole-some, halfUp-le, po
 use Rattle.arith.specs.Rounding.{halfUp}
 use lib.Ieee.{binary64, round}
 use native.Mathlib.Omega.{arith}
-use Prim.Native.Nat.{ℕ, _+_, _^_, _≤_}
-use mathlib.Core.Path.{_≡_, sym, ap, _∙_, subst}
+use Prim.Native.Nat.{ℕ, _+_, _^_}
+use mathlib.Core.Path.{sym, ap, _∙_}
 use borrow.Author.Needs.{needs}
 use Rattle.arith.proofs.whole_fields.Statement.{statement}
 use Rattle.arith.proofs.whole_fields.Tie as tie
