@@ -66,7 +66,7 @@ leadStep l s ring ook fsk = leadStepWith l s (leadAddOf (l .lead) s) ring (leadL
 unfoldable pub burstStep : Lane → StepArgs → List Float → List ℕ → List ℕ → Answer × List ℕ × List ℕ
 burstStep l s ring ook fsk =
     settled l s (l .lead) ring
-    (sampleOf (l .settings) (record { idx = s .index; «lead_at» = l .lead .«lead_at»; noise = s .noise; e = s .envelope; x = s .x; xp = l .«x_prev»; ring = ring }) (clearedOf (l .burst)) ook fsk)
+    (sampleOf (l .settings) (record { idx = s .index; «lead_at» = l .lead .«lead_at»; noise = s .noise; e = s .envelope; x = s .x; xp = l .«x_prev» }) ring (clearedOf (l .burst)) ook fsk)
 
 abbrev pub phaseStep : Lane → StepArgs → List Float → List ℕ → List ℕ → Answer × List ℕ × List ℕ
 phaseStep l s ring ook fsk = cond (eqb (l .phase) 1) (leadStep l s ring ook fsk) (burstStep l s ring ook fsk)

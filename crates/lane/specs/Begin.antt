@@ -5,12 +5,13 @@ use lib.ListN.{set, replicate}
 use lib.Ieee.{Float}
 use Rattle.arith.specs.Leaves.{zero32}
 use Rattle.arith.specs.declared.C32.{C32}
+use Rattle.ook.specs.Counts.{zeroC32}
 use Rattle.burst.specs.declared.Burst.{Burst}
 use Rattle.burst.specs.declared.Lead.{Lead}
 use Rattle.lane.specs.declared.History.{History}
 use Rattle.lane.specs.declared.BeginArgs.{BeginArgs}
 use Rattle.lane.specs.declared.Lane.{Lane}
-use Rattle.lane.specs.Idle.{zeroC32, noOut}
+use Rattle.lane.specs.Idle.{noOut}
 
 -- the ring's place of the index `back` before this one, which wraps below index 0 as a u64 does
 abbrev pub placeOf : ℕ → ℕ → ℕ

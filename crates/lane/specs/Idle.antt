@@ -2,7 +2,8 @@
 use Prim.Native.Nat.{ℕ}
 use lib.ListN.{replicate}
 use Rattle.arith.specs.Leaves.{zero32, zero64}
-use Rattle.arith.specs.declared.C32.{C32}
+use Rattle.ook.specs.Counts.{zeroC32}
+use Rattle.ook.specs.Train.{zeroSteps}
 use Rattle.ook.specs.declared.Settings.{Settings}
 use Rattle.ook.specs.declared.Out.{Out}
 use Rattle.ook.specs.declared.Env.{Env}
@@ -13,9 +14,6 @@ use Rattle.presence.specs.declared.Pres.{Pres}
 use Rattle.burst.specs.declared.Burst.{Burst}
 use Rattle.burst.specs.declared.Lead.{Lead}
 use Rattle.lane.specs.declared.Lane.{Lane}
-
-abbrev pub zeroC32 : C32
-zeroC32 = record { re = zero32; im = zero32 }
 
 abbrev pub noSettings : Settings
 noSettings = record { mode = 0; «min_steps» = 0; «gap_steps» = 0; «pre_timeout» = 0; «long_steps» = 0; «max_pulses» = 0; alpha = zero32; «gap_ratio» = zero32; «fsk_delta» = zero32; «fsk_split» = zero32 }
@@ -32,7 +30,7 @@ noEnv = record {
 }
 
 abbrev pub noTrain : Train
-noTrain = record { start = 0; «pulse_end» = 0; started = 0; «ook_n» = 0; «open» = 0; longest = 0; truncated = 0; acc = zeroC32 }
+noTrain = record { start = 0; «pulse_end» = 0; started = 0; «ook_n» = 0; «open» = 0; longest = zeroSteps; truncated = 0; acc = zeroC32 }
 
 abbrev pub noPres : Pres
 noPres = record { «p_t_run» = zero64; «p_t_prev» = zero64; «p_factor» = zero32; «p_level» = 0; «p_run» = 0; «p_confirmed» = 0; «p_prev» = 0 }

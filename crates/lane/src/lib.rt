@@ -11,7 +11,7 @@ ghost use Rattle.lane.specs.Advance.{largerOf, highestOf, leadAddOf, rep
 ghost use Rattle.lane.specs.Step.{newLane, opened, begun, stepped};
 ghost use Rattle.lane.specs.Part.{front, partOf};
 use arith::C32;
-use burst::At;
+use arith::Steps;
 use burst::Burst;
 use burst::Lead;
 use burst::Sampled;
@@ -32,6 +32,7 @@ use ook::Settings;
 use ook::Times;
 use ook::Train;
 use presence::Pres;
+use stages::At;
 
 // The seven envelopes before begin's, nearest first.
 pub struct History {
@@ -269,7 +270,7 @@ fn no_burst() -> Burst
         started: 0,
         ook_n: 0,
         open: 0,
-        longest: 0,
+        longest: Steps(0),
         truncated: 0,
         acc: zero,
     };
@@ -548,12 +549,11 @@ fn burst_step(l: Lane, s: StepArgs, ring: [f32; 32], ook: &mut [u32], fsk: &mut 
         e: s.envelope,
         x,
         xp,
-        ring,
     };
     let old = l.burst;
     let b = clear_records(old);
     let p = l.settings;
-    let r = burst::sample(p, a, b, ook, fsk);
+    let r = burst::sample(p, a, &ring, b, ook, fsk);
     let next = r.next;
     let burst = r.burst;
     let phase = phase_of(next);
@@ -587,7 +587,7 @@ fn replay_step(
     let t = arith::u64_to_f64(ld.lead_at);
     let b2 = burst::begin_burst(t, es[0], high, b1);
     let p = l.settings;
-    let r = burst::replay(p, s.noise, ring, ld, len, b2, ook, fsk);
+    let r = burst::replay(p, s.noise, &ring, ld, len, b2, ook, fsk);
     let next = r.next;
     let burst = r.burst;
     let phase = phase_of(next);

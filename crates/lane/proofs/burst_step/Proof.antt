@@ -23,7 +23,7 @@ same-length-2 c = search needs
 
 returns : tie.Need-returns
 unfolding burstStep
-returns c = simp (← c .before .before .before .before .before .before .before .before .before .before .before .clear-records .ensures, ← c .before .before .before .before .before .before .before .sample .ensures, ← c .before .phase-of .ensures, ← c .reply-of .ensures)
+returns c = simp (← c .before .before .before .before .before .before .before .before .before .before .before .before .clear-records .ensures, ← c .before .before .before .before .before .before .before .sample .ensures, ← c .before .phase-of .ensures, ← c .reply-of .ensures)
 
 pub burst-step-spec : {M : Type 1} → statement M
 burst-step-spec =

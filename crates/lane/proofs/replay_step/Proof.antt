@@ -35,7 +35,7 @@ same-length-2 c = search needs
 
 returns : tie.Need-returns
 unfolding replayStep
-returns c = simp (← c .before .before .before .before .before .before .before .before .before .before .before .before .before .before .before .before .highest .ensures, ← c .before .before .before .before .before .before .before .before .before .before .before .before .before .before .clear-records .ensures, ← c .before .before .before .before .before .before .before .before .before .before .before .before .before .u64-to-f64 .ensures, ← c .before .before .before .before .before .before .before .before .before .before .before .before .begin-burst .ensures, ← c .before .before .before .before .before .before .before .before .replay .ensures, ← c .before .before .phase-of .ensures, ← c .before .reply-of .ensures)
+returns c = simp (← c .before .before .before .before .before .before .before .before .before .before .before .before .before .before .before .before .before .highest .ensures, ← c .before .before .before .before .before .before .before .before .before .before .before .before .before .before .before .clear-records .ensures, ← c .before .before .before .before .before .before .before .before .before .before .before .before .before .before .u64-to-f64 .ensures, ← c .before .before .before .before .before .before .before .before .before .before .before .before .before .begin-burst .ensures, ← c .before .before .before .before .before .before .before .before .replay .ensures, ← c .before .before .phase-of .ensures, ← c .before .reply-of .ensures)
 
 pub replay-step-spec : {M : Type 1} → statement M
 replay-step-spec =
