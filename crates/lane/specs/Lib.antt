@@ -5,4 +5,5 @@ pub mod Idle
 pub mod Begin
 pub mod Advance
 pub mod Step
+pub mod Reached
 pub mod Part

@@ -10,7 +10,8 @@ use Rattle.arith.specs.Leaves.{leadLenOf}
 use Rattle.burst.specs.declared.Lead.{Lead}
 use Rattle.refusals.specs.Domain.{settingsOk, factorOk, envelopeOk, sampleOk, indexOk, roomOk}
 use Rattle.refusals.specs.State.{burstOk, leadOk, candOk}
-use Rattle.refusals.specs.Order.{firstFailed, none-failed, both-true, other-true}
+use Rattle.refusals.specs.Order.{firstFailed, none-failed}
+use Rattle.refusals.specs.Parts.{both-true, other-true, six-true}
 use Rattle.lane.specs.declared.History.{History}
 use Rattle.lane.specs.declared.BeginArgs.{BeginArgs}
 use Rattle.lane.specs.declared.StepArgs.{StepArgs}
@@ -75,18 +76,8 @@ pub record Passes (l : Lane) : Type 0 where
 pub lane-passes : (l : Lane) → laneOk l ≡ true → Passes l
 unfolding laneOk
 lane-passes l h =
-    let a : Bool = openedOk (l .opened) (l .phase) (l .settings) in
-    let b : Bool = leb (l .phase) 2 in
-    let c : Bool = burstOk (l .settings .«max_pulses») (l .burst) in
-    let d : Bool = leadOk (l .phase) (l .settings .«min_steps») (l .lead) in
-    let e : Bool = candOk (l .phase) (l .settings .«min_steps») (l .burst .frame) in
-    let f : Bool = indexOk (l .last) in
-    let hf : ((a && b && c && d && e) ≡ true) × (f ≡ true) = both-true (a && b && c && d && e) f h in
-    let he : ((a && b && c && d) ≡ true) × (e ≡ true) = both-true (a && b && c && d) e (hf .0) in
-    let hd : ((a && b && c) ≡ true) × (d ≡ true) = both-true (a && b && c) d (he .0) in
-    let hc : ((a && b) ≡ true) × (c ≡ true) = both-true (a && b) c (hd .0) in
-    let hb : (a ≡ true) × (b ≡ true) = both-true a b (hc .0) in
-    record { had = hb .0; named = hb .1; within = hc .1; filled = hd .1; waits = he .1; near = hf .1 }
+    let t = six-true (openedOk (l .opened) (l .phase) (l .settings)) (leb (l .phase) 2) (burstOk (l .settings .«max_pulses») (l .burst)) (leadOk (l .phase) (l .settings .«min_steps») (l .lead)) (candOk (l .phase) (l .settings .«min_steps») (l .burst .frame)) (indexOk (l .last)) h in
+    record { had = t .0; named = t .1; within = t .2; filled = t .3; waits = t .4; near = t .5 }
 
 pub passes-lane : (l : Lane) → Passes l → laneOk l ≡ true
 unfolding laneOk

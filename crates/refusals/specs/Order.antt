@@ -1,6 +1,6 @@
 -- Document 01, "Replies other than an answer, in checking order": the number of the first check that fails, 0 where none does.
 use Prim.Native.Nat.{ℕ, _<_}
-use mathlib.Core.Bool.{Bool, true, false, cond, _&&_, _||_}
+use mathlib.Core.Bool.{Bool, true, false, cond}
 use mathlib.Core.Path.{_≡_, refl}
 use lib.Dec.{lit<}
 use native.Mathlib.Omega.{arith}
@@ -27,12 +27,3 @@ none-failed s l p i f r e =
     let d : (i ≡ true) × (check 7 f (check 8 r 0) ≡ 0) = passed 6 i _ (lit< tt) (c .1) in
     let g : (f ≡ true) × (check 8 r 0 ≡ 0) = passed 7 f _ (lit< tt) (d .1) in
     (a .0, b .0, c .0, d .0, g .0, passed 8 r 0 (lit< tt) (g .1) .0)
-
--- each part of a check that holds, and the other side where one does not
-pub both-true : (a b : Bool) → (a && b) ≡ true → (a ≡ true) × (b ≡ true)
-both-true true b h = (refl, h)
-both-true false b h = let z : _≡_ {A = Bool} false true = h in (cc, cc)
-
-pub other-true : (a b : Bool) → (a || b) ≡ true → a ≡ false → b ≡ true
-other-true true b h q = cc
-other-true false b h q = h
