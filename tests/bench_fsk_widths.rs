@@ -43,13 +43,9 @@ fn main() {
         let (mut published, mut here) = (f64::INFINITY, f64::INFINITY);
         for _ in 0..ROUNDS {
             published = published.min(timed(&slots, n, |s| published::widths(s)));
-            here = here.min(timed(&bytes, n, |b| {
-                assert_eq!(host::fsk_widths_of_bytes(b), 0)
-            }));
+            here = here.min(timed(&bytes, n, |b| assert_eq!(host::fsk_widths_of_bytes(b), 0)));
         }
         let ratio = here / published;
-        println!(
-            "{n:7} slots: published {published:7.2} ns per slot, here {here:7.2}, ratio {ratio:.2}"
-        );
+        println!("{n:7} slots: published {published:7.2} ns per slot, here {here:7.2}, ratio {ratio:.2}");
     }
 }

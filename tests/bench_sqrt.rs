@@ -67,27 +67,17 @@ fn timed(inputs: &[u32], f: impl Fn(u32) -> u32) -> (f64, u64) {
     let start = Instant::now();
     let mut sum = 0u64;
     for &bits in inputs {
-        sum = sum
-            .wrapping_mul(31)
-            .wrapping_add(u64::from(f(black_box(bits))));
+        sum = sum.wrapping_mul(31).wrapping_add(u64::from(f(black_box(bits))));
     }
-    (
-        start.elapsed().as_secs_f64() * 1e9 / inputs.len() as f64,
-        sum,
-    )
+    (start.elapsed().as_secs_f64() * 1e9 / inputs.len() as f64, sum)
 }
 
 fn main() {
     let mut r = Random::new(2);
     // Finite numbers from 0 on, every exponent as often.
-    let inputs: Vec<u32> = (0..INPUTS)
-        .map(|_| r.below(u64::from(INFINITY)) as u32)
-        .collect();
-    let roots: [(&str, fn(u32) -> u32); 3] = [
-        ("lane_sqrt", host::sqrt),
-        ("plain Rust, one bit at a time", bit_by_bit),
-        ("the processor", by_processor),
-    ];
+    let inputs: Vec<u32> = (0..INPUTS).map(|_| r.below(u64::from(INFINITY)) as u32).collect();
+    let roots: [(&str, fn(u32) -> u32); 3] =
+        [("lane_sqrt", host::sqrt), ("plain Rust, one bit at a time", bit_by_bit), ("the processor", by_processor)];
     let mut best = [f64::INFINITY; 3];
     for _ in 0..ROUNDS {
         let sums = [0, 1, 2].map(|i| {
@@ -100,8 +90,5 @@ fn main() {
     for (ns, (name, _)) in best.iter().zip(roots) {
         println!("{name}: {ns:.2} ns per call");
     }
-    println!(
-        "lane_sqrt takes {:.2} of the plain root's time",
-        best[0] / best[1]
-    );
+    println!("lane_sqrt takes {:.2} of the plain root's time", best[0] / best[1]);
 }

@@ -13,11 +13,16 @@ mod generator;
 mod random;
 #[allow(dead_code)]
 mod receiver;
+mod signal;
 
-use generator::{KINDS, Kind, stream};
+use generator::stream;
 use receiver::{Receiver, Reply};
+use signal::{KINDS, Kind};
 
 const LEFT: &str = "target/tests/differing.bin";
+
+/// Bytes of a stream that are written in small pieces.
+const IN_PIECES: usize = 4000;
 
 /// What the reference prints.
 fn reference(mut input: &[u8]) -> Vec<u8> {
@@ -33,6 +38,20 @@ fn reference(mut input: &[u8]) -> Vec<u8> {
     out
 }
 
+/// Writes the input, the front of it in small pieces: a program reads what is there, and a command may lie across two reads.
+fn feed(mut stdin: impl Write, input: &[u8]) -> std::io::Result<()> {
+    let (front, rest) = input.split_at(input.len().min(IN_PIECES));
+    let mut sizes = [1, 7, 24, 25, 26, 61, 300].into_iter().cycle();
+    let mut front = front;
+    while !front.is_empty() {
+        let (piece, after) = front.split_at(sizes.next().unwrap_or(1).min(front.len()));
+        stdin.write_all(piece)?;
+        stdin.flush()?;
+        front = after;
+    }
+    stdin.write_all(rest)
+}
+
 /// What the program prints.
 fn printed(program: &str, input: &[u8]) -> Result<Vec<u8>, String> {
     let mut child = Command::new(program)
@@ -40,16 +59,12 @@ fn printed(program: &str, input: &[u8]) -> Result<Vec<u8>, String> {
         .stdout(Stdio::piped())
         .spawn()
         .map_err(|e| format!("{program}: {e}"))?;
-    let mut stdin = child.stdin.take().unwrap();
+    let stdin = child.stdin.take().unwrap();
     std::thread::scope(|s| {
         // A program that has met refusal 1 may close its input early.
-        s.spawn(move || drop(stdin.write_all(input)));
+        s.spawn(move || drop(feed(stdin, input)));
         let output = child.wait_with_output().map_err(|e| e.to_string())?;
-        if output.status.success() {
-            Ok(output.stdout)
-        } else {
-            Err(format!("{program} ended with {}", output.status))
-        }
+        if output.status.success() { Ok(output.stdout) } else { Err(format!("{program} ended with {}", output.status)) }
     })
 }
 
@@ -70,11 +85,7 @@ fn calls(mut input: &[u8]) -> Vec<Call> {
     while !input.is_empty() {
         let before = input;
         let reply = receiver.call(&mut input);
-        let taken = if reply.ends() {
-            before.len()
-        } else {
-            before.len() - input.len()
-        };
+        let taken = if reply.ends() { before.len() } else { before.len() - input.len() };
         calls.push(Call {
             bytes: before[..taken].to_vec(),
             stepped: before[0] == 3 && !matches!(reply, Reply::Refused(_)),
@@ -129,16 +140,11 @@ fn words(bytes: &[u8]) -> String {
     }
     let u32_at = |i: usize| u32::from_le_bytes(bytes[i..i + 4].try_into().unwrap());
     let floats = |from: usize| {
-        let each = (from..bytes.len())
-            .step_by(4)
-            .map(|i| f32::from_bits(u32_at(i)));
+        let each = (from..bytes.len()).step_by(4).map(|i| f32::from_bits(u32_at(i)));
         each.map(|x| format!(" {x:?}")).collect::<String>()
     };
     if bytes[0] == 1 {
-        let counts: String = (2..22)
-            .step_by(4)
-            .map(|i| format!(" {}", u32_at(i)))
-            .collect();
+        let counts: String = (2..22).step_by(4).map(|i| format!(" {}", u32_at(i))).collect();
         return format!("01 {}{counts}{}", bytes[1], floats(22));
     }
     let index = u64::from_le_bytes(bytes[1..9].try_into().unwrap());
@@ -154,10 +160,7 @@ fn reported(program: &str, seed: u64, input: &[u8]) -> String {
         report += &format!("  {}\n", words(&call.bytes));
     }
     let here = printed(program, &bytes).unwrap_or_else(String::into_bytes);
-    report += &format!(
-        "reference:\n{}",
-        String::from_utf8_lossy(&reference(&bytes))
-    );
+    report += &format!("reference:\n{}", String::from_utf8_lossy(&reference(&bytes)));
     report + &format!("{program}:\n{}", String::from_utf8_lossy(&here))
 }
 
@@ -171,16 +174,8 @@ struct Options {
 
 fn options() -> Result<Options, String> {
     let mut args = std::env::args().skip(1);
-    let program = args
-        .next()
-        .ok_or("compare PROGRAM [--streams N] [--calls N] [--first SEED] [--kind KIND]")?;
-    let mut o = Options {
-        program,
-        streams: 200,
-        calls: 20_000,
-        first: 1,
-        kind: None,
-    };
+    let program = args.next().ok_or("compare PROGRAM [--streams N] [--calls N] [--first SEED] [--kind KIND]")?;
+    let mut o = Options { program, streams: 200, calls: 20_000, first: 1, kind: None };
     while let Some(a) = args.next() {
         let value = args.next().ok_or(format!("{a}: a value"))?;
         let number = || value.parse().map_err(|_| format!("{a}: a number"));
@@ -188,15 +183,7 @@ fn options() -> Result<Options, String> {
             "--streams" => o.streams = number()?,
             "--calls" => o.calls = number()?,
             "--first" => o.first = number()?,
-            "--kind" => {
-                o.kind = Some(
-                    KINDS
-                        .iter()
-                        .find(|k| k.0 == value)
-                        .ok_or("--kind: unknown")?
-                        .1,
-                )
-            }
+            "--kind" => o.kind = Some(KINDS.iter().find(|k| k.0 == value).ok_or("--kind: unknown")?.1),
             _ => return Err(format!("unknown option {a}")),
         }
     }
@@ -218,15 +205,8 @@ fn run() -> Result<String, String> {
             *census.entry(what).or_default() += n;
         }
     }
-    let words: Vec<String> = census
-        .iter()
-        .map(|(what, n)| format!("{what} {n}"))
-        .collect();
-    Ok(format!(
-        "{} streams of {calls} calls agree: {}",
-        o.streams,
-        words.join(", ")
-    ))
+    let words: Vec<String> = census.iter().map(|(what, n)| format!("{what} {n}")).collect();
+    Ok(format!("{} streams of {calls} calls agree: {}", o.streams, words.join(", ")))
 }
 
 fn main() -> ExitCode {

@@ -50,48 +50,35 @@ fn shrunken(mut slots: Vec<u32>) -> Vec<u32> {
 /// Lists without some neighbouring pairs, then lists with one smaller number.
 fn smaller(slots: &[u32]) -> impl Iterator<Item = Vec<u32>> + '_ {
     let n = slots.len();
-    let sizes =
-        std::iter::successors(Some(n / 2), |k| (*k > 1).then_some(k / 2)).map(|k| (k + 1) & !1);
+    let sizes = std::iter::successors(Some(n / 2), |k| (*k > 1).then_some(k / 2)).map(|k| (k + 1) & !1);
     let shorter = sizes.flat_map(move |k| {
-        (0..n)
-            .step_by(2)
-            .filter(move |i| k > 0 && i + k <= n)
-            .map(move |i| {
-                let mut s = slots.to_vec();
-                s.drain(i..i + k);
-                s
-            })
+        (0..n).step_by(2).filter(move |i| k > 0 && i + k <= n).map(move |i| {
+            let mut s = slots.to_vec();
+            s.drain(i..i + k);
+            s
+        })
     });
     let lower = (0..n).flat_map(move |i| {
-        [slots[i] / 2, slots[i] & !63, slots[i].saturating_sub(1)]
-            .into_iter()
-            .filter(move |v| *v < slots[i])
-            .map(move |v| {
+        [slots[i] / 2, slots[i] & !63, slots[i].saturating_sub(1)].into_iter().filter(move |v| *v < slots[i]).map(
+            move |v| {
                 let mut s = slots.to_vec();
                 s[i] = v;
                 s
-            })
+            },
+        )
     });
     shorter.chain(lower)
 }
 
 fn failed(what: &str, slots: &[u32]) -> Result<(), String> {
     let small = shrunken(slots.to_vec());
-    Err(format!(
-        "{what}: slots {small:?}\n  published {:?}\n  here      {:?}",
-        published::widths(&small),
-        ours(&small)
-    ))
+    Err(format!("{what}: slots {small:?}\n  published {:?}\n  here      {:?}", published::widths(&small), ours(&small)))
 }
 
 fn compare(r: &mut Random, count: u64) -> Result<(), String> {
     let mut counts = BTreeMap::new();
     for i in 0..count {
-        let class = if i == 0 {
-            Class::Empty
-        } else {
-            CLASSES[i as usize % CLASSES.len()]
-        };
+        let class = if i == 0 { Class::Empty } else { CLASSES[i as usize % CLASSES.len()] };
         let slots = lists::list(r, class);
         *counts.entry(class).or_insert(0u64) += 1;
         if differs(&slots) {
@@ -120,21 +107,14 @@ fn longest(r: &mut Random) -> Result<(), String> {
 
 /// Refusal 9 changes nothing.
 fn refusals(r: &mut Random) -> Result<(), String> {
-    let lengths = (0..200).chain([
-        4 * SLOTS_MOST - 4,
-        4 * SLOTS_MOST + 4,
-        4 * SLOTS_MOST + 8,
-        8 * SLOTS_MOST,
-    ]);
+    let lengths = (0..200).chain([4 * SLOTS_MOST - 4, 4 * SLOTS_MOST + 4, 4 * SLOTS_MOST + 8, 8 * SLOTS_MOST]);
     let mut tried = 0;
     for n in lengths.filter(|n| n % 8 != 0 || *n > 4 * SLOTS_MOST) {
         let bytes: Vec<u8> = (0..n).map(|_| r.u32() as u8).collect();
         let mut after = bytes.clone();
         let reply = host::fsk_widths_of_bytes(&mut after);
         if reply != 9 || after != bytes {
-            return Err(format!(
-                "{n} bytes: reply {reply}, 9 and nothing changed expected"
-            ));
+            return Err(format!("{n} bytes: reply {reply}, 9 and nothing changed expected"));
         }
         tried += 1;
     }
@@ -160,10 +140,7 @@ fn run() -> Result<(), String> {
     let (mut seed, mut count) = (1, 200_000);
     let mut args = std::env::args().skip(1);
     while let Some(a) = args.next() {
-        let number = |v: Option<String>| {
-            v.and_then(|v| v.parse().ok())
-                .ok_or(format!("{a}: a number"))
-        };
+        let number = |v: Option<String>| v.and_then(|v| v.parse().ok()).ok_or(format!("{a}: a number"));
         match a.as_str() {
             "--write" => {
                 write_sample();

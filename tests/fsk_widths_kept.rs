@@ -8,10 +8,7 @@ mod host;
 const SAMPLE: &str = include_str!("data/fsk_widths.txt");
 
 fn numbers(words: &str) -> Vec<u32> {
-    words
-        .split_whitespace()
-        .map(|w| w.parse().unwrap())
-        .collect()
+    words.split_whitespace().map(|w| w.parse().unwrap()).collect()
 }
 
 fn main() -> ExitCode {

@@ -128,16 +128,7 @@ fn bits_of_f64(r: &mut Random) -> u64 {
         6 => (r.below(1 << 48) as f64 / -128.0).to_bits(),
         7 => f64::from(float(r.u32())).to_bits(),
         8 => r.between(-3.0, 1e6).to_bits(),
-        _ => r.pick(&[
-            0,
-            1 << 63,
-            1,
-            NAN64,
-            0x7ff0 << 48,
-            0xfff0 << 48,
-            u64::MAX,
-            1 << 52,
-        ]),
+        _ => r.pick(&[0, 1 << 63, 1, NAN64, 0x7ff0 << 48, 0xfff0 << 48, u64::MAX, 1 << 52]),
     }
 }
 
@@ -148,27 +139,12 @@ fn bits_of_f32(r: &mut Random) -> u32 {
         3 => (r.below(1 << 12) as f32 / 8.0 - 100.0).to_bits(),
         // Around the smallest normal number, the largest, and one.
         4 => {
-            let at = r.pick(&[
-                0x0080_0000u32,
-                0x7f80_0000,
-                0x3f80_0000,
-                0x0da2_4260,
-                0x2690_1d7d,
-            ]);
+            let at = r.pick(&[0x0080_0000u32, 0x7f80_0000, 0x3f80_0000, 0x0da2_4260, 0x2690_1d7d]);
             at.wrapping_add_signed(r.below(64) as i32 - 32) | (r.u32() & 1) << 31
         }
         5 => (r.between(0.0, 1e18) as f32).to_bits(),
         6 => (r.between(-10.0, 10.0) as f32).to_bits(),
-        _ => r.pick(&[
-            0,
-            1 << 31,
-            1,
-            NAN32,
-            0x7f80_0000,
-            0xff80_0000,
-            u32::MAX,
-            0x007f_ffff,
-        ]),
+        _ => r.pick(&[0, 1 << 31, 1, NAN32, 0x7f80_0000, 0xff80_0000, u32::MAX, 0x007f_ffff]),
     }
 }
 
@@ -191,11 +167,7 @@ fn two_times(r: &mut Random) -> (u64, u64) {
     }
     let mut time = |powers: [u32; 3]| {
         let power = r.pick(&powers);
-        let part = if r.once_in(2) {
-            r.unit()
-        } else {
-            r.pick(&[0.0, 0.25, 0.5])
-        };
+        let part = if r.once_in(2) { r.unit() } else { r.pick(&[0.0, 0.25, 0.5]) };
         r.below(1 << power) as f64 + part
     };
     let start = time([4, 20, 41]);
@@ -235,72 +207,22 @@ fn either_zero(bits: u32) -> u32 {
 }
 
 fn conversions(run: &mut Run) -> Result<(), String> {
-    run.compare(
-        "round",
-        bits_of_f64,
-        |x| leaf_round(x),
-        |x| bits64(double(x).round()),
-    )?;
-    run.compare(
-        "narrow",
-        bits_of_f64,
-        |x| leaf_narrow(x),
-        |x| bits32(double(x) as f32),
-    )?;
-    run.compare(
-        "to_u32",
-        bits_of_f64,
-        |x| leaf_to_u32(x),
-        |x| double(x) as u32,
-    )?;
-    run.compare(
-        "to_u64",
-        bits_of_f64,
-        |x| leaf_to_u64(x),
-        |x| double(x) as u64,
-    )?;
+    run.compare("round", bits_of_f64, |x| leaf_round(x), |x| bits64(double(x).round()))?;
+    run.compare("narrow", bits_of_f64, |x| leaf_narrow(x), |x| bits32(double(x) as f32))?;
+    run.compare("to_u32", bits_of_f64, |x| leaf_to_u32(x), |x| double(x) as u32)?;
+    run.compare("to_u64", bits_of_f64, |x| leaf_to_u64(x), |x| double(x) as u64)?;
     let any32 = |r: &mut Random| r.u32() >> r.below(32);
     let any64 = |r: &mut Random| r.u64() >> r.below(64);
-    run.compare(
-        "u32_to_f32",
-        any32,
-        |x| leaf_u32_to_f32(x),
-        |n| (n as f32).to_bits(),
-    )?;
-    run.compare(
-        "u64_to_f64",
-        any64,
-        |x| leaf_u64_to_f64(x),
-        |n| (n as f64).to_bits(),
-    )?;
-    run.compare(
-        "lead_len",
-        any32,
-        |x| leaf_lead_len(x),
-        published::lead_len_of,
-    )
+    run.compare("u32_to_f32", any32, |x| leaf_u32_to_f32(x), |n| (n as f32).to_bits())?;
+    run.compare("u64_to_f64", any64, |x| leaf_u64_to_f64(x), |n| (n as f64).to_bits())?;
+    run.compare("lead_len", any32, |x| leaf_lead_len(x), published::lead_len_of)
 }
 
 fn of_f32(run: &mut Run) -> Result<(), String> {
-    run.compare(
-        "midpoint",
-        two_of_f32,
-        |(a, b)| leaf_midpoint(a, b),
-        |(a, b)| published::midpoint(a, b),
-    )?;
+    run.compare("midpoint", two_of_f32, |(a, b)| leaf_midpoint(a, b), |(a, b)| published::midpoint(a, b))?;
     run.compare("flush", bits_of_f32, |x| leaf_flush(x), published::flush)?;
-    run.compare(
-        "a_gain",
-        bits_of_f32,
-        |x| leaf_a_gain(x),
-        published::a_gain_bits,
-    )?;
-    run.compare(
-        "atan2_fast",
-        two_of_f32,
-        |(y, x)| leaf_atan2_fast(y, x),
-        |(y, x)| published::atan2_fast_bits(y, x),
-    )?;
+    run.compare("a_gain", bits_of_f32, |x| leaf_a_gain(x), published::a_gain_bits)?;
+    run.compare("atan2_fast", two_of_f32, |(y, x)| leaf_atan2_fast(y, x), |(y, x)| published::atan2_fast_bits(y, x))?;
     run.compare(
         "max",
         two_of_f32,
@@ -317,11 +239,7 @@ fn of_f32(run: &mut Run) -> Result<(), String> {
         "cross",
         |r| {
             let (prev, cur) = two_of_f32(r);
-            let thr = if r.once_in(3) {
-                bits_of_f32(r)
-            } else {
-                float(prev).midpoint(float(cur)).to_bits()
-            };
+            let thr = if r.once_in(3) { bits_of_f32(r) } else { float(prev).midpoint(float(cur)).to_bits() };
             (prev, cur, thr)
         },
         |(prev, cur, thr)| leaf_cross(prev, cur, thr),
@@ -332,78 +250,33 @@ fn of_f32(run: &mut Run) -> Result<(), String> {
 fn of_times(run: &mut Run) -> Result<(), String> {
     run.compare(
         "edge",
-        |r| {
-            (
-                r.u64() >> r.below(64),
-                if r.once_in(2) {
-                    r.unit().to_bits()
-                } else {
-                    bits_of_f64(r)
-                },
-            )
-        },
+        |r| (r.u64() >> r.below(64), if r.once_in(2) { r.unit().to_bits() } else { bits_of_f64(r) }),
         |(idx, frac)| leaf_edge(idx, frac),
         |(idx, frac)| published::edge_bits(idx, frac),
     )?;
-    run.compare(
-        "whole",
-        bits_of_f64,
-        |x| leaf_whole(x),
-        published::whole_bits,
-    )?;
-    run.compare(
-        "step_of",
-        bits_of_f64,
-        |x| leaf_step_of(x),
-        published::step_of_bits,
-    )?;
-    run.compare(
-        "width",
-        two_times,
-        |(a, b)| leaf_width(a, b),
-        |(a, b)| published::width_bits(a, b),
-    )?;
-    run.compare(
-        "fsk_width",
-        two_times,
-        |(a, b)| leaf_fsk_width(a, b),
-        |(a, b)| published::fsk_width_bits(a, b),
-    )?;
-    run.compare(
-        "run_fix",
-        bits_of_f64,
-        |x| leaf_run_fix(x),
-        published::run_fix_bits,
-    )
+    run.compare("whole", bits_of_f64, |x| leaf_whole(x), published::whole_bits)?;
+    run.compare("step_of", bits_of_f64, |x| leaf_step_of(x), published::step_of_bits)?;
+    run.compare("width", two_times, |(a, b)| leaf_width(a, b), |(a, b)| published::width_bits(a, b))?;
+    run.compare("fsk_width", two_times, |(a, b)| leaf_fsk_width(a, b), |(a, b)| published::fsk_width_bits(a, b))?;
+    run.compare("run_fix", bits_of_f64, |x| leaf_run_fix(x), published::run_fix_bits)
 }
 
 fn all() -> Result<(), String> {
     let (mut seed, mut cases) = (1, 1_000_000);
     let mut args = std::env::args().skip(1);
     while let Some(a) = args.next() {
-        let number = args
-            .next()
-            .and_then(|v| v.parse().ok())
-            .ok_or(format!("{a}: a number"))?;
+        let number = args.next().and_then(|v| v.parse().ok()).ok_or(format!("{a}: a number"))?;
         match a.as_str() {
             "--seed" => seed = number,
             "--cases" => cases = number,
             _ => return Err(format!("unknown option {a}")),
         }
     }
-    let mut run = Run {
-        r: Random::new(seed),
-        cases,
-        names: Vec::new(),
-    };
+    let mut run = Run { r: Random::new(seed), cases, names: Vec::new() };
     conversions(&mut run)?;
     of_f32(&mut run)?;
     of_times(&mut run)?;
-    println!(
-        "{} functions agree in {cases} cases each: {}",
-        run.names.len(),
-        run.names.join(", ")
-    );
+    println!("{} functions agree in {cases} cases each: {}", run.names.len(), run.names.join(", "));
     Ok(())
 }
 

@@ -81,10 +81,7 @@ impl Operands<'_> {
     }
 
     fn c32(&mut self) -> C32 {
-        C32 {
-            re: self.f32(),
-            im: self.f32(),
-        }
+        C32 { re: self.f32(), im: self.f32() }
     }
 
     fn opening(mut self) -> Opening {
@@ -114,12 +111,7 @@ impl Operands<'_> {
     }
 
     fn step(mut self) -> Step {
-        Step {
-            index: self.u64(),
-            noise: self.f32(),
-            envelope: self.f32(),
-            sample: self.c32(),
-        }
+        Step { index: self.u64(), noise: self.f32(), envelope: self.f32(), sample: self.c32() }
     }
 }
 
@@ -150,11 +142,7 @@ fn settings(o: &Opening) -> Option<Params> {
         && within(o.gap_ratio, RATIO_MOST)
         && within(o.fsk_delta, RATIO_MOST)
         && within(o.fsk_split, RATIO_MOST);
-    let Derived {
-        fsk_min,
-        lead_len,
-        refine_at,
-    } = derived(o.min_steps);
+    let Derived { fsk_min, lead_len, refine_at } = derived(o.min_steps);
     good.then_some(Params {
         modulation,
         alpha: o.alpha,
@@ -182,6 +170,15 @@ pub struct Receiver {
     before: C32,
     ook: Vec<u32>,
     fsk: Vec<u32>,
+    record: Vec<Sample>,
+}
+
+/// A sample of a burst's record (document 01, "Lists, burst records and pulses"): its level, and the edge of the run under way
+/// as it stands after the sample.
+#[derive(Clone, Copy)]
+pub struct Sample {
+    pub high: bool,
+    pub edge: f64,
 }
 
 impl Receiver {
@@ -193,6 +190,7 @@ impl Receiver {
             before: C32::default(),
             ook: vec![0; BUFFER_SLOTS],
             fsk: vec![0; BUFFER_SLOTS],
+            record: Vec::new(),
         }
     }
 
@@ -247,9 +245,9 @@ impl Receiver {
             return Err(8);
         }
         self.enter(b.index, b.envelope);
+        self.record.clear();
         self.before = b.sample;
-        self.lane
-            .begin_lead(b.index, b.factor, b.envelope, b.sample, b.before);
+        self.lane.begin_lead(b.index, b.factor, b.envelope, b.sample, b.before);
         // `history` reads the envelopes in the order of time, with begin's own last.
         let mut env = [0.0; HIST];
         env[HIST - 1] = b.envelope;
@@ -267,9 +265,7 @@ impl Receiver {
         if s.index > INDEX_MOST || s.index != self.last + 1 {
             return Err(6);
         }
-        let values = within(s.noise, VALUE_MOST)
-            && within(s.envelope, VALUE_MOST)
-            && sample_within(s.sample);
+        let values = within(s.noise, VALUE_MOST) && within(s.envelope, VALUE_MOST) && sample_within(s.sample);
         if !values {
             return Err(7);
         }
@@ -278,23 +274,82 @@ impl Receiver {
         }
         self.enter(s.index, s.envelope);
         let before = std::mem::replace(&mut self.before, s.sample);
-        let mut pairs = LanePairs {
-            ook: &mut self.ook,
-            fsk: &mut self.fsk,
-        };
+        let mut pairs = LanePairs { ook: &mut self.ook, fsk: &mut self.fsk };
         let next = if self.lane.mode == LEAD {
-            self.lane
-                .lead(&p, s.noise, &mut pairs, s.envelope, s.sample)
+            let filling = self.lane;
+            let next = self.lane.lead(&p, s.noise, &mut pairs, s.envelope, s.sample);
+            if self.lane.mode == BURST {
+                self.record = replayed(filling, &p, s);
+            }
+            next
         } else {
-            self.lane.sample(
-                &p, s.noise, &mut pairs, s.envelope, s.sample, before, s.index,
-            )
+            let next = self.lane.sample(&p, s.noise, &mut pairs, s.envelope, s.sample, before, s.index);
+            self.record.push(sample_of(&self.lane));
+            next
         };
         if next != Next::Stay {
             self.lane.mode = IDLE;
         }
         Ok(next)
     }
+}
+
+fn sample_of(lane: &Lane) -> Sample {
+    Sample { high: lane.level == 1, edge: lane.t_run }
+}
+
+/// The samples of the lead that the step fills, as `lead` replays them: up to the first answer that is not stay.
+fn replayed(mut lane: Lane, p: &Params, s: &Step) -> Vec<Sample> {
+    let len = p.lead_len as usize;
+    lane.lead_e[len - 1] = s.envelope;
+    lane.lead_x[len] = s.sample;
+    lane.high = lane.lead_e[..len].iter().fold(0.0, |m, &v| if v > m { v } else { m });
+    lane.begin_burst(lane.lead_at as f64, lane.lead_e[0]);
+    let mut pairs = LanePairs { ook: &mut [], fsk: &mut [] };
+    let mut samples = Vec::new();
+    for i in 0..len {
+        let (e, x, xp) = (lane.lead_e[i], lane.lead_x[i + 1], lane.lead_x[i]);
+        let next = lane.sample(p, s.noise, &mut pairs, e, x, xp, lane.lead_at + i as u64);
+        samples.push(sample_of(&lane));
+        if next != Next::Stay {
+            break;
+        }
+    }
+    samples
+}
+
+/// A decided OOK train: its cut mark and its pulses' widths.
+pub struct Train {
+    pub cut: bool,
+    pub widths: Vec<u32>,
+}
+
+/// What demand 3 speaks of.
+impl Receiver {
+    /// min_steps and max_pulses of a lane in OOK mode.
+    pub fn in_ook_mode(&self) -> Option<(usize, usize)> {
+        let p = self.settings.filter(|p| p.modulation == PulseModulation::Ook)?;
+        Some((p.min_steps as usize, p.max_pulses as usize))
+    }
+
+    /// The samples of the burst so far; none before its lead is full.
+    pub fn record(&self) -> &[Sample] {
+        &self.record
+    }
+
+    /// The OOK train that the last accepted call decided.
+    pub fn decided(&self) -> Option<Train> {
+        let r = &self.lane.out[0];
+        (r.state == OUT_DECIDE).then(|| Train {
+            cut: r.flags == 1,
+            widths: self.ook[..2 * r.pairs as usize].iter().step_by(2).copied().collect(),
+        })
+    }
+}
+
+/// The width between two edges.
+pub fn width_between(a: f64, b: f64) -> u32 {
+    width(a, b)
 }
 
 /// The bits of a float; every NaN as one.
@@ -309,14 +364,7 @@ fn train(out: &mut impl Write, kind: &str, r: &Out, buffer: &[u32]) -> io::Resul
     }
     let widths = buffer.get(..2 * r.pairs as usize).unwrap_or_default();
     let span: u64 = widths.iter().map(|&w| u64::from(w)).sum();
-    write!(
-        out,
-        "{kind} {} {} {} {span} {:08x} ",
-        r.index,
-        r.end,
-        r.flags,
-        bits(r.level)
-    )?;
+    write!(out, "{kind} {} {} {} {span} {:08x} ", r.index, r.end, r.flags, bits(r.level))?;
     match r.freq {
         Carrier::Angle(a) => write!(out, "angle {:08x}", bits(a))?,
         Carrier::Vector(re, im) => write!(out, "vector {:08x} {:08x}", bits(re), bits(im))?,

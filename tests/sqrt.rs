@@ -22,21 +22,13 @@ fn expected(bits: u32) -> u32 {
 
 fn compare(bits: u32) -> Result<(), String> {
     let (here, right) = (host::sqrt(bits), expected(bits));
-    if here == right {
-        Ok(())
-    } else {
-        Err(format!(
-            "root of {bits:08x}: {here:08x}, the processor gives {right:08x}"
-        ))
-    }
+    if here == right { Ok(()) } else { Err(format!("root of {bits:08x}: {here:08x}, the processor gives {right:08x}")) }
 }
 
 /// Patterns at both ends and in the middle of each binade, both signs; zeros, infinities and NaNs are among them.
 fn edges() -> impl Iterator<Item = u32> {
     (0..512u32).flat_map(|binade| {
-        let digits = (0..64u32)
-            .chain((1 << 22) - 32..(1 << 22) + 32)
-            .chain((1 << 23) - 64..1 << 23);
+        let digits = (0..64u32).chain((1 << 22) - 32..(1 << 22) + 32).chain((1 << 23) - 64..1 << 23);
         digits.map(move |d| binade << 23 | d)
     })
 }

@@ -2,9 +2,9 @@
 //!
 //!     streams [--seed N] [--calls N] [--kind KIND] [--census]
 //!
-//! Kinds: ook, fsk, auto (settings of that mode), edges (values and settings at and past the ends of the domain), damaged
-//! (commands with changed, lost or repeated bytes; such a stream may end early) and any (one of them, by the seed). With
-//! --census the kinds of calls and replies are counted on standard error.
+//! Kinds: ook, fsk, auto (settings of that mode), exact (values that meet thresholds and ties exactly), edges (values and
+//! settings at and past the ends of the domain), damaged (commands with changed, lost or repeated bytes; such a stream may end
+//! early) and any (one of them, by the seed). With --census the kinds of calls and replies are counted on standard error.
 
 use std::io::{self, Write};
 
@@ -12,8 +12,10 @@ mod generator;
 mod random;
 #[allow(dead_code)]
 mod receiver;
+mod signal;
 
-use generator::{KINDS, stream};
+use generator::stream;
+use signal::KINDS;
 
 fn main() -> io::Result<()> {
     let (mut seed, mut calls, mut kind, mut census) = (1u64, 10_000u64, None, false);
@@ -42,6 +44,6 @@ fn main() -> io::Result<()> {
 }
 
 fn usage() -> ! {
-    eprintln!("streams [--seed N] [--calls N] [--kind ook|fsk|auto|edges|damaged|any] [--census]");
+    eprintln!("streams [--seed N] [--calls N] [--kind ook|fsk|auto|exact|edges|damaged|any] [--census]");
     std::process::exit(2)
 }

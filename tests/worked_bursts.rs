@@ -54,16 +54,8 @@ fn table() -> Vec<(&'static str, Vec<u8>, &'static str)> {
     let m7 = [&[0.0][..], &high, &[0.0], &high[..3], &[0.0; 5]].concat();
     let twice = [burst(&m6), begin(30, 0.0), step(31, 0.0)].concat();
     vec![
-        (
-            "M6",
-            burst(&m6),
-            "ook 11 15 0 4 41000000 vector 40800000 00000000 1 4 0\nidle 19\n",
-        ),
-        (
-            "M7",
-            burst(&m7),
-            "ook 11 19 0 8 41000000 vector 40e00000 00000000 1 8 0\nidle 23\n",
-        ),
+        ("M6", burst(&m6), "ook 11 15 0 4 41000000 vector 40800000 00000000 1 4 0\nidle 19\n"),
+        ("M7", burst(&m7), "ook 11 19 0 8 41000000 vector 40e00000 00000000 1 8 0\nidle 23\n"),
         ("M8", burst(&[0.0; 7]), "idle 16\n"),
         ("M8 and a minus zero", burst(&[-0.0; 7]), "idle 16\n"),
         ("M10, 0", pulses(0), "refused 3\n"),
@@ -75,44 +67,17 @@ fn table() -> Vec<(&'static str, Vec<u8>, &'static str)> {
         ("a cut command", opening(M)[..37].to_vec(), "refused 2\n"),
         ("begin before settings", begin(0, 0.0), "refused 3\n"),
         ("step before settings", step(0, 0.0), "refused 5\n"),
-        (
-            "begin in a burst",
-            [burst(&[0.0]), begin(11, 0.0)].concat(),
-            "refused 5\n",
-        ),
-        (
-            "step out of order",
-            [burst(&[0.0]), step(12, 0.0)].concat(),
-            "refused 6\n",
-        ),
-        (
-            "an index above the domain",
-            [opening(M), begin((1 << 40) + 1, 0.0)].concat(),
-            "refused 6\n",
-        ),
-        (
-            "no number",
-            [burst(&[0.0]), step(11, f32::NAN)].concat(),
-            "refused 7\n",
-        ),
-        (
-            "no room for the pulses",
-            [pulses(2049), begin(0, 0.0)].concat(),
-            "refused 8\n",
-        ),
-        (
-            "M6, then a burst under way",
-            twice,
-            "ook 11 15 0 4 41000000 vector 40800000 00000000 1 4 0\nidle 19\n",
-        ),
+        ("begin in a burst", [burst(&[0.0]), begin(11, 0.0)].concat(), "refused 5\n"),
+        ("step out of order", [burst(&[0.0]), step(12, 0.0)].concat(), "refused 6\n"),
+        ("an index above the domain", [opening(M), begin((1 << 40) + 1, 0.0)].concat(), "refused 6\n"),
+        ("no number", [burst(&[0.0]), step(11, f32::NAN)].concat(), "refused 7\n"),
+        ("no room for the pulses", [pulses(2049), begin(0, 0.0)].concat(), "refused 8\n"),
+        ("M6, then a burst under way", twice, "ook 11 15 0 4 41000000 vector 40800000 00000000 1 4 0\nidle 19\n"),
     ]
 }
 
 fn printed(program: &str, input: &[u8]) -> std::io::Result<String> {
-    let mut child = Command::new(program)
-        .stdin(Stdio::piped())
-        .stdout(Stdio::piped())
-        .spawn()?;
+    let mut child = Command::new(program).stdin(Stdio::piped()).stdout(Stdio::piped()).spawn()?;
     // These inputs are shorter than a pipe holds. A program that has met refusal 1 may close its input early.
     drop(child.stdin.take().unwrap().write_all(input));
     Ok(String::from_utf8_lossy(&child.wait_with_output()?.stdout).into_owned())

@@ -20,7 +20,8 @@ use Rattle.arith.proofs.Short.{short, in-units, in-units-exact}
 use Rattle.arith.proofs.Near.{round-near, round-tie, kept-most, kept-least}
 use Rattle.arith.proofs.Pack.{units-over, bits-of-units}
 use Rattle.arith.proofs.Fields.{narrowOf-at}
-use Rattle.arith.proofs.Integral.{rescale, neg-round}
+use Rattle.arith.proofs.Integral.{neg-round}
+use Rattle.arith.proofs.Values.{rescale, value-is-finite}
 
 sign-of-value : (x : Float) (s : Bool) (a c : ℕ) → HasValue x s a c → signOf x ≡ s
 sign-of-value nan s a c v = absurd v
@@ -107,12 +108,7 @@ module _ (s : Bool) (u : ℕ) where
       more g k = mul-le-mul-right (2 ^ 925) k
 
   plain : u < limit32 → T (finite y)
-  plain h = go y (value (in-range h))
-    where
-      go : (x : Float) → HasValue x s g (2 ^ 149) → T (finite x)
-      go nan v = absurd v
-      go (inf t) v = absurd v
-      go (fin t m e) v = tt
+  plain h = value-is-finite y s g (2 ^ 149) (value (in-range h))
 
   -- ---- against a z of q * 2 ^ k units of binary32 with the sign t
   dist-y : T (finite y) → distance s u (signOf y) (inUnits binary64 y) ≡ apart u (g * 2 ^ 925)

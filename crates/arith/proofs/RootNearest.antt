@@ -1,25 +1,26 @@
 -- The root of a positive f32 is the nearest f32 to the exact root, and there is never a tie (`nearest-root`). Assumes nothing.
 use mathlib.Core.Path.{_≡_, refl, sym, ap, _∙_, subst}
-use mathlib.Core.Bool.{true, false}
+use mathlib.Core.Logic.{⊎-elim}
+use mathlib.Core.Bool.{Bool, true, false, not}
 use Prim.Native.Nat.{ℕ, suc, _+_, _*_, _/_, _%_, _^_, _≤_, _<_}
-use native.Mathlib.Nat.{le-of-lt, lt-of-lt-of-le, zero-lt-suc, mul-assoc, mul-comm, mul-lt-mul-of-pos-right, pow-suc}
+use native.Mathlib.Nat.{eq-or-lt-of-le, le-of-lt, lt-of-lt-of-le, zero-lt-suc, mul-assoc, mul-comm, mul-lt-mul-of-pos-right, pow-suc}
 use native.Mathlib.Omega.{arith}
-use lib.Dec.{T, ltb}
+use lib.Dec.{T, leb, ltb, leb→le, nleb→lt}
 use lib.Pow.{pow-add, pow-pos, pow-mono, shl-lt}
-use lib.Ieee.{Float, nan, inf, fin, binary32, size, odd, nearest, fits}
+use lib.Ieee.{Float, nan, inf, fin, binary32, units, size, nearest, fits}
 use lib.Ieee.Digits.{size-le}
-use lib.Ieee.Fits.{odd-fits}
-use lib.Ieee.Exact.{HasValue, odd-sign}
+use lib.Ieee.Exact.{HasValue, units-val}
 use lib.Ieee.Positive.{num, den, positive, positive-finite, value-pos, first-pos}
 use Rattle.arith.specs.Root.{wholeRoot, brought, power, dropped, exactOf, roundExactOf, sqrtOf}
 use Rattle.arith.specs.Units.{inUnits}
 use Rattle.arith.specs.RootNearest.{OnSide, NearestRoot}
+use Rattle.arith.proofs.Values.{value-unique, value-is-finite}
 use Rattle.arith.proofs.Short.{short, in-units}
 use Rattle.arith.proofs.RootWhole.{wholeRoot-is}
 use Rattle.arith.proofs.RootBrought.{four-pow}
 use Rattle.arith.proofs.RootDigits.{Kept, kept}
 use Rattle.arith.proofs.RootSides.{nearer}
-use Rattle.arith.proofs.RootPatterns.{units-is}
+use Rattle.arith.proofs.Pack.{units-fit}
 use Rattle.arith.proofs.RootAssembled.{round-exact-is}
 use Rattle.arith.proofs.RootValue.{root-is}
 use Rattle.arith.proofs.RootSteps.{Ready, ready, in-25}
@@ -59,12 +60,9 @@ module _ (m j : ℕ) (p : 0 < m) (small : m < 2 ^ 24) (within : m * 2 ^ j < 2 ^ 
       at-most : (s : ℕ) → s ≤ 278 → (s + 1) / 2 + 50 ≤ 253
       at-most s h = omega arith
 
-  q-pos : 0 < q
-  q-pos = lt-of-lt-of-le (pow-pos 23) (keeps .least)
-
-  result : roundExactOf (exactOf v) ≡ odd 24 false q k 149
+  result : roundExactOf (exactOf v) ≡ units binary32 false q k
   unfolding exactOf
-  result = round-exact-is r (ltb (r * r) n) (power v) ∙ units-is q k q-pos (keeps .most) k-le
+  result = round-exact-is r (ltb (r * r) n) (power v)
 
   -- four times the operand, as the middles' squares are measured
   scale : 4 * (m * 2 ^ j * 2 ^ 149) ≡ n * (2 ^ k * 2 ^ k)
@@ -86,14 +84,14 @@ module _ (m j : ℕ) (p : 0 < m) (small : m < 2 ^ 24) (within : m * 2 ^ j < 2 ^ 
       more x h = omega arith
 
   y-value : HasValue (roundExactOf (exactOf v)) false (q * 2 ^ k) (2 ^ 149)
-  y-value = subst (λ (x : Float). HasValue x false (q * 2 ^ k) (2 ^ 149)) (sym result) (odd-sign 24 false q k 149)
+  y-value = subst (λ (x : Float). HasValue x false (q * 2 ^ k) (2 ^ 149)) (sym result) (units-val binary32 false q k q-within)
 
   root-nearest : (x : Float) → inUnits binary32 x ≡ m * 2 ^ j → NearestRoot x (roundExactOf (exactOf v))
   root-nearest x e =
       let y = roundExactOf (exactOf v) in
       let i : inUnits binary32 y ≡ q * 2 ^ k = in-units binary32 y false (q * 2 ^ k) y-value in
       record {
-        held = subst (λ (x : Float). T (fits binary32 x)) (sym result) (odd-fits binary32 24 false q k (keeps .most) (le-of-lt (keeps .most)) q-within);
+        held = subst (λ (x : Float). T (fits binary32 x)) (sym result) (units-fit binary32 false q k (le-of-lt (keeps .most)));
         plain = subst (λ (u : ℕ). HasValue y false u (2 ^ 149)) (sym i) y-value;
         nearest = λ z f t.
             let s = short binary32 z f t in
@@ -121,3 +119,26 @@ nearest-root x f t =
     subst (λ (y : Float). NearestRoot x y)
     (sym (root-is x (s .m * 2 ^ (s .j)) u h ∙ ap (λ (v : ℕ). roundExactOf (exactOf v)) (twice (s .m) (s .j) p (s .small) (s .within))))
     (root-nearest (s .m) (s .j) p (s .small) (s .within) x (s .size-is))
+
+-- only one number is such: of two, each would be strictly the nearer
+pub root-unique : (x y z : Float) → NearestRoot x y → NearestRoot x z → y ≡ z
+root-unique x y z a b =
+    let u = inUnits binary32 y in
+    let v = inUnits binary32 z in
+    let p = a .nearest z (b .held) (value-is-finite z false v (2 ^ 149) (b .plain)) in
+    let q = b .nearest y (a .held) (value-is-finite y false u (2 ^ 149) (a .plain)) in
+    let e : u ≡ v = same u v (4 * (inUnits binary32 x * 2 ^ 149)) (p .0) (p .1) (q .0) (q .1) in
+    value-unique binary32 y z false v (a .held) (b .held) (subst (λ (n : ℕ). HasValue y false n (2 ^ 149)) e (a .plain)) (b .plain)
+  where
+    flip : (u v : ℕ) → (u + v) * (u + v) ≡ (v + u) * (v + u)
+    flip u v = let e : u + v ≡ v + u = omega arith in ap (λ (n : ℕ). n * n) e
+
+    same : (u v w : ℕ) → (v < u → (u + v) * (u + v) < w) → (u < v → w < (u + v) * (u + v)) → (u < v → (v + u) * (v + u) < w) → (v < u → w < (v + u) * (v + u)) → u ≡ v
+    same u v w a b c d = go (leb u v) (leb→le u v) (nleb→lt u v)
+      where
+        clash : (i j : ℕ) → i ≡ j → i < w → w < j → ⊥
+        clash i j e l h = omega arith
+
+        go : (t : Bool) → (T t → u ≤ v) → (T (not t) → v < u) → u ≡ v
+        go true l g = ⊎-elim (λ (e : u ≡ v). e) (λ (h : u < v). absurd (clash ((v + u) * (v + u)) ((u + v) * (u + v)) (flip v u) (c h) (b h))) (eq-or-lt-of-le (l tt))
+        go false l g = absurd (clash ((u + v) * (u + v)) ((v + u) * (v + u)) (flip u v) (a (g tt)) (d (g tt)))

@@ -1,19 +1,20 @@
 -- Special operands: zeros, plus infinity, NaN and negatives. Assumes nothing.
 use mathlib.Core.Path.{_≡_, refl, sym, ap, _∙_, subst}
+use mathlib.Core.Logic.{⊎-elim}
 use mathlib.Core.Bool.{Bool, true, false, not, cond}
-use Prim.Native.Nat.{ℕ, zero, suc, _+_, _*_, _/_, _%_, _^_, _≤_, _<_}
-use native.Mathlib.Nat.{mul-pos, zero-mul}
+use Prim.Native.Nat.{ℕ, zero, suc, _+_, _-_, _*_, _/_, _%_, _^_, _≤_, _<_}
+use native.Mathlib.Nat.{mul-pos, zero-mul, zero-lt-suc, eq-or-lt-of-le}
 use native.Mathlib.Omega.{arith}
 use lib.Dec.{T, leb, ltb, eqb, le→leb, ltb→lt, nltb→le}
 use lib.Pow.{pow-pos}
 use lib.IntN.{ℤ}
-use lib.Ieee.{Float, nan, inf, fin, binary32, up, down, odd, lt, fits, isNan, ofFields, ofBits, toBits}
+use lib.Ieee.{Float, nan, inf, fin, binary32, up, down, lt, fits, isNan, ofFields, ofBits, toBits}
 use lib.Ieee.Bits.{is-true, ofBits-toBits, nanBits-is, nanBits-above}
-use lib.Ieee.Exact.{HasValue, odd-sign}
+use lib.Ieee.Exact.{HasValue}
 use Rattle.arith.specs.Leaves.{zero32}
 use Rattle.arith.specs.Root.{sqrtOf}
 use Rattle.arith.specs.RootNearest.{SpecialRoots}
-use Rattle.arith.proofs.RootPatterns.{ofBits-is}
+use Rattle.arith.proofs.Fields.{ofBits-fields, value-zero, value-finite}
 use Rattle.arith.proofs.RootValue.{nothing-left}
 use Rattle.arith.proofs.Signs.{lt-neg, lt-plus, never}
 
@@ -58,18 +59,21 @@ negative-value nan u p h = absurd h
 negative-value (inf t) u p h = absurd h
 negative-value (fin t m e) u p h = below-zero t m e u p (h .0) (h .1)
 
-at-infinity : (a b : Bool) (x : Float) → sqrtOf x ≡ nan → sqrtOf (cond a (cond b (inf true) nan) x) ≡ nan
-unfolding sqrtOf
-at-infinity true true x h = refl
-at-infinity true false x h = refl
-at-infinity false b x h = h
-
-negative-fields : (f t : ℕ) → (f ≡ 0 → 0 < t) → sqrtOf (ofFields binary32 true f t) ≡ nan
+-- by the fields: a subnormal, a number, an infinity or a NaN
+at-top : (t : ℕ) → sqrtOf (ofFields binary32 true 255 t) ≡ nan
 unfolding ofFields
-negative-fields zero t p = negative-value (odd 24 true t 0 149) (t * 2 ^ 0) (mul-pos (p refl) (pow-pos 0)) (odd-sign 24 true t 0 149)
-negative-fields (suc f) t p =
-    at-infinity (eqb (suc f) 255) (eqb t 0) (odd 24 true (8388608 + t) f 149)
-    (negative-value (odd 24 true (8388608 + t) f 149) ((8388608 + t) * 2 ^ f) (mul-pos (lead t) (pow-pos f)) (odd-sign 24 true (8388608 + t) f 149))
+at-top t = go (eqb t 0)
+  where
+    go : (b : Bool) → sqrtOf (cond b (inf true) nan) ≡ nan
+    go true = unfold sqrtOf in refl
+    go false = unfold sqrtOf in refl
+
+negative-fields : (f t : ℕ) → f ≤ 255 → (f ≡ 0 → 0 < t) → sqrtOf (ofFields binary32 true f t) ≡ nan
+negative-fields zero t h p = negative-value (ofFields binary32 true 0 t) t (p refl) (value-zero binary32 true t)
+negative-fields (suc f) t h p =
+    ⊎-elim (λ (e : suc f ≡ 255). ap (λ (x : ℕ). sqrtOf (ofFields binary32 true x t)) e ∙ at-top t)
+    (λ (l : suc f < 255). negative-value (ofFields binary32 true (suc f) t) ((8388608 + t) * 2 ^ (suc f - 1)) (mul-pos (lead t) (pow-pos (suc f - 1))) (value-finite binary32 true (suc f) t (zero-lt-suc f) l))
+    (eq-or-lt-of-le h)
   where
     lead : (t : ℕ) → 0 < 8388608 + t
     lead t = omega arith
@@ -77,8 +81,8 @@ negative-fields (suc f) t p =
 pub negative-root : (b : ℕ) → 2147483648 < b → b < 2 ^ 32 → sqrtOf (ofBits binary32 b) ≡ nan
 negative-root b h k =
     let l : 2147483648 ≤ b = omega arith in
-    ap sqrtOf (ofBits-is b ∙ ap (λ (s : Bool). ofFields binary32 s (b % 2147483648 / 8388608) (b % 8388608)) (is-true (leb 2147483648 b) (le→leb 2147483648 b l)))
-    ∙ negative-fields (b % 2147483648 / 8388608) (b % 8388608) (λ e. omega arith)
+    ap sqrtOf (ofBits-fields binary32 b ∙ ap (λ (s : Bool). ofFields binary32 s (b % 2147483648 / 8388608) (b % 8388608)) (is-true (leb 2147483648 b) (le→leb 2147483648 b l)))
+    ∙ negative-fields (b % 2147483648 / 8388608) (b % 8388608) (omega arith) (λ e. omega arith)
 
 -- ---- all of them
 below-zero-root : (x : Float) → T (lt x zero32) → sqrtOf x ≡ nan

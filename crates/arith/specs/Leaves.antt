@@ -23,6 +23,8 @@ zero64 = ofBits binary64 0
 abbrev pub one64 : Float
 one64 = ofBits binary64 0x3ff0_0000_0000_0000
 
+-- ---- what the Rust takes from its language and libraries
+
 -- abs (5.5.1): the magnitude, also of a zero
 unfoldable pub absOf : Float → Float
 absOf nan = nan
@@ -50,10 +52,11 @@ minOf a b = cond (isNan a) b (cond (lt b a) b a)
 abbrev pub clampOf : Float → Float
 clampOf x = cond (lt x zero64) zero64 (cond (lt one64 x) one64 x)
 
--- where the line from prev to cur crosses thr, as a part of the step; 1 unless the difference is above 0 in magnitude
-unfoldable pub crossOf : Float → Float → Float → Float
-unfolding absOf
-crossOf prev cur thr = cond (lt zero32 (absOf (sub binary32 cur prev))) (clampOf (div binary32 (sub binary32 thr prev) (sub binary32 cur prev))) one64
+-- ---- the leaves, in the Rust's order (atan2_fast: Angle.antt)
+
+-- the steps of the lead-in: BAND_PULSE_LEAD (16), at most 4 min_steps - 1, each operation saturating at a u32's ends
+abbrev pub leadLenOf : ℕ → ℕ
+leadLenOf m = min 16 (min (4 * m) (2 ^ 32 - 1) - 1)
 
 -- x times the conjugate of y
 abbrev pub cmulConjOf : C32 → C32 → C32
@@ -61,6 +64,11 @@ cmulConjOf x y = record {
   re = add binary32 (mul binary32 (x .re) (y .re)) (mul binary32 (x .im) (y .im));
   im = sub binary32 (mul binary32 (x .im) (y .re)) (mul binary32 (x .re) (y .im));
 }
+
+-- where the line from prev to cur crosses thr, as a part of the step; 1 unless the difference is above 0 in magnitude
+unfoldable pub crossOf : Float → Float → Float → Float
+unfolding absOf
+crossOf prev cur thr = cond (lt zero32 (absOf (sub binary32 cur prev))) (clampOf (div binary32 (sub binary32 thr prev) (sub binary32 cur prev))) one64
 
 -- the time of the crossing before the sample idx
 abbrev pub edgeOf : ℕ → Float → Float
@@ -88,10 +96,6 @@ widthOf a b = record { 0 = wholeOf (sub binary64 b a) }
 abbrev pub fskWidthOf : Float → Float → Steps
 fskWidthOf a b = record { 0 = wholeOf (sub binary64 (roundOf b) (roundOf a)) }
 
--- a time after the origin of a frame, in 64ths of a step
-abbrev pub runFixOf : Float → Fix64
-runFixOf t = record { 0 = wholeOf (mul binary64 t (ofBits binary64 0x4050_0000_0000_0000)) }
-
 -- the exponent's field of a pattern of binary32
 abbrev pub exponentOf : ℕ → ℕ
 exponentOf b = b / 2 ^ 23 % 256
@@ -100,6 +104,6 @@ exponentOf b = b / 2 ^ 23 % 256
 unfoldable pub gainOf : Float → Float
 gainOf e = cond (lt (ofBits binary32 0x0da2_4260) (mul binary32 e e)) (ofBits binary32 ((254 - exponentOf (toBits binary32 (mul binary32 e e))) * 2 ^ 23)) zero32
 
--- the steps of the lead-in: BAND_PULSE_LEAD (16), at most 4 min_steps - 1, each operation saturating at a u32's ends
-abbrev pub leadLenOf : ℕ → ℕ
-leadLenOf m = min 16 (min (4 * m) (2 ^ 32 - 1) - 1)
+-- a time after the origin of a frame, in 64ths of a step
+abbrev pub runFixOf : Float → Fix64
+runFixOf t = record { 0 = wholeOf (mul binary64 t (ofBits binary64 0x4050_0000_0000_0000)) }

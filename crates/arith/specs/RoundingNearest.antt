@@ -24,8 +24,9 @@ pub record NearestIntegral (x y : Float) : Type 0 where
   pub whole : HasValue y (signOf x) size 1
   pub nearest : (s : Bool) (k : ℕ) → toWhole x (signOf x) size ≤ toWhole x s k
   pub away : (s : Bool) (k : ℕ) → toWhole x (signOf x) size ≡ toWhole x s k → k ≤ size
-  -- a whole number is its own
+  -- a whole number is its own, and from 2 ^ 52 on there is no other
   pub own : (k : ℕ) → inUnits binary64 x ≡ k * 2 ^ 1074 → y ≡ x
+  pub large : 2 ^ 52 * 2 ^ 1074 ≤ inUnits binary64 x → y ≡ x
 
 -- 2 ^ 128 - 2 ^ 103: half way from the largest f32 to 2 ^ 128, where the next would be
 abbrev pub limit32 : ℕ

@@ -1,5 +1,5 @@
 -- `laneSqrtOf` gives what document 01 asks of the special operands. Assumes nothing.
-use mathlib.Core.Path.{_≡_, refl, ap, _∙_}
+use mathlib.Core.Path.{refl, ap, _∙_}
 use lib.Ieee.{binary32, ofBits, toBits}
 use Rattle.arith.specs.Root.{sqrtOf}
 use Rattle.arith.proofs.Nan.{nan-read, nan-written32}

@@ -1,12 +1,14 @@
--- Document 01, "Worked bursts": the examples M1 to M5 as one table. A row has a question and the numbers that the paper gives for it.
+-- Document 01, "Worked bursts": the examples M1 to M5 and M9 as one table. A row has a question and the numbers that the paper gives for it.
 -- A question of a further kind is a constructor of `Asked` and a clause of `answer`.
 use Prim.Native.Nat.{ℕ}
 use mathlib.Core.Path.{_≡_}
 use mathlib.Core.List.{List, [], _∷_, map}
-use lib.Ieee.{binary32, binary64, ofBits, toBits, sub, mul, div, lt}
+use lib.Ieee.{binary32, binary64, ofBits, toBits, ofInt, isNan, sub, mul, div, lt}
 use Rattle.arith.specs.Rounding.{roundOf}
 use Rattle.arith.specs.Root.{sqrtOf}
-use Rattle.arith.specs.Leaves.{crossOf, gainOf, leadLenOf}
+use Rattle.arith.specs.Leaves.{crossOf, gainOf, leadLenOf, nearestIn}
+use Rattle.grid.specs.Slots.{timeOf, lastRiseBelow, lastRise, times, upTo, transitionsOf, fold}
+use Rattle.grid.specs.Widths.{shorterOf, runsStep, runsOf, addedOf, meanAfter, meanStep, meanOf, gridOf, measuredOf, widthsOn, fskWidthsOf}
 
 -- a float is its bit pattern
 pub data Asked : Type 0 where
@@ -15,18 +17,20 @@ pub data Asked : Type 0 where
   cross : ℕ → ℕ → ℕ → Asked
   a-gain : ℕ → Asked
   lead-len : ℕ → Asked
+  fsk-widths : List ℕ → Asked
 
 abbrev one : ℕ → List ℕ
 one n = n ∷ []
 
 -- the answer that the definition has
 unfoldable pub answer : Asked → List ℕ
-unfolding roundOf sqrtOf crossOf gainOf ofBits toBits sub mul div lt
+unfolding roundOf sqrtOf crossOf gainOf ofBits toBits ofInt isNan sub mul div lt nearestIn timeOf lastRiseBelow lastRise times upTo transitionsOf fold shorterOf runsStep runsOf addedOf meanAfter meanStep meanOf gridOf measuredOf widthsOn fskWidthsOf
 answer (round x) = one (toBits binary64 (roundOf (ofBits binary64 x)))
 answer (sqrt x) = one (toBits binary32 (sqrtOf (ofBits binary32 x)))
 answer (cross prev cur thr) = one (toBits binary64 (crossOf (ofBits binary32 prev) (ofBits binary32 cur) (ofBits binary32 thr)))
 answer (a-gain e) = one (toBits binary32 (gainOf (ofBits binary32 e)))
 answer (lead-len m) = one (leadLenOf m)
+answer (fsk-widths slots) = fskWidthsOf slots
 
 pub data Row : Type 0 where
   row : Asked → List ℕ → Row
@@ -65,4 +69,8 @@ table =
     ∷ row (lead-len 2) (7 ∷ [])
     ∷ row (lead-len 4) (15 ∷ [])
     ∷ row (lead-len 5) (16 ∷ [])
+    -- M9: slots 64, 0 give 1, 0; slots 128, 192 give 2, 1; the empty list stays empty
+    ∷ row (fsk-widths (64 ∷ 0 ∷ [])) (1 ∷ 0 ∷ [])
+    ∷ row (fsk-widths (128 ∷ 192 ∷ [])) (2 ∷ 1 ∷ [])
+    ∷ row (fsk-widths []) []
     ∷ []

@@ -1,3 +1,4 @@
+-- `arith::abs` meets its contract: by the sign that the tests tell (`Signs.antt`). Assumes nothing.
 use Rattle.arith.proofs.Signs.{abs-below, abs-level, abs-above}
 use lib.Ieee.{binary32}
 use lib.Dec.{T}

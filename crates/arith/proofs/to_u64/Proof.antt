@@ -1,3 +1,4 @@
+-- `arith::to_u64` meets its contract: a truncation inside the range, and its two ends (`Ends.antt`). Assumes nothing.
 use Rattle.arith.proofs.Ends.{past-top, past-low}
 use lib.Ieee.{ofBits, neg}
 use lib.Dec.{T}
