@@ -1,17 +1,15 @@
 -- Document 01, "Replies other than an answer, in checking order", for begin and step.
-use Prim.Native.Nat.{ℕ, _+_, _-_, _^_, _<_, _≤_}
+use Prim.Native.Nat.{ℕ, _+_, _-_}
 use mathlib.Core.Bool.{Bool, true, false, not, _&&_, _||_}
-use mathlib.Core.Path.{_≡_, refl, sym, ap}
+use mathlib.Core.Path.{_≡_, refl, sym}
 use native.Mathlib.Omega.{arith}
-use borrow.Author.Tests.{eqb-true, eqb-false, eq-eqb, ne-eqb, leb-true, ltb-true, not-false}
-use lib.Dec.{leb, ltb, eqb}
+use borrow.Author.Tests.{eqb-true, eqb-false, eq-eqb, ne-eqb}
+use lib.Dec.{leb, eqb}
 use Rattle.ook.specs.declared.Settings.{Settings}
-use Rattle.arith.specs.Leaves.{leadLenOf}
-use Rattle.burst.specs.declared.Lead.{Lead}
 use Rattle.refusals.specs.Domain.{settingsOk, factorOk, envelopeOk, sampleOk, indexOk, roomOk}
 use Rattle.refusals.specs.State.{burstOk, leadOk, candOk}
-use Rattle.refusals.specs.Order.{firstFailed, none-failed}
-use Rattle.refusals.specs.Parts.{both-true, other-true, six-true}
+use Rattle.refusals.specs.Order.{firstFailed}
+use Rattle.refusals.specs.Parts.{six-true}
 use Rattle.lane.specs.declared.History.{History}
 use Rattle.lane.specs.declared.BeginArgs.{BeginArgs}
 use Rattle.lane.specs.declared.StepArgs.{StepArgs}
@@ -82,21 +80,3 @@ lane-passes l h =
 pub passes-lane : (l : Lane) → Passes l → laneOk l ≡ true
 unfolding laneOk
 passes-lane l p = simp (p .had, p .named, p .within, p .filled, p .waits, p .near)
-
--- what the work of an accepted step needs: in lead, phase 1, the next sample has its place, and the lead's indices fit
-pub record Ready (l : Lane) : Type 0 where
-  pub room : l .phase ≡ 1 → l .lead .«lead_n» < 16
-  pub near : l .lead .«lead_at» ≤ 2 ^ 40
-
-lead-ready : (phase m : ℕ) (l : Lead) → leadOk phase m l ≡ true → (phase ≡ 1 → l .«lead_n» < 16) × (l .«lead_at» ≤ 2 ^ 40)
-unfolding leadOk
-lead-ready phase m l h =
-    let a : (leb (l .«lead_at») (2 ^ 40) ≡ true) × ((not (eqb phase 1) || ltb (l .«lead_n») (leadLenOf m)) ≡ true) = both-true (leb (l .«lead_at») (2 ^ 40)) (not (eqb phase 1) || ltb (l .«lead_n») (leadLenOf m)) h in
-    ((λ e. let n : l .«lead_n» < leadLenOf m = ltb-true (l .«lead_n») (leadLenOf m) (other-true (not (eqb phase 1)) (ltb (l .«lead_n») (leadLenOf m)) (a .1) (ap not (eq-eqb phase 1 e))) in omega arith), leb-true (l .«lead_at») (2 ^ 40) (a .0))
-
-pub step-ready : (l : Lane) (s : StepArgs) (ook fsk : ℕ) → stepRefusal l s ook fsk ≡ 0 → Ready l
-unfolding stepRefusal
-step-ready l s ook fsk e =
-    let h : Passes l = lane-passes l (none-failed true (laneOk l) _ _ _ _ e .1) in
-    let r : (l .phase ≡ 1 → l .lead .«lead_n» < 16) × (l .lead .«lead_at» ≤ 2 ^ 40) = lead-ready (l .phase) (l .settings .«min_steps») (l .lead) (h .filled) in
-    record { room = r .0; near = r .1 }

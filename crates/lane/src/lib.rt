@@ -1,13 +1,12 @@
 // The lane by value: opening, begin, step, and the part of a buffer that a record names. Every value of every argument
 // ends with the reply of document 01 or with the first refusal that applies, lane and buffers then as they were.
 ghost use mathlib.Core.Path.{_≡_};
-ghost use Prim.Native.Nat.{_<_, _≤_, _^_};
-ghost use Rattle.arith.specs.Leaves.{zero32};
+ghost use Prim.Native.Nat.{_≤_};
 ghost use Rattle.lane.specs.Answers.{replyOf, phaseOf};
-ghost use Rattle.lane.specs.Refusals.{openedOk, laneOk, historyOk, beginFloatsOk, stepFloatsOk, followsOf, beginRefusal, stepRefusal, Ready};
+ghost use Rattle.lane.specs.Refusals.{openedOk, laneOk, historyOk, beginFloatsOk, stepFloatsOk, followsOf, beginRefusal, stepRefusal};
 ghost use Rattle.lane.specs.Idle.{noOut, noFrame, noBurst, noLead, idleLane, noSettings};
 ghost use Rattle.lane.specs.Begin.{ringBeforeOf, historyOf, ringOf, beginLeadOf, clearedOf, withFactor, leadLane};
-ghost use Rattle.lane.specs.Advance.{largerOf, highestOf, leadAddOf, replayStep, leadStep, burstStep, phaseStep, advanceOf};
+ghost use Rattle.lane.specs.Advance.{settleOf, fillOf, replayStep, leadStep, burstStep, phaseStep, advanceOf};
 ghost use Rattle.lane.specs.Step.{newLane, opened, begun, stepped};
 ghost use Rattle.lane.specs.Part.{front, partOf};
 use arith::C32;
@@ -476,47 +475,6 @@ pub fn begin(l: Lane, b: BeginArgs, ook: &[u32], fsk: &[u32]) -> Answer
 
 // ---- step
 
-fn larger(m: f32, v: f32) -> f32
-    ensures { λ r. ⌜ r ≡ largerOf m v ⌝ }
-{
-    if v > m {
-        return v;
-    }
-    m
-}
-
-// The largest envelope of the lead.
-fn highest(es: [f32; 16], len: usize) -> f32
-    requires { ⌜ len ≤ 16 ⌝ }
-    ensures { λ r. ⌜ r ≡ highestOf es len 0 zero32 ⌝ }
-{
-    let mut m: f32 = 0.0;
-    let mut i: usize = 0;
-    while i < len {
-        m = larger(m, es[i]);
-        i = i + 1;
-    }
-    m
-}
-
-fn lead_add(l: Lead, s: StepArgs) -> Lead
-    requires { ⌜ l .«lead_n» < 16 ⌝ }
-    ensures { λ r. ⌜ r ≡ leadAddOf l s ⌝ }
-{
-    let i = l.lead_n as usize;
-    let x = s.x;
-    let mut es = l.lead_e;
-    es[i] = s.envelope;
-    let mut xs = l.lead_x;
-    xs[i + 1] = x;
-    Lead {
-        lead_at: l.lead_at,
-        lead_n: l.lead_n + 1,
-        lead_e: es,
-        lead_x: xs,
-    }
-}
-
 fn phase_of(n: Next) -> u32
     ensures { λ r. ⌜ r ≡ phaseOf n ⌝ }
 {
@@ -537,57 +495,10 @@ fn reply_of(n: Next) -> Reply
     }
 }
 
-fn burst_step(l: Lane, s: StepArgs, ring: [f32; 32], ook: &mut [u32], fsk: &mut [u32]) -> Answer
-    ensures { λ r. ⌜ (r, now (ook .exit), now (fsk .exit)) ≡ burstStep l s ring (now (ook .entry)) (now (fsk .entry)) ⌝ }
+// The lane and the reply after the last sample that was stepped or replayed.
+fn settle(l: Lane, s: StepArgs, ld: Lead, ring: [f32; 32], r: Sampled) -> Answer
+    ensures { λ a. ⌜ a ≡ settleOf l s ld ring r ⌝ }
 {
-    let x = s.x;
-    let xp = l.x_prev;
-    let a = At {
-        idx: s.index,
-        lead_at: l.lead.lead_at,
-        noise: s.noise,
-        e: s.envelope,
-        x,
-        xp,
-    };
-    let old = l.burst;
-    let b = clear_records(old);
-    let p = l.settings;
-    let r = burst::sample(p, a, &ring, b, ook, fsk);
-    let next = r.next;
-    let burst = r.burst;
-    let phase = phase_of(next);
-    let reply = reply_of(next);
-    let mut n = l;
-    n.phase = phase;
-    n.last = s.index;
-    n.x_prev = x;
-    n.ring = ring;
-    n.burst = burst;
-    Answer { reply, lane: n }
-}
-
-// The lead is full: its samples are replayed.
-fn replay_step(
-    l: Lane,
-    s: StepArgs,
-    ld: Lead,
-    ring: [f32; 32],
-    len: usize,
-    ook: &mut [u32],
-    fsk: &mut [u32],
-) -> Answer
-    requires { ⌜ (len ≤ 16) × (ld .«lead_at» ≤ 2 ^ 40) ⌝ }
-    ensures { λ r. ⌜ (r, now (ook .exit), now (fsk .exit)) ≡ replayStep l s ld ring len (now (ook .entry)) (now (fsk .entry)) ⌝ }
-{
-    let es = ld.lead_e;
-    let high = highest(es, len);
-    let old = l.burst;
-    let b1 = clear_records(old);
-    let t = arith::u64_to_f64(ld.lead_at);
-    let b2 = burst::begin_burst(t, es[0], high, b1);
-    let p = l.settings;
-    let r = burst::replay(p, s.noise, &ring, ld, len, b2, ook, fsk);
     let next = r.next;
     let burst = r.burst;
     let phase = phase_of(next);
@@ -603,36 +514,81 @@ fn replay_step(
     Answer { reply, lane: n }
 }
 
+fn burst_step(l: Lane, s: StepArgs, ring: [f32; 32], ook: &mut [u32], fsk: &mut [u32]) -> Answer
+    ensures { λ r. ⌜ (r, now (ook .exit), now (fsk .exit)) ≡ burstStep l s ring (now (ook .entry)) (now (fsk .entry)) ⌝ }
+{
+    let x = s.x;
+    let xp = l.x_prev;
+    let ld = l.lead;
+    let a = At {
+        idx: s.index,
+        lead_at: ld.lead_at,
+        noise: s.noise,
+        e: s.envelope,
+        x,
+        xp,
+    };
+    let old = l.burst;
+    let b = clear_records(old);
+    let p = l.settings;
+    let r = burst::sample(p, a, &ring, b, ook, fsk);
+    settle(l, s, ld, ring, r)
+}
+
+// The lead is not full yet.
+fn fill(l: Lane, s: StepArgs, ld: Lead, ring: [f32; 32]) -> Answer
+    ensures { λ r. ⌜ r ≡ fillOf l s ld ring ⌝ }
+{
+    let old = l.burst;
+    let burst = clear_records(old);
+    let x = s.x;
+    let mut n = l;
+    n.phase = 1;
+    n.last = s.index;
+    n.x_prev = x;
+    n.lead = ld;
+    n.ring = ring;
+    n.burst = burst;
+    Answer {
+        reply: Reply::Stay,
+        lane: n,
+    }
+}
+
+// The lead is full: the burst begins, and its samples are replayed.
+fn replay_step(
+    l: Lane,
+    s: StepArgs,
+    ld: Lead,
+    ring: [f32; 32],
+    ook: &mut [u32],
+    fsk: &mut [u32],
+) -> Answer
+    ensures { λ r. ⌜ (r, now (ook .exit), now (fsk .exit)) ≡ replayStep l s ld ring (now (ook .entry)) (now (fsk .entry)) ⌝ }
+{
+    let old = l.burst;
+    let b = clear_records(old);
+    let p = l.settings;
+    let r = burst::lead_full(p, s.noise, &ring, ld, b, ook, fsk);
+    settle(l, s, ld, ring, r)
+}
+
 fn lead_step(l: Lane, s: StepArgs, ring: [f32; 32], ook: &mut [u32], fsk: &mut [u32]) -> Answer
-    requires { ⌜ (l .lead .«lead_n» < 16) × (l .lead .«lead_at» ≤ 2 ^ 40) ⌝ }
     ensures { λ r. ⌜ (r, now (ook .exit), now (fsk .exit)) ≡ leadStep l s ring (now (ook .entry)) (now (fsk .entry)) ⌝ }
 {
-    let ld0 = l.lead;
-    let ld = lead_add(ld0, s);
+    let old = l.lead;
+    let x = s.x;
+    let ld = burst::lead_add(old, s.envelope, x);
     let len = arith::lead_len(l.settings.min_steps);
     let early = ld.lead_n < len;
     if early {
-        let old = l.burst;
-        let burst = clear_records(old);
-        let x = s.x;
-        let mut n = l;
-        n.phase = 1;
-        n.last = s.index;
-        n.x_prev = x;
-        n.lead = ld;
-        n.ring = ring;
-        n.burst = burst;
-        return Answer {
-            reply: Reply::Stay,
-            lane: n,
-        };
+        return fill(l, s, ld, ring);
     }
-    replay_step(l, s, ld, ring, len as usize, ook, fsk)
+    replay_step(l, s, ld, ring, ook, fsk)
 }
 
 // An accepted step: the envelope goes to the ring, then the phase's work.
 fn advance(l: Lane, s: StepArgs, ook: &mut [u32], fsk: &mut [u32]) -> Answer
-    requires { ⌜ Ready l ⌝ }
     ensures { λ r. ⌜ (r, now (ook .exit), now (fsk .exit)) ≡ advanceOf l s (now (ook .entry)) (now (fsk .entry)) ⌝ }
 {
     let old = l.ring;

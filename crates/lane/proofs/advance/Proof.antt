@@ -1,4 +1,3 @@
-use borrow.Author.Tests.{eqb-true}
 use Rattle.lane.specs.Advance.{advanceOf}
 use borrow.Author.Needs.{needs}
 use Rattle.lane.proofs.advance.Statement.{statement}
@@ -8,7 +7,7 @@ ring-with-requires : tie.Need-ring-with-requires
 ring-with-requires c κs = search needs
 
 lead-step-requires : tie.Need-lead-step-requires
-lead-step-requires c κs = (c .before .before .before .before .before .before .before .before .pre .room (eqb-true _ _ (c .before .before .if1 .taken)), c .before .before .before .before .before .before .before .before .pre .near)
+lead-step-requires c κs = search needs
 
 same-length : tie.Need-same-length
 same-length c = search needs

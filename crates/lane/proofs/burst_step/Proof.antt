@@ -9,11 +9,8 @@ clear-records-requires c κs = search needs
 sample-requires : tie.Need-sample-requires
 sample-requires c κs = search needs
 
-phase-of-requires : tie.Need-phase-of-requires
-phase-of-requires c κs = search needs
-
-reply-of-requires : tie.Need-reply-of-requires
-reply-of-requires c κs = search needs
+settle-requires : tie.Need-settle-requires
+settle-requires c κs = search needs
 
 same-length : tie.Need-same-length
 same-length c = search needs
@@ -23,7 +20,7 @@ same-length-2 c = search needs
 
 returns : tie.Need-returns
 unfolding burstStep
-returns c = simp (← c .before .before .before .before .before .before .before .before .before .before .before .before .clear-records .ensures, ← c .before .before .before .before .before .before .before .sample .ensures, ← c .before .phase-of .ensures, ← c .reply-of .ensures)
+returns c = simp (← c .before .before .before .before .before .before .before .before .before .before .clear-records .ensures, ← c .before .before .before .before .before .sample .ensures, ← c .settle .ensures)
 
 pub burst-step-spec : {M : Type 1} → statement M
 burst-step-spec =
@@ -31,8 +28,7 @@ burst-step-spec =
     (tie.spec
     clear-records-requires
     sample-requires
-    phase-of-requires
-    reply-of-requires
+    settle-requires
     same-length
     same-length-2
     returns)

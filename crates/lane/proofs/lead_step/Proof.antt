@@ -1,8 +1,4 @@
-use Prim.Native.Nat.{_≤_, _^_}
-use mathlib.Core.Path.{sym, subst}
-use native.Mathlib.Omega.{arith}
-use Rattle.burst.specs.declared.Lead.{Lead}
-use Rattle.lane.specs.Advance.{leadAddOf, leadStep}
+use Rattle.lane.specs.Advance.{leadStep}
 use borrow.Author.Needs.{needs}
 use Rattle.lane.proofs.lead_step.Statement.{statement}
 use Rattle.lane.proofs.lead_step.Tie as tie
@@ -13,20 +9,15 @@ lead-add-requires c κs = search needs
 lead-len-requires : tie.Need-lead-len-requires
 lead-len-requires c κs = search needs
 
-clear-records-requires : tie.Need-clear-records-requires
-clear-records-requires c κs = search needs
+fill-requires : tie.Need-fill-requires
+fill-requires c κs = search needs
 
 returns : tie.Need-returns
 unfolding leadStep
-returns c = simp (← c .before .before .before .before .before .before .lead-add .ensures, ← c .before .before .before .before .before .lead-len .ensures, c .before .before .before .if1 .taken, ← c .before .clear-records .ensures)
-
-cast-replay-step : tie.Need-cast-replay-step
-cast-replay-step c = search needs
+returns c = simp (← c .before .before .before .before .lead-add .ensures, ← c .before .before .before .lead-len .ensures, c .before .if1 .taken, ← c .fill .ensures)
 
 replay-step-requires : tie.Need-replay-step-requires
-unfolding leadAddOf
-replay-step-requires c κs =
-    (omega (arith, c .before .before .before .before .lead-len .ensures), subst (λ (r : Lead). r .«lead_at» ≤ 2 ^ 40) (sym (c .before .before .before .before .before .lead-add .ensures)) (c .before .before .before .before .before .before .before .before .before .pre .1))
+replay-step-requires c κs = search needs
 
 same-length : tie.Need-same-length
 same-length c = search needs
@@ -44,9 +35,8 @@ lead-step-spec =
     (tie.spec
     lead-add-requires
     lead-len-requires
-    clear-records-requires
+    fill-requires
     returns
-    cast-replay-step
     replay-step-requires
     same-length
     same-length-2

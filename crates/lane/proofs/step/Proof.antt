@@ -1,6 +1,3 @@
-use mathlib.Core.Path.{sym, _∙_}
-use borrow.Author.Tests.{eqb-true}
-use Rattle.lane.specs.Refusals.{step-ready}
 use Rattle.lane.specs.Step.{stepped}
 use borrow.Author.Needs.{needs}
 use Rattle.lane.proofs.step.Statement.{statement}
@@ -10,7 +7,7 @@ step-refusal-requires : tie.Need-step-refusal-requires
 step-refusal-requires c κs = search needs
 
 advance-requires : tie.Need-advance-requires
-advance-requires c κs = step-ready _ _ _ _ (sym (c .before .before .before .step-refusal .ensures) ∙ eqb-true _ _ (c .before .before .if1 .taken))
+advance-requires c κs = search needs
 
 same-length : tie.Need-same-length
 same-length c = search needs
