@@ -4,22 +4,21 @@ use mathlib.Core.Path.{_≡_, refl, sym, ap, _∙_, subst}
 use Prim.Native.Nat.{ℕ, zero, suc, _+_, _*_, _^_, _≤_, _<_}
 use native.Mathlib.Nat.{zero-mul, add-zero, mul-one, one-mul, mul-pos, zero-lt-suc, lt-irrefl, pow-succ'}
 use native.Mathlib.Omega.{arith}
-use mathlib.Core.Bool.{Bool, true, false, not, cond, _&&_, _||_, Bool·beq, true≢false, false≢true}
+use mathlib.Core.Bool.{Bool, true, false, not, _&&_, _||_, Bool·beq, true≢false, false≢true}
 use lib.IntN.{ℤ, pos, negsuc}
-use lib.Dec.{T, ltb, leb, eqb, eqb→eq}
+use lib.Dec.{T, ltb, eqb, eqb→eq}
 use lib.Pow.{pow-pos}
 use borrow.Author.Tests.{ltb-true, ltb-false, eqb-true, eq-eqb}
-use lib.Ieee.{Float, nan, inf, fin, Format, binary32, binary64, up, down, lt, eq, ne, neg, isNan, fits, ofBits}
-use lib.Ieee.Fits.{up-pos, down-pos, and-l}
-use lib.Ieee.Compare.{differs-from-itself, nan-differs}
+use lib.Ieee.{Float, nan, inf, fin, Format, up, down, lt, eq, neg, isNan, fits, ofBits}
+use lib.Ieee.Fits.{up-pos}
 use Rattle.arith.specs.Leaves.{absOf, zero32}
 
 -- ---- against zero
-lt-neg : (m : ℕ) (e : ℤ) → lt (fin true m e) zero32 ≡ ltb 0 (m * up e)
+pub lt-neg : (m : ℕ) (e : ℤ) → lt (fin true m e) zero32 ≡ ltb 0 (m * up e)
 unfolding lt ofBits
 lt-neg m e = ap (λ (x : ℕ). ltb 0 (m * up e * 1 + x)) (zero-mul (down e)) ∙ ap (ltb 0) (add-zero (m * up e * 1) ∙ mul-one (m * up e))
 
-lt-plus : (m : ℕ) (e : ℤ) → lt (fin false m e) zero32 ≡ ltb (m * up e * 1) 0
+pub lt-plus : (m : ℕ) (e : ℤ) → lt (fin false m e) zero32 ≡ ltb (m * up e * 1) 0
 unfolding lt ofBits
 lt-plus m e = ap (λ (x : ℕ). ltb (m * up e * 1) x) (zero-mul (down e))
 
@@ -31,7 +30,7 @@ both : (p q : Bool) → (p && q) ≡ true → p ≡ true
 both true q e = refl
 both false q e = e
 
-never : (a : ℕ) → ltb a 0 ≡ true → ⊥
+pub never : (a : ℕ) → ltb a 0 ≡ true → ⊥
 never a e = let h : a < 0 = ltb-true a 0 e in omega arith
 
 no-product : (m : ℕ) (e : ℤ) → m * up e ≡ 0 → m ≡ 0
@@ -85,17 +84,7 @@ abs-above (fin true m e) h k =
     let w : m * up e ≡ 0 = omega arith in
     absurd (true≢false (sym (eq-at true m e ∙ ap (λ (b : Bool). b && (false || b)) (eq-eqb (m * up e) 0 w)) ∙ k))
 
--- ---- a NaN
-pub nan-true : (x : Float) → ne x x ≡ true → isNan x ≡ true
-nan-true x h = ap isNan (differs-from-itself x (subst T (sym h) tt)) ∙ (unfold isNan in refl)
-
-pub nan-false : (x : Float) → ne x x ≡ false → isNan x ≡ false
-unfolding isNan
-nan-false nan h = absurd (true≢false (sym nan-differs ∙ h))
-nan-false (inf s) h = refl
-nan-false (fin s m e) h = refl
-
--- what is above something is no NaN
+-- ---- what is above something is no NaN
 pub above-plain : (x y : Float) → lt x y ≡ true → T (not (isNan y))
 unfolding isNan lt
 above-plain nan y h = absurd (false≢true h)

@@ -1,7 +1,8 @@
+-- `arith::abs` meets its contract: by the sign that the tests tell (`Signs.antt`). Assumes nothing.
 use Rattle.arith.proofs.Signs.{abs-below, abs-level, abs-above}
 use lib.Ieee.{binary32}
 use lib.Dec.{T}
-use mathlib.Core.Path.{_≡_, refl, sym, ap, _∙_, subst}
+use mathlib.Core.Path.{sym, subst}
 use Rattle.arith.proofs.abs.Statement.{statement}
 use Rattle.arith.proofs.abs.Tie as tie
 
