@@ -1,3 +1,4 @@
 pub mod Turn
 pub mod Laws
 pub mod Stream
+pub mod Blocks
