@@ -161,56 +161,58 @@ fn send_disturbed(g: &mut Generator, s: &mut Stream, command: &[u8]) {
     }
 }
 
-/// A command that mostly is refused: out of turn, with another index, or with a float outside its range.
+/// A command that mostly is refused, by one fault or several: out of turn, with another index, with a float outside its range,
+/// with settings outside the domain, or damaged.
 fn disturbance(g: &mut Generator, s: &mut Stream, command: &[u8]) -> Vec<u8> {
     let index = s.receiver.last();
     match g.r.below(8) {
-        0 => with_index(command, g.r.pick(&[index, index + 2, index.wrapping_sub(1), INDEX_MOST + 1, u64::MAX])),
-        1 | 2 => with_odd_float(&mut g.r, command),
-        3 => {
-            let t = Tick { noise: 0.0, envelope: 1.0, sample: [1.0, 0.0] };
-            let again = index.wrapping_add(g.r.below(2));
-            match command[0] {
-                3 => begin_command(again, 1.0, &t, [1.0, 0.0], &[0.0; 7]),
-                _ => step_command(again, &t),
-            }
-        }
-        4 => {
+        0 => {
             let mut bad = g.edge_settings();
             if g.kind != Kind::Damaged {
                 bad.mode = 3;
             }
-            bad.command()
+            return bad.command();
         }
-        n @ 5.. if g.kind == Kind::Damaged => damaged(&mut g.r, command, n),
-        _ => with_index(command, index.wrapping_add(g.r.pick(&[0, 2, 32]))),
+        n @ 1..4 if g.kind == Kind::Damaged => return damaged(&mut g.r, command, n),
+        _ => {}
     }
-}
-
-fn with_index(command: &[u8], index: u64) -> Vec<u8> {
     let mut other = command.to_vec();
-    other[1..9].copy_from_slice(&index.to_le_bytes());
+    let faults = g.r.pick(&[1, 2, 4, 4, 4, 3, 5, 6, 7]);
+    if faults & 1 != 0 {
+        let t = Tick { noise: 0.0, envelope: 1.0, sample: [1.0, 0.0] };
+        let again = index.wrapping_add(g.r.below(2));
+        other = match command[0] {
+            3 => begin_command(again, 1.0, &t, [1.0, 0.0], &[0.0; 7]),
+            _ => step_command(again, &t),
+        };
+    }
+    if faults & 2 != 0 {
+        let wrong = g.r.pick(&[index, index + 2, index + 32, index.wrapping_sub(1), INDEX_MOST + 1, u64::MAX]);
+        other[1..9].copy_from_slice(&wrong.to_le_bytes());
+    }
+    if faults & 4 != 0 {
+        put_odd_float(&mut g.r, &mut other);
+    }
     other
 }
 
-fn with_odd_float(r: &mut Random, command: &[u8]) -> Vec<u8> {
-    let mut other = command.to_vec();
-    let floats = (other.len() - 9) / 4;
+fn put_odd_float(r: &mut Random, command: &mut [u8]) {
+    let floats = (command.len() - 9) / 4;
     let at = 9 + 4 * r.below(floats as u64) as usize;
     let x = if r.once_in(3) { r.pick(&AT_EDGES) } else { r.pick(&OUTSIDE) };
-    other[at..at + 4].copy_from_slice(&x.to_bits().to_le_bytes());
-    other
+    command[at..at + 4].copy_from_slice(&x.to_bits().to_le_bytes());
 }
 
-/// The command with one bit of its operands changed, seldom with another command byte, or twice.
+/// The command with one bit of its operands changed, with any operands, seldom with another command byte, or twice.
 fn damaged(r: &mut Random, command: &[u8], how: u64) -> Vec<u8> {
     let mut other = command.to_vec();
     match how {
-        5 => {
+        1 => {
             let bit = 8 + r.below(8 * (other.len() as u64 - 1));
             other[bit as usize / 8] ^= 1 << (bit % 8);
         }
-        6 if r.once_in(300) => other[0] = r.pick(&[0, 4, 5, 16, 17, 255]),
+        2 => other[1..].fill_with(|| r.u32() as u8),
+        _ if r.once_in(300) => other[0] = r.pick(&[0, 4, 5, 16, 17, 255]),
         _ => other.extend(command),
     }
     other

@@ -464,6 +464,9 @@ impl Generator {
     /// The factor and the samples of a burst.
     pub fn samples(&mut self, plan: &[Stretch]) -> (f32, Vec<Tick>) {
         let mut shape = self.shape();
+        if self.kind == Kind::Edges && self.r.once_in(10) {
+            shape.factor = self.r.pick(&[-0.0, 999_999.94, 1e6, 1_000_000.06]);
+        }
         if self.kind != Kind::Exact {
             return (shape.factor, self.ticks(&shape, plan));
         }

@@ -8,6 +8,7 @@ pub mod HalfUp
 pub mod Narrowing
 pub mod Integral
 pub mod Signs
+pub mod Magnitude
 pub mod Ends
 pub mod Cast
 pub mod Distance

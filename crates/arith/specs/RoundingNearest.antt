@@ -1,4 +1,5 @@
--- What the two roundings have to be, said without saying how they are found. Definitions only. Sizes are counted in units of 2 ^ -1074, an f64's smallest value: each f64 and each f32 is a whole number of them.
+-- What the two roundings have to be, said without saying how they are found; only one number is such (`integral-unique`, `single-unique`). Definitions only.
+-- Sizes are counted in units of 2 ^ -1074, an f64's smallest value: each f64 and each f32 is a whole number of them.
 use Prim.Native.Nat.{ℕ, _-_, _*_, _%_, _^_, _≤_, _<_}
 use mathlib.Core.Path.{_≡_}
 use mathlib.Core.Logic.{_⊎_}

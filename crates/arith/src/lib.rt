@@ -249,30 +249,24 @@ pub fn sqrt(x: f32) -> f32
 
 // ---- what the Rust takes from its language and libraries
 
-// The magnitude: the sign of a zero goes too.
+// The magnitude: the sign of a zero goes too. By the pattern, with no branch on the sign.
 pub fn abs(x: f32) -> f32
     ensures { λ r. ⌜ r ≡ absOf x ⌝ }
 {
-    if x < 0.0 {
-        -x
-    } else if x == 0.0 {
-        0.0
-    } else {
-        x
+    if x != x {
+        return x;
     }
+    f32::from_bits(f32::to_bits(x) % 0x8000_0000)
 }
 
 // The magnitude of an f64.
 pub fn abs64(x: f64) -> f64
     ensures { λ r. ⌜ r ≡ absOf x ⌝ }
 {
-    if x < 0.0 {
-        -x
-    } else if x == 0.0 {
-        0.0
-    } else {
-        x
+    if x != x {
+        return x;
     }
+    f64::from_bits(f64::to_bits(x) % 0x8000_0000_0000_0000)
 }
 
 // f32::midpoint: both widened, added, halved, narrowed.

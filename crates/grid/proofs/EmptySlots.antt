@@ -17,7 +17,7 @@ use lib.Ieee.Fits.{down-pos}
 use lib.Ieee.Scale.{round-same}
 use Rattle.arith.specs.Rounding.{roundOf, halfUp}
 use Rattle.arith.specs.Leaves.{wholeOf, nearestIn, widthOf, zero64}
-use Rattle.arith.proofs.Integral.{roundOf-at}
+use Rattle.arith.proofs.HalfUp.{roundOf-at}
 use Rattle.grid.specs.Slots.{timeOf, fix, slotBefore, transitionsOf}
 use Rattle.grid.specs.Widths.{measuredOf, placeOf, onGridOf, atStart, runsOf, gridOf, widthsOn, fskWidthsOf}
 use Rattle.grid.specs.declared.Clock.{Clock}
@@ -25,7 +25,7 @@ use Rattle.grid.specs.declared.Place.{Place}
 use Rattle.grid.specs.declared.Grid.{Grid}
 use Rattle.grid.specs.declared.Grid.the-variants.{NoGrid, On}
 
--- the roundOf time of a slot
+-- the rounded time of a slot
 abbrev boundary : ℕ → Float
 boundary v = roundOf (timeOf (fix v))
 

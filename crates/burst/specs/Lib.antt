@@ -1,0 +1,3 @@
+-- The definitions that the contracts of the whole sample cite.
+pub mod Makers
+pub mod Sample
