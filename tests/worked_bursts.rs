@@ -1,6 +1,7 @@
 //! Document 01's worked bursts M6 to M8, M10 and the replies that it names, through a listing program.
 //!
-//!     worked_bursts PROGRAM
+//!     worked_bursts PROGRAM      compare
+//!     worked_bursts --write      print M6, M7 and M8 as one command stream
 
 use std::io::Write;
 use std::process::{Command, ExitCode, Stdio};
@@ -46,17 +47,26 @@ fn burst(envelopes: &[f32]) -> Vec<u8> {
     c
 }
 
+fn m6() -> Vec<u8> {
+    burst(&[&[0.0][..], &[8.0; 4], &[0.0; 5]].concat())
+}
+
+fn m7() -> Vec<u8> {
+    burst(&[&[0.0][..], &[8.0; 4], &[0.0], &[8.0; 3], &[0.0; 5]].concat())
+}
+
+fn m8() -> Vec<u8> {
+    burst(&[0.0; 7])
+}
+
 /// Each name with its commands and what the program must print.
 fn table() -> Vec<(&'static str, Vec<u8>, &'static str)> {
     let pulses = |counts: u32| opening([2, 4, 4, 1000, counts]);
-    let high = [8.0; 4];
-    let m6 = [&[0.0][..], &high, &[0.0; 5]].concat();
-    let m7 = [&[0.0][..], &high, &[0.0], &high[..3], &[0.0; 5]].concat();
-    let twice = [burst(&m6), begin(30, 0.0), step(31, 0.0)].concat();
+    let twice = [m6(), begin(30, 0.0), step(31, 0.0)].concat();
     vec![
-        ("M6", burst(&m6), "ook 11 15 0 4 41000000 vector 40800000 00000000 1 4 0\nidle 19\n"),
-        ("M7", burst(&m7), "ook 11 19 0 8 41000000 vector 40e00000 00000000 1 8 0\nidle 23\n"),
-        ("M8", burst(&[0.0; 7]), "idle 16\n"),
+        ("M6", m6(), "ook 11 15 0 4 41000000 vector 40800000 00000000 1 4 0\nidle 19\n"),
+        ("M7", m7(), "ook 11 19 0 8 41000000 vector 40e00000 00000000 1 8 0\nidle 23\n"),
+        ("M8", m8(), "idle 16\n"),
         ("M8 and a minus zero", burst(&[-0.0; 7]), "idle 16\n"),
         ("M10, 0", pulses(0), "refused 3\n"),
         ("M10, 1", pulses(1), ""),
@@ -85,6 +95,10 @@ fn printed(program: &str, input: &[u8]) -> std::io::Result<String> {
 
 fn main() -> ExitCode {
     let program = std::env::args().nth(1).expect("worked_bursts PROGRAM");
+    if program == "--write" {
+        let written = std::io::stdout().write_all(&[m6(), m7(), m8()].concat());
+        return if written.is_ok() { ExitCode::SUCCESS } else { ExitCode::FAILURE };
+    }
     let rows = table();
     for (name, input, expected) in &rows {
         let got = printed(&program, input).unwrap_or_else(|e| e.to_string());
