@@ -1,0 +1,4 @@
+pub mod Runs
+pub mod Machine
+pub mod Division
+pub mod Edges
