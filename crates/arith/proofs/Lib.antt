@@ -1,0 +1,21 @@
+-- The laws that the proofs of several functions cite.
+pub mod Values
+pub mod Pack
+pub mod Fields
+pub mod Narrowing
+pub mod Integral
+pub mod Signs
+pub mod Ends
+pub mod Cast
+pub mod Near
+pub mod RootWhole
+pub mod RootBrought
+pub mod RootDigits
+pub mod RootSides
+pub mod RootPatterns
+pub mod RootValue
+pub mod RootHalving
+pub mod RootAssembled
+pub mod RootSteps
+pub mod RootSpecial
+pub mod RootNearest

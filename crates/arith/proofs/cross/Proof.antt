@@ -1,0 +1,30 @@
+use Rattle.arith.specs.Leaves.{crossOf}
+use borrow.Author.Needs.{needs}
+use Rattle.arith.proofs.cross.Statement.{statement}
+use Rattle.arith.proofs.cross.Tie as tie
+
+abs-requires : tie.Need-abs-requires
+abs-requires c κs = search needs
+
+widen-requires : tie.Need-widen-requires
+widen-requires c κs = search needs
+
+returns : tie.Need-returns
+unfolding crossOf
+returns c = simp (← c .before .before .before .abs .ensures, c .before .before .if1 .taken, ← c .before .widen .ensures, c .if2 .taken)
+
+returns-2 : tie.Need-returns-2
+unfolding crossOf
+returns-2 c = simp (← c .before .before .before .before .abs .ensures, c .before .before .before .if1 .taken, ← c .before .before .widen .ensures, c .before .if2 .left, c .if3 .taken)
+
+returns-3 : tie.Need-returns-3
+unfolding crossOf
+returns-3 c = simp (← c .before .before .before .before .abs .ensures, c .before .before .before .if1 .taken, ← c .before .before .widen .ensures, c .before .if2 .left, c .if3 .left)
+
+returns-4 : tie.Need-returns-4
+unfolding crossOf
+returns-4 c = simp (← c .before .abs .ensures, c .if1 .left)
+
+pub cross-spec : {M : Type 1} → statement M
+cross-spec =
+    tie.close (tie.spec abs-requires widen-requires returns returns-2 returns-3 returns-4)

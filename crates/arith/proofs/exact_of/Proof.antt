@@ -1,0 +1,83 @@
+-- `arith::exact_of` meets its contract. What it hands to `whole_root` is the operand brought by a power of 4, and there is one whole root (`RootSteps.antt`). Assumes nothing.
+use mathlib.Core.Path.{_≡_, sym, subst}
+use Prim.Native.Nat.{ℕ, _+_, _*_, _^_, _≤_, _<_}
+use native.Mathlib.Nat.{le-trans, lt-of-not-le, not-le-of-lt, mul-le-mul}
+use native.Mathlib.Omega.{arith}
+use borrow.Author.Needs.{needs}
+use lib.Count.{leading-le}
+use Rattle.arith.proofs.RootSteps.{ready, codePower, codeBrought, codePower-is, codeBrought-is, exact-is}
+use Rattle.arith.proofs.exact_of.Statement.{statement}
+use Rattle.arith.proofs.exact_of.Tie as tie
+
+in-range : (c : tie.Start) → (2 ^ 48 ≤ codeBrought (c .args .a) (c .args .k) (c .pre .0) (c .pre .1)) × (codeBrought (c .args .a) (c .args .k) (c .pre .0) (c .pre .1) < 2 ^ 50)
+in-range c =
+    let a = c .args .a in
+    let k = c .args .k in
+    let d = ready a k (c .pre .0) (c .pre .1) in
+    let lo = d .lo in
+    let hi = d .hi in
+    subst (λ (x : ℕ). (2 ^ 48 ≤ x) × (x < 2 ^ 50)) (sym (codeBrought-is a k (c .pre .0) (c .pre .1))) (lo, omega arith)
+
+root-fits : (n r : ℕ) → n < 2 ^ 50 → r * r ≤ n → r < 2 ^ 32
+root-fits n r h i =
+    let l : r < 2 ^ 25 = lt-of-not-le (λ (g : 2 ^ 25 ≤ r). not-le-of-lt h (le-trans (mul-le-mul g g) i)) in
+    omega arith
+
+sub-s : tie.Need-sub-s
+sub-s c = leading-le 32 (c .args .a)
+
+add-p : tie.Need-add-p
+add-p c = search needs
+
+add-p-2 : tie.Need-add-p-2
+add-p-2 c = search needs
+
+add-n : tie.Need-add-n
+add-n c = search needs
+
+add-n-2 : tie.Need-add-n-2
+add-n-2 c = search needs
+
+sub-n : tie.Need-sub-n
+sub-n c = search needs
+
+cast-n : tie.Need-cast-n
+cast-n c = search needs
+
+shl-n : tie.Need-shl-n
+shl-n c = search needs
+
+whole-root-requires : tie.Need-whole-root-requires
+whole-root-requires c κs = in-range c
+
+cast-t7 : tie.Need-cast-t7
+cast-t7 c = record { fits = root-fits _ (c .whole-root .result) (in-range (c .before) .1) (c .whole-root .ensures .0) }
+
+mul-t9 : tie.Need-mul-t9
+mul-t9 c = search needs
+
+returns : tie.Need-returns
+returns c =
+    let s = c .before in
+    let a = s .args .a in
+    let k = s .args .k in
+    let p = s .pre .0 in
+    let h = s .pre .1 in
+    exact-is (a * 2 ^ k) (c .whole-root .result) (codeBrought a k p h) (codePower a k p h) (ready a k p h) (codeBrought-is a k p h) (codePower-is a k p h) (c .whole-root .ensures)
+
+pub exact-of-spec : {M : Type 1} → statement M
+exact-of-spec =
+    tie.close
+    (tie.spec
+    sub-s
+    add-p
+    add-p-2
+    add-n
+    add-n-2
+    sub-n
+    cast-n
+    shl-n
+    whole-root-requires
+    cast-t7
+    mul-t9
+    returns)

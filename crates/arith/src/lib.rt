@@ -1,0 +1,484 @@
+// The arithmetic below the lane: IEEE 754-2019's rounding, square root and change of width, and the
+// leaves of the Rust, one rounding for each operation. The crates above see these contracts only.
+ghost use mathlib.Core.Path.{_≡_};
+ghost use mathlib.Core.Bool.{Bool, cond, not};
+ghost use Prim.Native.Nat.{ℕ, _+_, _-_, _*_, _^_, _<_, _≤_};
+ghost use lib.Dec.{T};
+ghost use lib.Ieee as Ieee;
+ghost use lib.Ieee.{binary32, binary64};
+ghost use lib.IntN.{pos};
+ghost use lib.Ieee.Nearest.{closest};
+ghost use Rattle.arith.specs.Root.{IsRoot, exactOf, roundExactOf, scaled, sqrtOf};
+ghost use Rattle.arith.specs.Rounding.{roundOf, narrowOf, halfUp};
+ghost use Rattle.arith.specs.Leaves.{absOf, midpointOf, flushOf, maxOf, minOf, cmulConjOf, crossOf, edgeOf, stepOf, wholeOf, widthOf, fskWidthOf, runFixOf, gainOf, leadLenOf};
+ghost use Rattle.arith.specs.Angle.{octant, fold, signed, atan2Of};
+
+// ---- change of width and rounding to integral
+
+// v / u to the nearest whole number, a tie to the even one.
+fn closest_div(v: u64, u: u64) -> u64
+    requires { ⌜ (v < 0x8000_0000_0000_0000) × (0 < u) ⌝ }
+    ensures { λ r. ⌜ r ≡ closest v u ⌝ }
+{
+    let q = v / u;
+    let rest = v % u;
+    let over = u - rest;
+    if rest < over {
+        q
+    } else if over < rest {
+        q + 1
+    } else {
+        q + q % 2
+    }
+}
+
+// 2^j.
+fn power(j: u64) -> u64
+    requires { ⌜ j < 64 ⌝ }
+    ensures { λ r. ⌜ r ≡ 2 ^ j ⌝ }
+{
+    1u64 << j
+}
+
+// The bits below the sign of the f32 nearest to the f64 that has the exponent's field e and the
+// digits t: what is right for one sign is right for both.
+fn narrow_fields(e: u64, t: u64) -> u32
+    requires { ⌜ (e ≤ 2047) × (t < 0x10_0000_0000_0000) × (e ≡ 2047 → t ≡ 0) ⌝ }
+    ensures { λ r. ⌜ ((s : Bool) → Ieee.ofBits binary32 (cond s 0x8000_0000 0 + r) ≡ narrowOf (Ieee.ofFields binary64 s e t)) × (r ≤ 0x7f80_0000) ⌝ }
+{
+    if e < 872 {
+        return 0;
+    }
+    if 1150 < e {
+        return 0x7f80_0000;
+    }
+    let d = 0x10_0000_0000_0000 + t;
+    if e < 897 {
+        closest_div(d, power(926 - e)) as u32
+    } else {
+        ((e - 897) * 0x80_0000 + closest_div(d, 0x2000_0000)) as u32
+    }
+}
+
+// x at the narrower format, rounded to nearest, a tie to even.
+pub fn narrow(x: f64) -> f32
+    ensures { λ r. ⌜ r ≡ narrowOf x ⌝ }
+{
+    if x != x {
+        return 0.0 / 0.0;
+    }
+    let b = f64::to_bits(x);
+    let e = b % 0x8000_0000_0000_0000 / 0x10_0000_0000_0000;
+    let t = b % 0x10_0000_0000_0000;
+    let r = narrow_fields(e, t);
+    if b < 0x8000_0000_0000_0000 {
+        f32::from_bits(r)
+    } else {
+        f32::from_bits(0x8000_0000 + r)
+    }
+}
+
+// The magnitude of the f64 that has the exponent's field e and the digits t, to the nearest whole
+// number, a tie to the upper one, for magnitudes below 2^52.
+fn whole_fields(e: u64, t: u64) -> u64
+    requires { ⌜ (e < 1075) × (t < 0x10_0000_0000_0000) ⌝ }
+    ensures { λ r. ⌜ ((s : Bool) → roundOf (Ieee.ofFields binary64 s e t) ≡ Ieee.round binary64 s r 1) × (r ≤ 0x20_0000_0000_0000) ⌝ }
+{
+    if e < 1022 {
+        return 0;
+    }
+    let u = power(1075 - e);
+    (2 * (0x10_0000_0000_0000 + t) + u) / (2 * u)
+}
+
+// x to the nearest whole number, a tie away from zero; a zero keeps x's sign.
+pub fn round(x: f64) -> f64
+    ensures { λ r. ⌜ r ≡ roundOf x ⌝ }
+{
+    if x != x {
+        return x;
+    }
+    let b = f64::to_bits(x);
+    let e = b % 0x8000_0000_0000_0000 / 0x10_0000_0000_0000;
+    if 1075 <= e {
+        return x;
+    }
+    let r = whole_fields(e, b % 0x10_0000_0000_0000) as f64;
+    if b < 0x8000_0000_0000_0000 { r } else { -r }
+}
+
+// x at the wider format, which holds each f32.
+pub fn widen(x: f32) -> f64
+    ensures { λ r. ⌜ r ≡ x ⌝ }
+{
+    std::num::f32_to_f64_with_nan(x)
+}
+
+// ---- square root, in the standard's order: special operands, the exact result, the rounding
+
+// The exact root of a positive number: its 25 digits, whether it has more, and the power.
+pub struct Exact {
+    pub root: u32,
+    pub more: bool,
+    pub power: u32,
+}
+
+// The largest whole number whose square is at most n, a binary digit at a time.
+fn whole_root(n: u64) -> u64
+    requires { ⌜ (2 ^ 48 ≤ n) × (n < 2 ^ 50) ⌝ }
+    ensures { λ r. ⌜ IsRoot n r ⌝ }
+{
+    let mut r: u64 = 0x100_0000;
+    let mut bit: u64 = 0x100_0000;
+    while 1 < bit {
+        bit = bit / 2;
+        let t = r + bit;
+        if t * t <= n {
+            r = t;
+        }
+    }
+    r
+}
+
+// The exact root of a * 2 ^ k quarters.
+fn exact_of(a: u32, k: u32) -> Exact
+    requires { ⌜ (0 < a) × (a < 2 ^ 24) × (k < 255) ⌝ }
+    ensures { λ r. ⌜ r ≡ exactOf (a * 2 ^ k) ⌝ }
+{
+    let s = 32 - u32::leading_zeros(a);
+    let p = (s + k + 1) / 2;
+    let n = (a as u64) << (50 + k - (p + p));
+    let r = whole_root(n);
+    Exact {
+        root: r as u32,
+        more: r * r < n,
+        power: p,
+    }
+}
+
+// The exact root of the positive number whose pattern is b.
+fn exact_root(b: u32) -> Exact
+    requires { ⌜ (0 < b) × (b < 0x7f80_0000) ⌝ }
+    ensures { λ r. ⌜ r ≡ exactOf (scaled (Ieee.ofBits binary32 b)) ⌝ }
+{
+    let f = b / 0x80_0000;
+    let t = b % 0x80_0000;
+    if f == 0 {
+        exact_of(t, 1)
+    } else {
+        exact_of(t + 0x80_0000, f)
+    }
+}
+
+// The pattern of the f32 nearest to an exact root, ties to even.
+fn round_exact(e: Exact) -> u32
+    requires { ⌜ (2 ^ 24 ≤ e .root) × (e .root < 2 ^ 25 - 1) × (e .power ≤ 200) ⌝ }
+    ensures { λ r. ⌜ (Ieee.ofBits binary32 r ≡ roundExactOf e) × (r < 0x7f80_0000) ⌝ }
+{
+    let r = e.root;
+    let base = (e.power + 50) * 0x80_0000;
+    if e.more {
+        return base + (r + 1) / 2;
+    }
+    base + (r + r / 2 % 2) / 2
+}
+
+// The square root of x.
+pub fn sqrt(x: f32) -> f32
+    ensures { λ r. ⌜ r ≡ sqrtOf x ⌝ }
+{
+    if x != x {
+        return x;
+    }
+    let b = f32::to_bits(x);
+    if b == 0x8000_0000 {
+        return x;
+    }
+    if 0x8000_0000 < b {
+        let zero = 0.0f32;
+        return zero / zero;
+    }
+    if b == 0 {
+        return x;
+    }
+    if b == 0x7f80_0000 {
+        return x;
+    }
+    f32::from_bits(round_exact(exact_root(b)))
+}
+
+// ---- the leaves
+
+// The magnitude: the sign of a zero goes too.
+pub fn abs(x: f32) -> f32
+    ensures { λ r. ⌜ r ≡ absOf x ⌝ }
+{
+    if x < 0.0 {
+        -x
+    } else if x == 0.0 {
+        0.0
+    } else {
+        x
+    }
+}
+
+pub fn midpoint(a: f32, b: f32) -> f32
+    ensures { λ r. ⌜ r ≡ midpointOf a b ⌝ }
+{
+    narrow((widen(a) + widen(b)) / 2.0)
+}
+
+pub fn flush_denormal(x: f32) -> f32
+    ensures { λ r. ⌜ r ≡ flushOf x ⌝ }
+{
+    if abs(x) < 1.1754943508222875e-38 {
+        0.0
+    } else {
+        x
+    }
+}
+
+pub fn max(a: f32, b: f32) -> f32
+    ensures { λ r. ⌜ r ≡ maxOf a b ⌝ }
+{
+    if a != a {
+        b
+    } else if a < b {
+        b
+    } else {
+        a
+    }
+}
+
+pub fn min(a: f32, b: f32) -> f32
+    ensures { λ r. ⌜ r ≡ minOf a b ⌝ }
+{
+    if a != a {
+        b
+    } else if b < a {
+        b
+    } else {
+        a
+    }
+}
+
+pub fn max64(a: f64, b: f64) -> f64
+    ensures { λ r. ⌜ r ≡ maxOf a b ⌝ }
+{
+    if a != a {
+        b
+    } else if a < b {
+        b
+    } else {
+        a
+    }
+}
+
+pub fn min64(a: f64, b: f64) -> f64
+    ensures { λ r. ⌜ r ≡ minOf a b ⌝ }
+{
+    if a != a {
+        b
+    } else if b < a {
+        b
+    } else {
+        a
+    }
+}
+
+// The magnitude of an f64.
+pub fn abs64(x: f64) -> f64
+    ensures { λ r. ⌜ r ≡ absOf x ⌝ }
+{
+    if x < 0.0 {
+        -x
+    } else if x == 0.0 {
+        0.0
+    } else {
+        x
+    }
+}
+
+// A complex sample: real and imaginary part.
+pub struct C32 {
+    pub re: f32,
+    pub im: f32,
+}
+
+// x times the conjugate of y.
+pub fn cmul_conj(x: C32, y: C32) -> C32
+    ensures { λ r. ⌜ r ≡ cmulConjOf x y ⌝ }
+{
+    C32 {
+        re: x.re * y.re + x.im * y.im,
+        im: x.im * y.re - x.re * y.im,
+    }
+}
+
+// A whole number to the nearest float, a tie to even.
+pub fn u32_to_f32(n: u32) -> f32
+    ensures { λ r. ⌜ r ≡ Ieee.ofInt binary32 (pos n) ⌝ }
+{
+    std::num::nearest_u32_to_f32(n)
+}
+
+pub fn u64_to_f64(n: u64) -> f64
+    ensures { λ r. ⌜ r ≡ Ieee.ofInt binary64 (pos n) ⌝ }
+{
+    std::num::nearest_u64_to_f64(n)
+}
+
+// Where the line from prev to cur crosses thr, as a part of the step.
+pub fn cross(prev: f32, cur: f32, thr: f32) -> f64
+    ensures { λ r. ⌜ r ≡ crossOf prev cur thr ⌝ }
+{
+    let d = cur - prev;
+    if 0.0 < abs(d) {
+        let q = widen((thr - prev) / d);
+        if q < 0.0 {
+            0.0
+        } else if 1.0 < q {
+            1.0
+        } else {
+            q
+        }
+    } else {
+        1.0
+    }
+}
+
+pub fn edge(idx: u64, frac: f64) -> f64
+    ensures { λ r. ⌜ r ≡ edgeOf idx frac ⌝ }
+{
+    u64_to_f64(idx) - 1.0 + frac
+}
+
+// A float to an integer: toward zero, to the nearest end of the range, and 0 for a NaN.
+pub fn to_u64(x: f64) -> u64
+    ensures { λ r. ⌜ r ≡ Ieee.toUnsigned 64 x ⌝ }
+{
+    if x > -1.0 {
+        if x < 18446744073709551616.0 {
+            std::num::truncating_f64_to_u64(x)
+        } else {
+            0xffff_ffff_ffff_ffff
+        }
+    } else {
+        0
+    }
+}
+
+pub fn to_u32(x: f64) -> u32
+    ensures { λ r. ⌜ r ≡ Ieee.toUnsigned 32 x ⌝ }
+{
+    let n = to_u64(x);
+    if n < 0xffff_ffff {
+        n as u32
+    } else {
+        0xffff_ffff
+    }
+}
+
+pub fn step_of(t: f64) -> u64
+    ensures { λ r. ⌜ r ≡ stepOf t ⌝ }
+{
+    to_u64(round(t))
+}
+
+pub fn whole(x: f64) -> u32
+    ensures { λ r. ⌜ r ≡ wholeOf x ⌝ }
+{
+    to_u32(round(x))
+}
+
+// Whole steps, and 64ths of a step.
+pub struct Steps(pub u32);
+
+pub struct Fix64(pub u32);
+
+pub fn width(a: f64, b: f64) -> Steps
+    ensures { λ r. ⌜ r ≡ widthOf a b ⌝ }
+{
+    Steps(whole(b - a))
+}
+
+pub fn fsk_width(a: f64, b: f64) -> Steps
+    ensures { λ r. ⌜ r ≡ fskWidthOf a b ⌝ }
+{
+    Steps(whole(round(b) - round(a)))
+}
+
+pub fn run_fix(t: f64) -> Fix64
+    ensures { λ r. ⌜ r ≡ runFixOf t ⌝ }
+{
+    Fix64(whole(t * 64.0))
+}
+
+pub fn a_gain(e: f32) -> f32
+    ensures { λ r. ⌜ r ≡ gainOf e ⌝ }
+{
+    let q = e * e;
+    if q > 1e-30 {
+        let exp = f32::to_bits(q) / 0x80_0000 % 256;
+        if exp < 254 {
+            f32::from_bits((254 - exp) * 0x80_0000)
+        } else {
+            0.0
+        }
+    } else {
+        0.0
+    }
+}
+
+// The steps of the lead-in: BAND_PULSE_LEAD (16), at most 4 min_steps - 1.
+pub fn lead_len(min_steps: u32) -> u32
+    ensures { λ r. ⌜ r ≡ leadLenOf «min_steps» ⌝ }
+{
+    if 5 <= min_steps {
+        return 16;
+    }
+    if min_steps == 0 {
+        return 0;
+    }
+    4 * min_steps - 1
+}
+
+fn octant_of(a: f32) -> f32
+    ensures { λ r. ⌜ r ≡ octant a ⌝ }
+{
+    let s = a * a;
+    a
+        * (0.999_977_26
+            + s
+                * (-0.332_623_47
+                    + s
+                        * (0.193_543_46
+                            + s * (-0.116_432_87 + s * (0.052_653_32 - s * 0.011_721_2)))))
+}
+
+fn pick(b: bool, p: f32, q: f32) -> f32
+    ensures { λ r. ⌜ r ≡ cond b p q ⌝ }
+{
+    if b { p } else { q }
+}
+
+// PI and PI / 2, as Rust has them.
+const PI: f32 = 3.14159265358979323846264338327950288;
+
+const FRAC_PI_2: f32 = 1.57079632679489661923132169163975144;
+
+pub fn atan2_fast(y: f32, x: f32) -> f32
+    ensures { λ r. ⌜ r ≡ atan2Of y x ⌝ }
+{
+    let ax = abs(x);
+    let ay = abs(y);
+    let steep = ax < ay;
+    let large = pick(steep, ay, ax);
+    if large == 0.0 {
+        return 0.0;
+    }
+    let r = octant_of(pick(steep, ax, ay) / large);
+    let r = pick(steep, FRAC_PI_2 - r, r);
+    let r = pick(x < 0.0, PI - r, r);
+    if y < 0.0 { -r } else { r }
+}
