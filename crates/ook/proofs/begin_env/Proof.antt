@@ -1,0 +1,11 @@
+use mathlib.Core.Path.{refl}
+use Rattle.ook.specs.Run.{beginEnvOf}
+use Rattle.ook.proofs.begin_env.Statement.{statement}
+use Rattle.ook.proofs.begin_env.Tie as tie
+
+returns : tie.Need-returns
+unfolding beginEnvOf
+returns c = refl
+
+pub begin-env-spec : {M : Type 1} → statement M
+begin-env-spec = tie.close (tie.spec returns)

@@ -1,0 +1,7 @@
+-- The definitions that the OOK crate's contracts cite.
+pub mod Counts
+pub mod Answers
+pub mod Params
+pub mod Run
+pub mod Refine
+pub mod Train
