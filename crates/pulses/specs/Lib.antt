@@ -2,3 +2,5 @@ pub mod Runs
 pub mod Machine
 pub mod Division
 pub mod Edges
+pub mod RunState
+pub mod TrainState
