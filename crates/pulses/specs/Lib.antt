@@ -4,3 +4,4 @@ pub mod Division
 pub mod Edges
 pub mod RunState
 pub mod TrainState
+pub mod OokSample

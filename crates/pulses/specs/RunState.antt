@@ -14,7 +14,8 @@ use Rattle.ook.specs.declared.Run.{Run}
 use Rattle.ook.specs.declared.Settings.{Settings}
 use Rattle.ook.specs.Counts.{satAddOf, bit}
 use Rattle.ook.specs.Params.{refineAtOf}
-use Rattle.ook.specs.Run.{runOf, withRun, lengthenOf, rejoinOf, beginRunOf, advanceOf}
+use Rattle.ook.specs.Run.{lengthenOf, rejoinOf, beginRunOf, advanceOf}
+use Rattle.stages.specs.Act.{dueOf, confirmIf}
 
 -- What of document 01's domain matters for the pulses.
 pub record Domain (p : Settings) : Type 0 where
@@ -32,13 +33,6 @@ unfoldable pub isHigh : Conf Float → Bool
 isHigh (lowed n) = false
 isHigh (highed t n) = true
 
--- a run that is not confirmed yet has min_steps samples
-unfoldable pub due : ℕ → Run → Bool
-due m r = cond (eqb (r .confirmed) 0) (leb m (r .«run_len»)) false
-
-abbrev pub confirm : Env → Env
-confirm v = withRun (runOf (v .run .level) (v .run .«run_len») 1 (v .run .«prev_len»)) v
-
 -- What the machine knows, in the definition's fields: whether the last run that counts is low or high, and whether samples of the
 -- other level have come since.
 pub data RunRel (m : ℕ) (c : Conf Float) (v : Env) : Type 0 where
@@ -49,13 +43,13 @@ pub data RunRel (m : ℕ) (c : Conf Float) (v : Env) : Type 0 where
 
 -- What a sample of level `on` does, where v is the run after it: no run begins to count, a high one does, or a low one does.
 pub data Outcome (m : ℕ) (c : Conf Float) (on : Bool) (v : Env) : Type 0 where
-  keeps : due m (v .run) ≡ false → isHigh (mstep m c (mark on (v .times .«t_run»))) ≡ isHigh c → memit m c (mark on (v .times .«t_run»)) ≡ []
+  keeps : dueOf m (v .run) ≡ false → isHigh (mstep m c (mark on (v .times .«t_run»))) ≡ isHigh c → memit m c (mark on (v .times .«t_run»)) ≡ []
       → RunRel m (mstep m c (mark on (v .times .«t_run»))) v → Outcome m c on v
-  rises : due m (v .run) ≡ true → on ≡ true → isHigh c ≡ false → isHigh (mstep m c (mark on (v .times .«t_run»))) ≡ true
-      → memit m c (mark on (v .times .«t_run»)) ≡ [] → RunRel m (mstep m c (mark on (v .times .«t_run»))) (confirm v) → Outcome m c on v
-  falls : due m (v .run) ≡ true → on ≡ false → isHigh c ≡ true → isHigh (mstep m c (mark on (v .times .«t_run»))) ≡ false
+  rises : dueOf m (v .run) ≡ true → on ≡ true → isHigh c ≡ false → isHigh (mstep m c (mark on (v .times .«t_run»))) ≡ true
+      → memit m c (mark on (v .times .«t_run»)) ≡ [] → RunRel m (mstep m c (mark on (v .times .«t_run»))) (confirmIf true v) → Outcome m c on v
+  falls : dueOf m (v .run) ≡ true → on ≡ false → isHigh c ≡ true → isHigh (mstep m c (mark on (v .times .«t_run»))) ≡ false
       → memit m c (mark on (v .times .«t_run»)) ≡ (v .times .«t_prev», v .times .«t_run») ∷ []
-      → RunRel m (mstep m c (mark on (v .times .«t_run»))) (confirm v) → Outcome m c on v
+      → RunRel m (mstep m c (mark on (v .times .«t_run»))) (confirmIf true v) → Outcome m c on v
 
 -- Refining its edge takes the run from v to w: all but the edge and the wait for it stays, a run whose edge does not wait stays
 -- whole, and from refine_at samples on none waits.
@@ -69,7 +63,7 @@ pub record Refined (m : ℕ) (v w : Env) : Type 0 where
 module _ (m : ℕ) (c : Conf Float) (v : Env) (n : ℕ) where
   rise-case : c ≡ lowed n → v .run .confirmed ≡ 0 → v .run .level ≡ 1 → v .run .«run_len» ≡ suc n → (m ≤ v .run .«run_len» → eqb (v .«ref_pending») 1 ≡ false)
       → Outcome m c true v
-  unfolding mstep memit rise isHigh due mark
+  unfolding mstep memit rise isHigh dueOf confirmIf mark
   rise-case qc q l u w = go (leb m (suc n)) refl
     where
       go : (b : Bool) → leb m (suc n) ≡ b → Outcome m c true v
@@ -77,7 +71,7 @@ module _ (m : ℕ) (c : Conf Float) (v : Env) (n : ℕ) where
       go false t = keeps (rw (q, u, t)) (rw (qc, t)) (rw qc) (try-high (rw (qc, t, u)) q l (rw u (leb-false m (suc n) t)))
 
   fall-case : c ≡ highed (v .times .«t_prev») n → v .run .confirmed ≡ 0 → v .run .level ≡ 0 → v .run .«run_len» ≡ suc n → Outcome m c false v
-  unfolding mstep memit fall closed isHigh due mark
+  unfolding mstep memit fall closed isHigh dueOf confirmIf mark
   fall-case qc q l u = go (leb m (suc n)) refl
     where
       go : (b : Bool) → leb m (suc n) ≡ b → Outcome m c false v
@@ -85,11 +79,11 @@ module _ (m : ℕ) (c : Conf Float) (v : Env) (n : ℕ) where
       go false t = keeps (rw (q, u, t)) (rw (qc, t)) (rw (qc, t)) (try-low (rw (qc, t, u)) q l (rw u (leb-false m (suc n) t)))
 
   low-stays : c ≡ lowed n → v .run .confirmed ≡ 1 → v .run .level ≡ 0 → Outcome m c false v
-  unfolding mstep memit isHigh due mark
+  unfolding mstep memit isHigh dueOf mark
   low-stays qc q l = keeps (rw q) (rw qc) (rw qc) (rest-low (rw qc) q l)
 
   high-stays : c ≡ highed (v .times .«t_run») n → v .run .confirmed ≡ 1 → v .run .level ≡ 1 → eqb (v .«ref_pending») 1 ≡ false → Outcome m c true v
-  unfolding mstep memit isHigh due mark
+  unfolding mstep memit isHigh dueOf mark
   high-stays qc q l w = keeps (rw q) (rw qc) (rw qc) (rest-high (rw qc) q l w)
 
 sat-one : (a : ℕ) → a < 16777216 → satAddOf a 1 ≡ suc a
