@@ -5,3 +5,4 @@ pub mod Params
 pub mod Run
 pub mod Refine
 pub mod Train
+pub mod Limits

@@ -1,0 +1,144 @@
+-- What refusal 4 of document 01 asks of the run and of the train, and that each definition leads from there to there:
+-- flags stay 0 or 1, pulses plus open stay at most max_pulses, and so `inc` never wraps.
+use Prim.Native.Nat.{ℕ, _+_, _^_, _<_, _≤_}
+use mathlib.Core.Bool.{Bool, true, false, cond}
+use mathlib.Core.List.{List}
+use mathlib.Core.Path.{_≡_, refl}
+use native.Mathlib.Omega.{arith}
+use lib.Dec.{leb, eqb, ltb}
+use lib.Ieee.{Float}
+use borrow.Author.Tests.{leb-false, eqb-true}
+use Rattle.arith.specs.declared.C32.{C32}
+use Rattle.arith.specs.declared.Steps.{Steps}
+use Rattle.arith.specs.Leaves.{stepOf}
+use Rattle.ook.specs.declared.Env.{Env}
+use Rattle.ook.specs.declared.Train.{Train}
+use Rattle.ook.specs.declared.Out.{Out}
+use Rattle.ook.specs.declared.Settings.{Settings}
+use Rattle.ook.specs.declared.Pushed.{Pushed}
+use Rattle.ook.specs.declared.Next.{Next}
+use Rattle.ook.specs.declared.Next.the-variants.{Idle}
+use Rattle.ook.specs.declared.Done.{Done}
+use Rattle.ook.specs.Counts.{inc, inc-exact, bit}
+use Rattle.ook.specs.Run.{lengthenOf, rejoinOf, beginRunOf, advanceOf, beginEnvOf}
+use Rattle.ook.specs.Train.{withStarted, withEnd, withLongest, longerOf, zeroSteps, stayBy, endBy, pushPulseOf, pushedBy, closeGapOf, emptyTrainOf, finishOf, endTrainOf, pulseDoneOf}
+
+-- of either arm what holds of both
+pub either : {A : Type 0} (P : A → Type 0) (b : Bool) {x y : A} → P x → P y → P (cond b x y)
+either P true p q = p
+either P false p q = q
+
+pub bit-flag : (b : Bool) → bit b ≤ 1
+bit-flag true = omega arith
+bit-flag false = omega arith
+
+pub record EnvWithin (s : Env) : Type 0 where
+  pub level-flag : s .run .level ≤ 1
+  pub confirmed-flag : s .run .confirmed ≤ 1
+  pub pending-flag : s .«ref_pending» ≤ 1
+
+pub record TrainWithin (max : ℕ) (t : Train) : Type 0 where
+  pub started-flag : t .started ≤ 1
+  pub open-flag : t .«open» ≤ 1
+  pub truncated-flag : t .truncated ≤ 1
+  pub pulses : t .«ook_n» + t .«open» ≤ max
+
+pub record OutWithin (max : ℕ) (o : Out) : Type 0 where
+  pub state-flag : o .state ≤ 1
+  pub cut-flag : o .cut ≤ 1
+  pub kind-flag : o .fsk ≤ 1
+  pub room : o .pairs ≤ max
+
+-- the run
+
+pub lengthen-within : (s : Env) → EnvWithin s → EnvWithin (lengthenOf s)
+unfolding lengthenOf
+lengthen-within s h = record { level-flag = h .level-flag; confirmed-flag = h .confirmed-flag; pending-flag = h .pending-flag }
+
+pub rejoin-within : (s : Env) (on : Bool) → EnvWithin (rejoinOf s on)
+unfolding rejoinOf
+rejoin-within s on = record { level-flag = bit-flag on; confirmed-flag = omega arith; pending-flag = omega arith }
+
+pub begin-run-within : (s : Env) (tc : Float) (idx : ℕ) (on : Bool) → EnvWithin (beginRunOf s tc idx on)
+unfolding beginRunOf
+begin-run-within s tc idx on = record { level-flag = bit-flag on; confirmed-flag = omega arith; pending-flag = omega arith }
+
+pub advance-within : (s : Env) (on : Bool) (tc : Float) (idx : ℕ) → EnvWithin s → EnvWithin (advanceOf s on tc idx)
+unfolding advanceOf
+advance-within s on tc idx h =
+    either EnvWithin (eqb (bit on) (s .run .level)) (lengthen-within s h)
+    (either EnvWithin (eqb (s .run .confirmed) 0) (rejoin-within s on) (begin-run-within s tc idx on))
+
+pub begin-env-within : (t : Float) (s : Env) → EnvWithin s → EnvWithin (beginEnvOf t s)
+unfolding beginEnvOf
+begin-env-within t s h = record { level-flag = omega arith; confirmed-flag = omega arith; pending-flag = h .pending-flag }
+
+-- the train
+
+module _ (max : ℕ) where
+  pub push-within : (t : Train) (pac : C32) (len : Steps) (ook : List ℕ) → TrainWithin max t → TrainWithin max (pushPulseOf max t pac len ook .0 .train)
+  unfolding pushPulseOf
+  push-within t pac len ook h = go (leb max (t .«ook_n»)) refl
+    where
+      go : (b : Bool) → leb max (t .«ook_n») ≡ b → TrainWithin max (pushPulseOf max t pac len ook .0 .train)
+      go true q = rw q (record { started-flag = h .started-flag; open-flag = h .open-flag; truncated-flag = omega arith; pulses = h .pulses })
+      go false q = rw q (record { started-flag = h .started-flag; open-flag = omega arith; truncated-flag = h .truncated-flag; pulses = omega (arith, leb-false max (t .«ook_n») q) })
+
+  module _ (fits : max < 2 ^ 32) where
+    pub close-gap-within : (t : Train) (gap : Steps) (ook : List ℕ) → TrainWithin max t → TrainWithin max (closeGapOf t gap ook .0)
+    unfolding closeGapOf
+    close-gap-within t gap ook h = go (eqb (t .«open») 1) refl
+      where
+        go : (b : Bool) → eqb (t .«open») 1 ≡ b → TrainWithin max (closeGapOf t gap ook .0)
+        go true q =
+            let one : t .«open» ≡ 1 = eqb-true (t .«open») 1 q in
+            let e : inc (t .«ook_n») ≡ t .«ook_n» + 1 = inc-exact (t .«ook_n») (omega (arith, h .pulses)) in
+            rw q (record { started-flag = h .started-flag; open-flag = omega arith; truncated-flag = h .truncated-flag; pulses = rw e (omega (arith, h .pulses)) })
+        go false q = rw q h
+
+    pub empty-within : (t : Train) → TrainWithin max (emptyTrainOf t)
+    unfolding emptyTrainOf
+    empty-within t = record { started-flag = omega arith; open-flag = omega arith; truncated-flag = omega arith; pulses = omega arith }
+
+    pub finish-within : (t : Train) (high : Float) (out : Out) → TrainWithin max t → OutWithin max out → TrainWithin max (finishOf t high out .train) × OutWithin max (finishOf t high out .out)
+    unfolding finishOf
+    finish-within t high out h o = (
+      empty-within t,
+      either (OutWithin max) (ltb 0 (t .«ook_n»))
+          (record { state-flag = omega arith; cut-flag = bit-flag (eqb (t .truncated) 1); kind-flag = omega arith; room = omega (arith, h .pulses) })
+          o,
+    )
+
+    -- a train that ended is within the limits, and so is its record
+    pub end-train-within : (t : Train) (high : Float) (out : Out) (ook : List ℕ) → TrainWithin max t → OutWithin max out → TrainWithin max (endTrainOf t high out ook .0 .train) × OutWithin max (endTrainOf t high out ook .0 .out)
+    unfolding endTrainOf
+    end-train-within t high out ook h o = finish-within (closeGapOf t zeroSteps ook .0) high out (close-gap-within t zeroSteps ook h) o
+
+pub record DoneWithin (max : ℕ) (d : Done) : Type 0 where
+  pub train-within : TrainWithin max (d .train)
+  pub out-within : OutWithin max (d .out)
+
+pub stay-within : (max : ℕ) (t : Train) (out : Out) (ook : List ℕ) → TrainWithin max t → OutWithin max out → DoneWithin max (stayBy out (t, ook) .0)
+stay-within max t out ook h o = record { train-within = h; out-within = o }
+
+pub end-within : (max : ℕ) → max < 2 ^ 32 → (next : Next) (t : Train) (high : Float) (out : Out) (ook : List ℕ) → TrainWithin max t → OutWithin max out → DoneWithin max (endBy next (endTrainOf t high out ook) .0)
+end-within max fits next t high out ook h o = record { train-within = end-train-within max fits t high out ook h o .0; out-within = end-train-within max fits t high out ook h o .1 }
+
+module _ (p : Settings) (fits : p .«max_pulses» < 2 ^ 32) where
+  pushed-within : (high : Float) (out : Out) (q : Pushed × List ℕ) → TrainWithin (p .«max_pulses») (q .0 .train) → OutWithin (p .«max_pulses») out → DoneWithin (p .«max_pulses») (pushedBy high out q .0)
+  pushed-within high out q h o = go (q .0 .fits) refl
+    where
+      go : (b : Bool) → q .0 .fits ≡ b → DoneWithin (p .«max_pulses») (pushedBy high out q .0)
+      go true e = rw e (stay-within (p .«max_pulses») (q .0 .train) out (q .1) h o)
+      go false e = rw e (end-within (p .«max_pulses») fits Idle (q .0 .train) high out (q .1) h o)
+
+  pub pulse-done-within : (t : Train) (pac : C32) (high : Float) (out : Out) (len : Steps) (end : Float) (ook : List ℕ) → TrainWithin (p .«max_pulses») t → OutWithin (p .«max_pulses») out → DoneWithin (p .«max_pulses») (pulseDoneOf p t pac high out len end ook .0)
+  unfolding pulseDoneOf
+  pulse-done-within t pac high out len end ook h o = go (eqb (p .mode) 1) refl
+    where
+      kept : TrainWithin (p .«max_pulses») (withLongest (longerOf (t .longest) len) (withEnd (stepOf end) t))
+      kept = record { started-flag = h .started-flag; open-flag = h .open-flag; truncated-flag = h .truncated-flag; pulses = h .pulses }
+
+      go : (b : Bool) → eqb (p .mode) 1 ≡ b → DoneWithin (p .«max_pulses») (pulseDoneOf p t pac high out len end ook .0)
+      go true q = rw q (stay-within (p .«max_pulses») (withStarted 0 (withEnd (stepOf end) t)) out ook (record { started-flag = omega arith; open-flag = h .open-flag; truncated-flag = h .truncated-flag; pulses = h .pulses }) o)
+      go false q = rw q (pushed-within high out (pushPulseOf (p .«max_pulses») (withLongest (longerOf (t .longest) len) (withEnd (stepOf end) t)) pac len ook) (push-within (p .«max_pulses») _ pac len ook kept) o)

@@ -1,0 +1,14 @@
+use Rattle.stages.specs.See.{onOf}
+use Rattle.stages.proofs.on_of.Statement.{statement}
+use Rattle.stages.proofs.on_of.Tie as tie
+
+returns : tie.Need-returns
+unfolding onOf
+returns c = simp (c .if1 .taken)
+
+returns-2 : tie.Need-returns-2
+unfolding onOf
+returns-2 c = simp (c .if1 .left)
+
+pub on-of-spec : {M : Type 1} → statement M
+on-of-spec = tie.close (tie.spec returns returns-2)
