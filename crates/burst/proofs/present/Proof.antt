@@ -1,0 +1,52 @@
+use Rattle.burst.specs.Sample.{presentOf}
+use native.Mathlib.Omega.{arith}
+use borrow.Author.Needs.{needs}
+use Rattle.burst.proofs.present.Statement.{statement}
+use Rattle.burst.proofs.present.Tie as tie
+
+presence-requires : tie.Need-presence-requires
+presence-requires c κs = search needs
+
+with-present-requires : tie.Need-with-present-requires
+with-present-requires c κs = search needs
+
+is-stay-requires : tie.Need-is-stay-requires
+is-stay-requires c κs = search needs
+
+last-requires : tie.Need-last-requires
+last-requires c κs = search needs
+
+same-length : tie.Need-same-length
+same-length c = omega (arith, c .before .before .before .before .last .kept .1 .1 .1 .1 .0, c .before .before .before .before .before .before .before .before .before .before .before .before .before .before .before .before .presence .kept .1 .1 .1 .1 .0)
+
+same-length-2 : tie.Need-same-length-2
+same-length-2 c = search needs
+
+returns : tie.Need-returns
+unfolding presentOf
+returns c = simp (← c .before .before .before .before .before .before .before .before .before .before .before .before .before .before .before .before .presence .ensures, ← c .before .before .before .before .before .before .before .before .before .with-present .ensures, ← c .before .before .before .before .before .before .before .before .is-stay .ensures, c .before .before .before .before .before .before .before .if1 .taken, ← c .before .before .before .before .last .ensures)
+
+same-length-3 : tie.Need-same-length-3
+same-length-3 c = search needs
+
+same-length-4 : tie.Need-same-length-4
+same-length-4 c = search needs
+
+returns-2 : tie.Need-returns-2
+unfolding presentOf
+returns-2 c = simp (← c .before .before .before .before .before .before .before .before .before .presence .ensures, ← c .before .before .with-present .ensures, ← c .before .is-stay .ensures, c .if1 .left)
+
+pub present-spec : {M : Type 1} → statement M
+present-spec =
+    tie.close
+    (tie.spec
+    presence-requires
+    with-present-requires
+    is-stay-requires
+    last-requires
+    same-length
+    same-length-2
+    returns
+    same-length-3
+    same-length-4
+    returns-2)

@@ -1,0 +1,132 @@
+-- `begin_burst` and `lead` (source document 000): the lead-in fills, and once it is full its samples are replayed.
+use Prim.Native.Nat.{ℕ, zero, suc, _+_, _-_, _%_, _^_, _<_, _≤_}
+use mathlib.Core.Bool.{Bool, true, false, cond}
+use mathlib.Core.Path.{_≡_, refl, ap, sym, _∙_}
+use mathlib.Core.List.{List}
+use native.Mathlib.Omega.{arith}
+use lib.ListN.{set, getD}
+use lib.Dec.{eqb}
+use lib.IntN.{pos}
+use lib.Ieee.{Float, nan, binary64, lt, ofInt}
+use Rattle.arith.specs.Leaves.{zero32, leadLenOf}
+use Rattle.arith.specs.declared.C32.{C32}
+use Rattle.ook.specs.Counts.{inc, zeroC32}
+use Rattle.ook.specs.Answers.{nextNumberOf, isStayOf}
+use Rattle.ook.specs.Run.{beginEnvOf}
+use Rattle.ook.specs.Train.{emptyTrainOf}
+use Rattle.ook.specs.declared.Settings.{Settings}
+use Rattle.ook.specs.declared.Next.{Next}
+use Rattle.ook.specs.declared.Next.the-variants.{Stay, Idle, IdleAt}
+use Rattle.presence.specs.Move.{presOf}
+use Rattle.presence.specs.declared.Pres.{Pres}
+use Rattle.stages.specs.declared.At.{At}
+use Rattle.burst.specs.Makers.{burstOf}
+use Rattle.burst.specs.Sample.{sampleOf}
+use Rattle.burst.specs.declared.Burst.{Burst}
+use Rattle.burst.specs.declared.Lead.{Lead}
+use Rattle.burst.specs.declared.Sampled.{Sampled}
+
+-- a sample goes into the lead-in: lead_x[0] is the sample before the first, so that it has one place more
+unfoldable pub leadAddOf : Lead → Float → C32 → Lead
+leadAddOf l e x =
+    record {
+      «lead_at» = l .«lead_at»;
+      «lead_n» = inc (l .«lead_n»);
+      «lead_e» = set (l .«lead_e») (l .«lead_n») e;
+      «lead_x» = set (l .«lead_x») (l .«lead_n» + 1) x;
+    }
+
+-- the signal level: the largest envelope of the lead-in, from the k places from i on and from m
+unfoldable pub largestFrom : List Float → ℕ → ℕ → Float → Float
+largestFrom «lead_e» zero i m = m
+largestFrom «lead_e» (suc k) i m = largestFrom «lead_e» k (i + 1) (cond (lt m (getD «lead_e» i nan)) (getD «lead_e» i nan) m)
+
+abbrev pub largestOf : List Float → ℕ → Float
+largestOf «lead_e» len = largestFrom «lead_e» len 0 zero32
+
+-- begin_burst: no pulse and no presence yet, at the time t; the records, the frame, ref_idx, ref_pending and p_factor stay
+abbrev pub beginPresOf : Float → Pres → Pres
+beginPresOf t s = presOf t t (s .«p_factor») 0 0 1 0
+
+unfoldable pub beginBurstOf : Float → Float → Float → Burst → Burst
+beginBurstOf high t e b = burstOf high e (beginEnvOf t (b .env)) zeroC32 (emptyTrainOf (b .train)) (b .«out_ook») 0 (beginPresOf t (b .pres)) (b .frame) (b .«out_fsk»)
+
+-- the sample at place i of the lead-in; the arrays have 16 and 17 places, so that a default is never read
+unfoldable pub leadAtOf : Float → Lead → ℕ → At
+leadAtOf noise l i =
+    record {
+      idx = (l .«lead_at» + i) % 2 ^ 64;
+      «lead_at» = l .«lead_at»;
+      noise = noise;
+      e = getD (l .«lead_e») i nan;
+      x = getD (l .«lead_x») (i + 1) (record { re = nan; im = nan });
+      xp = getD (l .«lead_x») i (record { re = nan; im = nan });
+    }
+
+-- one sample more, unless the burst has ended
+abbrev pub onward : Settings → At → List Float → Sampled × List ℕ × List ℕ → Sampled × List ℕ × List ℕ
+onward p a ring s = cond (isStayOf (s .0 .next)) (sampleOf p a ring (s .0 .burst) (s .1) (s .2)) s
+
+-- the k places from i on
+unfoldable pub replayFrom : Settings → Float → List Float → Lead → ℕ → ℕ → Sampled × List ℕ × List ℕ → Sampled × List ℕ × List ℕ
+replayFrom p noise ring l zero i s = s
+replayFrom p noise ring l (suc k) i s = replayFrom p noise ring l k (i + 1) (onward p (leadAtOf noise l i) ring s)
+
+abbrev pub staying : Burst → List ℕ → List ℕ → Sampled × List ℕ × List ℕ
+staying b ook fsk = (record { next = Stay; burst = b }, ook, fsk)
+
+unfoldable pub replayOf : Settings → Float → List Float → Lead → Burst → List ℕ → List ℕ → Sampled × List ℕ × List ℕ
+replayOf p noise ring l b ook fsk = replayFrom p noise ring l (leadLenOf (p .«min_steps»)) 0 (staying b ook fsk)
+
+-- the lead-in is full: the burst begins, and the samples are replayed with the noise of the call that filled it
+unfoldable pub leadFullOf : Settings → Float → List Float → Lead → Burst → List ℕ → List ℕ → Sampled × List ℕ × List ℕ
+leadFullOf p noise ring l b ook fsk =
+    replayOf p noise ring l
+    (beginBurstOf (largestOf (l .«lead_e») (leadLenOf (p .«min_steps»))) (ofInt binary64 (pos (l .«lead_at»))) (getD (l .«lead_e») 0 nan) b)
+    ook fsk
+
+-- a turn of the loop for the largest, and its end
+pub largest-turn : (es : List Float) (len i : ℕ) (m : Float) → i < len → largestFrom es (len - i) i m ≡ largestFrom es (len - (i + 1)) (i + 1) (cond (lt m (getD es i nan)) (getD es i nan) m)
+unfolding largestFrom
+largest-turn es len i m h = let e : len - i ≡ suc (len - (i + 1)) = omega arith in rw e
+
+pub largest-end : (es : List Float) (len i : ℕ) (m : Float) → len ≤ i → largestFrom es (len - i) i m ≡ m
+unfolding largestFrom
+largest-end es len i m h = let e : len - i ≡ 0 = omega arith in rw e
+
+is-stay : (n : Next) → isStayOf n ≡ true → n ≡ Stay
+is-stay Stay h = refl
+is-stay Idle h = let z : _≡_ {A = Bool} false true = h in cc
+is-stay (IdleAt e) h = let z : _≡_ {A = Bool} false true = h in cc
+
+module _ (p : Settings) (noise : Float) (ring : List Float) (l : Lead) where
+  -- an end stays the end
+  pub replay-stop : (k i : ℕ) (s : Sampled × List ℕ × List ℕ) → isStayOf (s .0 .next) ≡ false → replayFrom p noise ring l k i s ≡ s
+  unfolding replayFrom
+  replay-stop zero i s h = refl
+  replay-stop (suc k) i s h = rw h (replay-stop k (i + 1) s h)
+
+  pub replay-turn : (len i : ℕ) (b : Burst) (ook fsk : List ℕ) → i < len → replayFrom p noise ring l (len - i) i (staying b ook fsk) ≡ replayFrom p noise ring l (len - (i + 1)) (i + 1) (sampleOf p (leadAtOf noise l i) ring b ook fsk)
+  unfolding replayFrom
+  replay-turn len i b ook fsk h = let e : len - i ≡ suc (len - (i + 1)) = omega arith in rw e
+
+  pub replay-end : (len i : ℕ) (s : Sampled × List ℕ × List ℕ) → len ≤ i → replayFrom p noise ring l (len - i) i s ≡ s
+  unfolding replayFrom
+  replay-end len i s h = let e : len - i ≡ 0 = omega arith in rw e
+
+  -- the loop's turn, as the code has it
+  pub turn-again : (len i : ℕ) (b : Burst) (ook fsk : List ℕ) (r : Sampled) (ook′ fsk′ : List ℕ) (a : At) (stay : Bool)
+      → i < len → a ≡ leadAtOf noise l i → (r, ook′, fsk′) ≡ sampleOf p a ring b ook fsk → stay ≡ isStayOf (r .next) → stay ≡ true
+      → replayFrom p noise ring l (len - (i + 1)) (i + 1) (staying (r .burst) ook′ fsk′) ≡ replayFrom p noise ring l (len - i) i (staying b ook fsk)
+  turn-again len i b ook fsk r ook′ fsk′ a stay h ea es eb et =
+      let n : r .next ≡ Stay = is-stay (r .next) (sym eb ∙ et) in
+      let s : staying (r .burst) ook′ fsk′ ≡ (r, ook′, fsk′) = ap (λ (x : Next). (record { next = x; burst = r .burst }, ook′, fsk′)) (sym n) in
+      let q : sampleOf p a ring b ook fsk ≡ sampleOf p (leadAtOf noise l i) ring b ook fsk = ap (λ (x : At). sampleOf p x ring b ook fsk) ea in
+      ap (replayFrom p noise ring l (len - (i + 1)) (i + 1)) (s ∙ es ∙ q) ∙ sym (replay-turn len i b ook fsk h)
+
+  pub turn-stop : (len i : ℕ) (b : Burst) (ook fsk : List ℕ) (r : Sampled) (ook′ fsk′ : List ℕ) (a : At) (stay : Bool)
+      → i < len → a ≡ leadAtOf noise l i → (r, ook′, fsk′) ≡ sampleOf p a ring b ook fsk → stay ≡ isStayOf (r .next) → stay ≡ false
+      → (r, ook′, fsk′) ≡ replayFrom p noise ring l (len - i) i (staying b ook fsk)
+  turn-stop len i b ook fsk r ook′ fsk′ a stay h ea es eb et =
+      let q : sampleOf p a ring b ook fsk ≡ sampleOf p (leadAtOf noise l i) ring b ook fsk = ap (λ (x : At). sampleOf p x ring b ook fsk) ea in
+      sym (replay-stop (len - (i + 1)) (i + 1) (r, ook′, fsk′) (sym eb ∙ et)) ∙ ap (replayFrom p noise ring l (len - (i + 1)) (i + 1)) (es ∙ q) ∙ sym (replay-turn len i b ook fsk h)

@@ -1,0 +1,11 @@
+use mathlib.Core.Path.{refl}
+use Rattle.fsk.specs.Resolve.{beginFrameOf}
+use Rattle.fsk.proofs.begin_frame.Statement.{statement}
+use Rattle.fsk.proofs.begin_frame.Tie as tie
+
+returns : tie.Need-returns
+unfolding beginFrameOf
+returns c = refl
+
+pub begin-frame-spec : {M : Type 1} → statement M
+begin-frame-spec = tie.close (tie.spec returns)

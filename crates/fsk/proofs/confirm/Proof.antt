@@ -1,0 +1,21 @@
+use Rattle.fsk.specs.RunStep.{confirmOf}
+use borrow.Author.Needs.{needs}
+use Rattle.fsk.proofs.confirm.Statement.{statement}
+use Rattle.fsk.proofs.confirm.Tie as tie
+
+fsk-commit-requires : tie.Need-fsk-commit-requires
+fsk-commit-requires c κs = search needs
+
+same-length : tie.Need-same-length
+same-length c = search needs
+
+returns : tie.Need-returns
+unfolding confirmOf
+returns c = simp (c .before .before .before .before .if1 .taken, ← c .before .before .fsk-commit .ensures)
+
+returns-2 : tie.Need-returns-2
+unfolding confirmOf
+returns-2 c = simp (c .if1 .left)
+
+pub confirm-spec : {M : Type 1} → statement M
+confirm-spec = tie.close (tie.spec fsk-commit-requires same-length returns returns-2)

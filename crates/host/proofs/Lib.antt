@@ -1,0 +1,2 @@
+-- What holds of the exported functions' definitions.
+pub mod SpecialPatterns

@@ -1,0 +1,127 @@
+-- `presence` (source document 000): one sample of the presence machine, and what `begin_run` of the envelope does to it.
+use Prim.Native.Nat.{ℕ}
+use mathlib.Core.Bool.{Bool, true, false, cond}
+use mathlib.Core.List.{List}
+use lib.Dec.{ltb, leb, eqb}
+use lib.IntN.{pos}
+use lib.Ieee.{Float, binary32, binary64, add, sub, mul, lt, le, ofBits, ofInt}
+use Rattle.arith.specs.Leaves.{zero64, one64, edgeOf, crossOf}
+use Rattle.ook.specs.Counts.{bit}
+use Rattle.ook.specs.Train.{endTrainOf}
+use Rattle.ook.specs.declared.Train.{Train}
+use Rattle.ook.specs.declared.Out.{Out}
+use Rattle.ook.specs.declared.Ended.{Ended}
+use Rattle.ook.specs.declared.Settings.{Settings}
+use Rattle.ook.specs.declared.Next.{Next}
+use Rattle.ook.specs.declared.Next.the-variants.{Stay, Idle, IdleAt}
+use Rattle.fsk.specs.Makers.{withFull, withStart, withRuns, withDone}
+use Rattle.fsk.specs.declared.Frame.{Frame}
+use Rattle.slicer.specs.Tone.{upperOf}
+use Rattle.slicer.specs.Sample.{fskSampleOf}
+use Rattle.frame.specs.Done.{bodyOf, withFrame, frameDoneOf}
+use Rattle.frame.specs.declared.Body.{Body}
+use Rattle.presence.specs.Move.{presThrOf, movePresOf, moveFrameOf, withConfirmed}
+use Rattle.presence.specs.Move as move
+use Rattle.presence.specs.declared.Pres.{Pres}
+use Rattle.presence.specs.declared.Look.{Look}
+use Rattle.presence.specs.declared.Looked.{Looked}
+use Rattle.presence.specs.declared.Present.{Present}
+use Rattle.presence.specs.declared.Snapped.{Snapped}
+
+-- ---- the level, the run of the presence, the frame, and the slicer's sample
+
+unfoldable pub listenOf : Settings → Look → Bool → Frame → List ℕ → Frame × List ℕ
+listenOf p a on fr fsk = cond on (fskSampleOf p fr (a .high) (a .d) (a .e) (a .idx) fsk) (fr, fsk)
+
+abbrev pub hearBy : Bool → Pres → Frame × List ℕ → Looked × List ℕ
+hearBy on s q = (record { on = on; pres = s; frame = q .0 }, q .1)
+
+abbrev pub hearAt : Settings → Look → Pres → Frame → Bool → Float → List ℕ → Looked × List ℕ
+hearAt p a s fr on tc fsk = hearBy on (movePresOf s (bit on) tc) (listenOf p a on (moveFrameOf s on (bit on) tc fr) fsk)
+
+abbrev pub hearThr : Settings → Look → Pres → Frame → Float → List ℕ → Looked × List ℕ
+hearThr p a s fr thr fsk = hearAt p a s fr (upperOf (eqb (s .«p_level») 1) (a .e) thr) (edgeOf (a .idx) (crossOf (a .ep) (a .e) thr)) fsk
+
+unfoldable pub hearOf : Settings → Look → Pres → Frame → List ℕ → Looked × List ℕ
+hearOf p a s fr fsk = hearThr p a s fr (presThrOf (eqb (s .«p_level») 1) (a .noise) (s .«p_factor»)) fsk
+
+-- ---- a presence or an absence of at least min_steps is confirmed; an absence then ends the presence before it
+
+unfoldable pub dueOf : Pres → ℕ → Bool
+dueOf s «min_steps» = cond (eqb (s .«p_confirmed») 0) (leb «min_steps» (s .«p_run»)) false
+
+unfoldable pub sureIfOf : Bool → Pres → Pres
+sureIfOf due s = cond due (withConfirmed 1 s) s
+
+unfoldable pub endsOf : Bool → Bool → ℕ → ℕ → Bool
+endsOf due on «p_prev» «min_steps» = cond due (cond on false (leb «min_steps» «p_prev»)) false
+
+-- (0.0..=EDGE_WINDOW).contains, EDGE_WINDOW is 4
+unfoldable pub inWindowOf : Float → Bool
+inWindowOf x = cond (le zero64 x) (le x (ofBits binary64 0x4010_0000_0000_0000)) false
+
+-- the midpoint edge of the envelope just before is the better end
+unfoldable pub endOf : ℕ → Float → Float → Float
+endOf level «c_run» «p_t_run» = cond (eqb level 0) (cond (inWindowOf (sub binary64 «p_t_run» «c_run»)) «c_run» «p_t_run») «p_t_run»
+
+unfoldable pub endIfOf : Bool → Settings → Look → Pres → Body → List ℕ → List ℕ → Body × List ℕ × List ℕ
+endIfOf ends p a s b ook fsk =
+    cond ends
+    (frameDoneOf p b (a .high) (a .pac) (s .«p_t_prev») (endOf (a .level) (a .«c_run») (s .«p_t_run»)) ook fsk)
+    (b, ook, fsk)
+
+-- ---- a carrier: the frame so far is kept, cut, and the train ends too
+
+unfoldable pub longOf : Bool → ℕ → ℕ → Bool
+longOf on «p_run» «long_steps» = cond on (ltb «long_steps» «p_run») false
+
+abbrev pub fullBody : Body → Body
+fullBody b = withFrame (withDone (withFull 1 (b .frame .done)) (b .frame)) b
+
+abbrev pub endedBody : Body → List ℕ → Ended × List ℕ → Body × List ℕ × List ℕ
+endedBody b fsk q = (bodyOf (b .frame) (q .0 .train) (b .frames) (q .0 .out) (b .«out_fsk»), q .1, fsk)
+
+abbrev pub endTrainBy : Float → Body × List ℕ × List ℕ → Body × List ℕ × List ℕ
+endTrainBy high q = endedBody (q .0) (q .2) (endTrainOf (q .0 .train) high (q .0 .«out_ook») (q .1))
+
+unfoldable pub cutOffOf : Settings → Look → Float → Body → List ℕ → List ℕ → Body × List ℕ × List ℕ
+cutOffOf p a «p_t_run» b ook fsk =
+    endTrainBy (a .high) (frameDoneOf p (fullBody b) (a .high) (a .pac) «p_t_run» (add binary64 (ofInt binary64 (pos (a .idx))) one64) ook fsk)
+
+abbrev pub presentBy : Next → Pres → Body × List ℕ × List ℕ → Present × List ℕ × List ℕ
+presentBy next s q = (record { next = next; pres = s; body = q .0 }, q .1, q .2)
+
+unfoldable pub carryOf : Settings → Look → Bool → Pres → Body → List ℕ → List ℕ → Present × List ℕ × List ℕ
+carryOf p a on s b ook fsk =
+    cond (longOf on (s .«p_run») (p .«long_steps»))
+    (presentBy (IdleAt (a .e)) s (cutOffOf p a (s .«p_t_run») b ook fsk))
+    (record { next = Stay; pres = s; body = b }, ook, fsk)
+
+-- ---- the whole
+
+abbrev pub carryBy : Settings → Look → Bool → Pres → Body × List ℕ × List ℕ → Present × List ℕ × List ℕ
+carryBy p a on s q = carryOf p a on s (q .0) (q .1) (q .2)
+
+abbrev pub confirmBy : Settings → Look → Bool → Pres → Body → Bool → List ℕ → List ℕ → Present × List ℕ × List ℕ
+confirmBy p a on s b due ook fsk = carryBy p a on (sureIfOf due s) (endIfOf (endsOf due on (s .«p_prev») (p .«min_steps»)) p a s b ook fsk)
+
+abbrev pub afterHear : Settings → Look → Body → List ℕ → Looked × List ℕ → Present × List ℕ × List ℕ
+afterHear p a b ook q = confirmBy p a (q .0 .on) (q .0 .pres) (withFrame (q .0 .frame) b) (dueOf (q .0 .pres) (p .«min_steps»)) ook (q .1)
+
+-- `Next::Stay` stands for the Rust's `None`
+unfoldable pub presenceOf : Settings → Look → Pres → Body → List ℕ → List ℕ → Present × List ℕ × List ℕ
+presenceOf p a s b ook fsk = afterHear p a b ook (hearOf p a s (b .frame) fsk)
+
+-- ---- `begin_run` of the envelope at a rise, whose edge is tc
+
+-- the presence began just before, and the frame has no transition and no run yet
+unfoldable pub nearStartOf : ℕ → ℕ → ℕ → Float → Bool
+nearStartOf «p_level» «fsk_phase» «fsk_runs» lead =
+    cond (eqb «p_level» 1) (cond (eqb «fsk_phase» 0) (cond (eqb «fsk_runs» 0) (inWindowOf lead) false) false) false
+
+-- then the edge is the better start of presence and frame
+unfoldable pub snapOf : Pres → Frame → Float → Snapped
+snapOf s fr tc =
+    cond (nearStartOf (s .«p_level») (fr .«fsk_phase») (fr .done .«fsk_runs») (sub binary64 tc (s .«p_t_run»)))
+    (record { pres = move.withStart tc s; frame = withRuns (withStart tc (fr .runs)) fr })
+    (record { pres = s; frame = fr })

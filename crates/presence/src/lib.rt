@@ -1,0 +1,358 @@
+// The presence machine of the modes FSK and Auto: `presence` of the Rust, and what `begin_run` does to it.
+ghost use mathlib.Core.Path.{_≡_};
+ghost use Prim.Native.Nat.{_+_, _*_, _-_, _%_, _^_, _<_, _≤_};
+ghost use Rattle.presence.specs.Move.{presThrOf, lengthenOf, rejoinOf, beginRunOf, movePresOf, extendOf, moveFrameOf};
+ghost use Rattle.presence.specs.Presence.{listenOf, dueOf, sureIfOf, endsOf, inWindowOf, endOf, endIfOf, longOf, cutOffOf, carryOf, hearOf, presenceOf, nearStartOf, snapOf};
+use arith::C32;
+use arith::Steps;
+use frame::Body;
+use fsk::Frame;
+use fsk::Runs;
+use ook::Ended;
+use ook::Next;
+use ook::Out;
+use ook::Settings;
+use ook::Train;
+
+// The run of the presence, and the trigger factor.
+pub struct Pres {
+    pub p_t_run: f64,
+    pub p_t_prev: f64,
+    pub p_factor: f32,
+    pub p_level: u32,
+    pub p_run: u32,
+    pub p_confirmed: u32,
+    pub p_prev: u32,
+}
+
+// What the presence machine reads beside its own state.
+pub struct Look {
+    pub idx: u64,
+    pub noise: f32,
+    pub e: f32,
+    pub ep: f32,
+    pub d: C32,
+    pub high: f32,
+    pub pac: C32,
+    pub level: u32,
+    pub c_run: f64,
+}
+
+// Whether the carrier is on, its presence, and the frame.
+pub struct Looked {
+    pub on: bool,
+    pub pres: Pres,
+    pub frame: Frame,
+}
+
+// What the sample asks for, the presence, and what the end of a frame may have changed.
+pub struct Present {
+    pub next: Next,
+    pub pres: Pres,
+    pub body: Body,
+}
+
+fn pres_thr(up: bool, noise: f32, factor: f32) -> f32
+    ensures { λ r. ⌜ r ≡ presThrOf up noise factor ⌝ }
+{
+    if up {
+        return noise * factor * 0.875;
+    }
+    noise * factor * 1.125
+}
+
+fn lengthen(s: Pres) -> Pres
+    ensures { λ r. ⌜ r ≡ lengthenOf s ⌝ }
+{
+    let n = ook::sat_add(s.p_run, 1);
+    let mut q = s;
+    q.p_run = n;
+    q
+}
+
+fn rejoin(s: Pres, level: u32) -> Pres
+    ensures { λ r. ⌜ r ≡ rejoinOf s level ⌝ }
+{
+    let n = ook::sat_add(ook::sat_add(s.p_prev, s.p_run), 1);
+    let mut q = s;
+    q.p_level = level;
+    q.p_run = n;
+    q.p_t_run = s.p_t_prev;
+    q.p_confirmed = 1;
+    q
+}
+
+fn begin_run(s: Pres, level: u32, tc: f64) -> Pres
+    ensures { λ r. ⌜ r ≡ beginRunOf s level tc ⌝ }
+{
+    let mut q = s;
+    q.p_prev = s.p_run;
+    q.p_t_prev = s.p_t_run;
+    q.p_t_run = tc;
+    q.p_level = level;
+    q.p_run = 1;
+    q.p_confirmed = 0;
+    q
+}
+
+fn move_pres(s: Pres, level: u32, tc: f64) -> Pres
+    ensures { λ r. ⌜ r ≡ movePresOf s level tc ⌝ }
+{
+    let same = level == s.p_level;
+    if same {
+        return lengthen(s);
+    }
+    let short = s.p_confirmed == 0;
+    if short {
+        return rejoin(s, level);
+    }
+    begin_run(s, level, tc)
+}
+
+// A short absence inside a frame: its samples extend the frequency run.
+fn extend(fr: Frame, n: u32) -> Frame
+    ensures { λ r. ⌜ r ≡ extendOf fr n ⌝ }
+{
+    let k = ook::sat_add(fr.runs.fsk_run, n);
+    let mut q = fr;
+    q.runs.fsk_run = k;
+    q
+}
+
+// What the move of the presence s does to the frame.
+fn move_frame(s: Pres, on: bool, level: u32, tc: f64, fr: Frame) -> Frame
+    ensures { λ r. ⌜ r ≡ moveFrameOf s on level tc fr ⌝ }
+{
+    let same = level == s.p_level;
+    if same {
+        return fr;
+    }
+    let short = s.p_confirmed == 0;
+    if short {
+        if on {
+            return extend(fr, s.p_run);
+        }
+        return fr;
+    }
+    if on {
+        return fsk::begin_frame(fr, tc);
+    }
+    fr
+}
+
+fn listen(p: Settings, a: Look, on: bool, fr: Frame, fsk: &mut [u32]) -> Frame
+    ensures { λ r. ⌜ (r, now (fsk .exit)) ≡ listenOf p a on fr (now (fsk .entry)) ⌝ }
+{
+    if on {
+        let d = a.d;
+        return slicer::fsk_sample(p, fr, a.high, d, a.e, a.idx, fsk);
+    }
+    fr
+}
+
+// The first half: the level, the run of the presence, the frame, and the slicer's sample.
+fn hear(p: Settings, a: Look, s: Pres, fr: Frame, fsk: &mut [u32]) -> Looked
+    ensures { λ r. ⌜ (r, now (fsk .exit)) ≡ hearOf p a s fr (now (fsk .entry)) ⌝ }
+{
+    let up = s.p_level == 1;
+    let thr = pres_thr(up, a.noise, s.p_factor);
+    let on = slicer::upper_of(up, a.e, thr);
+    let level = ook::bit(on);
+    let tc = arith::edge(a.idx, arith::cross(a.ep, a.e, thr));
+    let q = move_pres(s, level, tc);
+    let f = move_frame(s, on, level, tc, fr);
+    let g = listen(p, a, on, f, fsk);
+    Looked {
+        on,
+        pres: q,
+        frame: g,
+    }
+}
+
+fn due_of(s: Pres, min_steps: u32) -> bool
+    ensures { λ r. ⌜ r ≡ dueOf s «min_steps» ⌝ }
+{
+    let open = s.p_confirmed == 0;
+    if open {
+        return s.p_run >= min_steps;
+    }
+    false
+}
+
+fn sure_if(due: bool, s: Pres) -> Pres
+    ensures { λ r. ⌜ r ≡ sureIfOf due s ⌝ }
+{
+    if due {
+        let mut q = s;
+        q.p_confirmed = 1;
+        return q;
+    }
+    s
+}
+
+fn ends_of(due: bool, on: bool, prev: u32, min_steps: u32) -> bool
+    ensures { λ r. ⌜ r ≡ endsOf due on prev «min_steps» ⌝ }
+{
+    if due {
+        if on {
+            return false;
+        }
+        return prev >= min_steps;
+    }
+    false
+}
+
+fn in_window(x: f64) -> bool
+    ensures { λ r. ⌜ r ≡ inWindowOf x ⌝ }
+{
+    let low = 0.0 <= x;
+    if low {
+        return x <= 4.0;
+    }
+    false
+}
+
+// The midpoint edge of the envelope just before is the better end.
+fn end_of(level: u32, c_run: f64, end: f64) -> f64
+    ensures { λ r. ⌜ r ≡ endOf level «c_run» end ⌝ }
+{
+    let off = level == 0;
+    if off {
+        let near = in_window(end - c_run);
+        if near {
+            return c_run;
+        }
+        return end;
+    }
+    end
+}
+
+fn end_if(
+    ends: bool,
+    p: Settings,
+    a: Look,
+    s: Pres,
+    b: Body,
+    ook: &mut [u32],
+    fsk: &mut [u32],
+) -> Body
+    ensures { λ r. ⌜ (r, now (ook .exit), now (fsk .exit)) ≡ endIfOf ends p a s b (now (ook .entry)) (now (fsk .entry)) ⌝ }
+{
+    if ends {
+        let end = end_of(a.level, a.c_run, s.p_t_run);
+        let pac = a.pac;
+        return frame::frame_done(p, b, a.high, pac, s.p_t_prev, end, ook, fsk);
+    }
+    b
+}
+
+fn long_of(on: bool, run: u32, long_steps: u32) -> bool
+    ensures { λ r. ⌜ r ≡ longOf on run «long_steps» ⌝ }
+{
+    if on {
+        return run > long_steps;
+    }
+    false
+}
+
+// A carrier: the frame so far is kept, cut, and the train ends too.
+fn cut_off(p: Settings, a: Look, t_run: f64, b: Body, ook: &mut [u32], fsk: &mut [u32]) -> Body
+    ensures { λ r. ⌜ (r, now (ook .exit), now (fsk .exit)) ≡ cutOffOf p a «t_run» b (now (ook .entry)) (now (fsk .entry)) ⌝ }
+{
+    let mut m = b;
+    m.frame.done.fsk_full = 1;
+    let end = arith::u64_to_f64(a.idx) + 1.0;
+    let pac = a.pac;
+    let n = frame::frame_done(p, m, a.high, pac, t_run, end, ook, fsk);
+    let t = n.train;
+    let o = n.out_ook;
+    let e = ook::end_train(t, a.high, o, ook);
+    let et = e.train;
+    let eo = e.out;
+    let mut k = n;
+    k.train = et;
+    k.out_ook = eo;
+    k
+}
+
+fn carry(
+    p: Settings,
+    a: Look,
+    on: bool,
+    s: Pres,
+    b: Body,
+    ook: &mut [u32],
+    fsk: &mut [u32],
+) -> Present
+    ensures { λ r. ⌜ (r, now (ook .exit), now (fsk .exit)) ≡ carryOf p a on s b (now (ook .entry)) (now (fsk .entry)) ⌝ }
+{
+    let long = long_of(on, s.p_run, p.long_steps);
+    if long {
+        let k = cut_off(p, a, s.p_t_run, b, ook, fsk);
+        return Present {
+            next: Next::IdleAt(a.e),
+            pres: s,
+            body: k,
+        };
+    }
+    Present {
+        next: Next::Stay,
+        pres: s,
+        body: b,
+    }
+}
+
+pub fn presence(p: Settings, a: Look, s: Pres, b: Body, ook: &mut [u32], fsk: &mut [u32]) -> Present
+    ensures { λ r. ⌜ (r, now (ook .exit), now (fsk .exit)) ≡ presenceOf p a s b (now (ook .entry)) (now (fsk .entry)) ⌝ }
+{
+    let fr = b.frame;
+    let l = hear(p, a, s, fr, fsk);
+    let s1 = l.pres;
+    let f1 = l.frame;
+    let mut b1 = b;
+    b1.frame = f1;
+    let due = due_of(s1, p.min_steps);
+    let ends = ends_of(due, l.on, s1.p_prev, p.min_steps);
+    let s2 = sure_if(due, s1);
+    let b2 = end_if(ends, p, a, s1, b1, ook, fsk);
+    carry(p, a, l.on, s2, b2, ook, fsk)
+}
+
+// The presence and the frame with their start.
+pub struct Snapped {
+    pub pres: Pres,
+    pub frame: Frame,
+}
+
+// `begin_run` of the envelope, at a rise: its edge is the better start of a frame that the presence began just before.
+pub fn snap(s: Pres, fr: Frame, tc: f64) -> Snapped
+    ensures { λ r. ⌜ r ≡ snapOf s fr tc ⌝ }
+{
+    let near = near_start(s.p_level, fr.fsk_phase, fr.done.fsk_runs, tc - s.p_t_run);
+    if near {
+        let mut q = s;
+        q.p_t_run = tc;
+        let mut f = fr;
+        f.runs.ft_run = tc;
+        return Snapped { pres: q, frame: f };
+    }
+    Snapped { pres: s, frame: fr }
+}
+
+fn near_start(level: u32, phase: u32, runs: u32, lead: f64) -> bool
+    ensures { λ r. ⌜ r ≡ nearStartOf level phase runs lead ⌝ }
+{
+    let present = level == 1;
+    if present {
+        let first = phase == 0;
+        if first {
+            let none = runs == 0;
+            if none {
+                return in_window(lead);
+            }
+            return false;
+        }
+        return false;
+    }
+    false
+}
