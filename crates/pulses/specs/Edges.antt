@@ -1,15 +1,15 @@
 -- Both runs between which a pulse's width is taken count, so each has an edge: no default ever stands for one.
 use mathlib.Core.Path.{_≡_, refl, sym, ap, _∙_}
 use mathlib.Core.Bool.{Bool, true, false}
-use mathlib.Core.Option.{Option, none, some}
+use mathlib.Core.Option.{some}
 use mathlib.Core.List.{List, [], _∷_, _++_, map}
 use Prim.Native.Nat.{ℕ, zero, suc, _-_, _≤_, _<_}
 use native.Mathlib.Omega.{arith}
 use lib.Dec.{leb}
 use borrow.Author.Tests.{leb-true}
 use lib.ListN.{length, take, length-map}
-use Rattle.pulses.specs.Runs.{Sample, Run, up, down, Pulse, runs, size, keep, counted, between, row, pulses, nth, edgeOf, across, widthOf}
-use Rattle.pulses.specs.Machine.{Conf, lowed, emitted, heldAt, ends, machine-pulses}
+use Rattle.pulses.specs.Runs.{Sample, Run, up, down, Pulse, runs, size, keep, counted, between, row, pulses, nth, runEdge, across, pulseWidth}
+use Rattle.pulses.specs.Machine.{lowed, emitted, heldAt, ends, machine-pulses}
 
 module _ {E : Type 0} (m : ℕ) where
   data Counts : List (Run E) → Type 0 where
@@ -48,15 +48,15 @@ module _ {E : Type 0} (d : E) where
   nth-held zero (e ∷ es) h = refl
   nth-held (suc n) (e ∷ es) h = nth-held n es (omega arith)
 
-module _ {E : Type 0} (width : E → E → ℕ) (d : E) where
-  unfoldable pub both : E × E → ℕ
-  both q = width (q .0) (q .1)
+unfoldable pub both : {E : Type 0} → (E → E → ℕ) → E × E → ℕ
+both width q = width (q .0) (q .1)
 
-  width-held : (m : ℕ) (q : Pulse E) → 1 ≤ m → m ≤ length (q .first) → m ≤ length (q .closing) → widthOf width m q ≡ some (both (ends (m - 1) d q))
-  unfolding widthOf edgeOf across both ends
+module _ {E : Type 0} (width : E → E → ℕ) (d : E) where
+  width-held : (m : ℕ) (q : Pulse E) → 1 ≤ m → m ≤ length (q .first) → m ≤ length (q .closing) → pulseWidth width m q ≡ some (both width (ends (m - 1) d q))
+  unfolding pulseWidth runEdge across both ends
   width-held m q l h k = rw (nth-held d (m - 1) (q .first) (omega arith), nth-held d (m - 1) (q .closing) (omega arith))
 
-  widths-held : (m n : ℕ) {qs : List (Pulse E)} → 1 ≤ m → Long m qs → map (widthOf width m) (take n qs) ≡ map some (map both (take n (map (ends (m - 1) d) qs)))
+  widths-held : (m n : ℕ) {qs : List (Pulse E)} → 1 ≤ m → Long m qs → map (pulseWidth width m) (take n qs) ≡ map some (map (both width) (take n (map (ends (m - 1) d) qs)))
   widths-held m zero l h = refl
   widths-held m (suc n) l no-pulse = refl
   widths-held m (suc n) l (and-pulse {q} {qs} h k c) = rw (width-held m q l h k, widths-held m n l c)
@@ -71,5 +71,5 @@ module _ {E : Type 0} (width : E → E → ℕ) (d : E) where
   same-length m xs h = ap length (emitted-pulses m xs h) ∙ length-map (pulses m xs) (ends (m - 1) d)
 
   -- the widths that the machine's pairs of edges give are those of the record's pulses
-  pub widths-emitted : (m n : ℕ) (xs : List (Sample E)) → 1 ≤ m → map some (map both (take n (emitted m (lowed 0) xs))) ≡ map (widthOf width m) (take n (pulses m xs))
-  widths-emitted m n xs h = ap (λ (ps : List (E × E)). map some (map both (take n ps))) (emitted-pulses m xs h) ∙ sym (widths-held m n h (pulses-long m xs))
+  pub widths-emitted : (m n : ℕ) (xs : List (Sample E)) → 1 ≤ m → map some (map (both width) (take n (emitted m (lowed 0) xs))) ≡ map (pulseWidth width m) (take n (pulses m xs))
+  widths-emitted m n xs h = ap (λ (ps : List (E × E)). map some (map (both width) (take n ps))) (emitted-pulses m xs h) ∙ sym (widths-held m n h (pulses-long m xs))

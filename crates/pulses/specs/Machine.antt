@@ -2,9 +2,8 @@
 use mathlib.Core.Path.{_≡_, refl, sym, ap, _∙_}
 use mathlib.Core.Bool.{Bool, true, false}
 use mathlib.Core.List.{List, [], _∷_, _++_, append-assoc, append-nil, map}
-use Prim.Native.Nat.{ℕ, zero, suc, _+_, _≤_, _<_}
+use Prim.Native.Nat.{ℕ, suc, _≤_, _<_}
 use native.Mathlib.Omega.{arith}
-use native.Mathlib.Nat.{zero-add}
 use lib.Dec.{leb}
 use borrow.Author.Tests.{leb-true, leb-false, le-leb, lt-leb}
 use lib.ListN.{length, getD, length-append, List·getD-append}
@@ -59,7 +58,8 @@ module _ {E : Type 0} where
   pub emitted-snoc : (m : ℕ) (s : Conf E) (xs : List (Sample E)) (x : Sample E) → emitted m s (xs ++ (x ∷ [])) ≡ emitted m s xs ++ memit m (after m s xs) x
   unfolding after emitted
   emitted-snoc m s [] x = append-nil (memit m s x)
-  emitted-snoc m s (y ∷ xs) x = ap (λ (l : List (E × E)). memit m s y ++ l) (emitted-snoc m (mstep m s y) xs x) ∙ sym (append-assoc (memit m s y) (emitted m (mstep m s y) xs) (memit m (after m (mstep m s y) xs) x))
+  emitted-snoc m s (y ∷ xs) x = ap (λ (l : List (E × E)). memit m s y ++ l) (emitted-snoc m (mstep m s y) xs x)
+      ∙ sym (append-assoc (memit m s y) (emitted m (mstep m s y) xs) (memit m (after m (mstep m s y) xs) x))
 
   -- ---- samples of one level before a list of runs
   unfoldable pub joinHighs : List E → List (Run E) → List (Run E)

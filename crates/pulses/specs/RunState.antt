@@ -1,13 +1,13 @@
 -- The run that the definition holds (`Env`) against the run machine, sample by sample.
 use mathlib.Core.Path.{_≡_, refl, sym, ap, _∙_}
 use mathlib.Core.Bool.{Bool, true, false, cond}
-use mathlib.Core.List.{List, [], _∷_}
-use Prim.Native.Nat.{ℕ, zero, suc, _+_, _≤_, _<_, min}
+use mathlib.Core.List.{[], _∷_}
+use Prim.Native.Nat.{ℕ, suc, _≤_, _<_}
 use native.Mathlib.Omega.{arith}
 use lib.Dec.{leb, eqb}
 use lib.Ieee.{Float}
 use borrow.Author.Tests.{leb-true, leb-false, eqb-true}
-use Rattle.pulses.specs.Runs.{Sample, high, low}
+use Rattle.pulses.specs.Runs.{entry}
 use Rattle.pulses.specs.Machine.{Conf, lowed, highed, rise, fall, mstep, closed, memit}
 use Rattle.ook.specs.declared.Env.{Env}
 use Rattle.ook.specs.declared.Run.{Run}
@@ -24,11 +24,6 @@ pub record Domain (p : Settings) : Type 0 where
   pub max-low : 1 ≤ p .«max_pulses»
   pub max-high : p .«max_pulses» ≤ 65536
 
--- what a record holds of a sample: its level, and the edge of its run
-unfoldable pub mark : Bool → Float → Sample Float
-mark true e = high e
-mark false e = low e
-
 unfoldable pub isHigh : Conf Float → Bool
 isHigh (lowed n) = false
 isHigh (highed t n) = true
@@ -43,13 +38,13 @@ pub data RunRel (m : ℕ) (c : Conf Float) (v : Env) : Type 0 where
 
 -- What a sample of level `on` does, where v is the run after it: no run begins to count, a high one does, or a low one does.
 pub data Outcome (m : ℕ) (c : Conf Float) (on : Bool) (v : Env) : Type 0 where
-  keeps : dueOf m (v .run) ≡ false → isHigh (mstep m c (mark on (v .times .«t_run»))) ≡ isHigh c → memit m c (mark on (v .times .«t_run»)) ≡ []
-      → RunRel m (mstep m c (mark on (v .times .«t_run»))) v → Outcome m c on v
-  rises : dueOf m (v .run) ≡ true → on ≡ true → isHigh c ≡ false → isHigh (mstep m c (mark on (v .times .«t_run»))) ≡ true
-      → memit m c (mark on (v .times .«t_run»)) ≡ [] → RunRel m (mstep m c (mark on (v .times .«t_run»))) (confirmIf true v) → Outcome m c on v
-  falls : dueOf m (v .run) ≡ true → on ≡ false → isHigh c ≡ true → isHigh (mstep m c (mark on (v .times .«t_run»))) ≡ false
-      → memit m c (mark on (v .times .«t_run»)) ≡ (v .times .«t_prev», v .times .«t_run») ∷ []
-      → RunRel m (mstep m c (mark on (v .times .«t_run»))) (confirmIf true v) → Outcome m c on v
+  keeps : dueOf m (v .run) ≡ false → isHigh (mstep m c (entry on (v .times .«t_run»))) ≡ isHigh c → memit m c (entry on (v .times .«t_run»)) ≡ []
+      → RunRel m (mstep m c (entry on (v .times .«t_run»))) v → Outcome m c on v
+  rises : dueOf m (v .run) ≡ true → on ≡ true → isHigh c ≡ false → isHigh (mstep m c (entry on (v .times .«t_run»))) ≡ true
+      → memit m c (entry on (v .times .«t_run»)) ≡ [] → RunRel m (mstep m c (entry on (v .times .«t_run»))) (confirmIf true v) → Outcome m c on v
+  falls : dueOf m (v .run) ≡ true → on ≡ false → isHigh c ≡ true → isHigh (mstep m c (entry on (v .times .«t_run»))) ≡ false
+      → memit m c (entry on (v .times .«t_run»)) ≡ (v .times .«t_prev», v .times .«t_run») ∷ []
+      → RunRel m (mstep m c (entry on (v .times .«t_run»))) (confirmIf true v) → Outcome m c on v
 
 -- Refining its edge takes the run from v to w: all but the edge and the wait for it stays, a run whose edge does not wait stays
 -- whole, and from refine_at samples on none waits.
@@ -63,7 +58,7 @@ pub record Refined (m : ℕ) (v w : Env) : Type 0 where
 module _ (m : ℕ) (c : Conf Float) (v : Env) (n : ℕ) where
   rise-case : c ≡ lowed n → v .run .confirmed ≡ 0 → v .run .level ≡ 1 → v .run .«run_len» ≡ suc n → (m ≤ v .run .«run_len» → eqb (v .«ref_pending») 1 ≡ false)
       → Outcome m c true v
-  unfolding mstep memit rise isHigh dueOf confirmIf mark
+  unfolding mstep memit rise isHigh dueOf confirmIf entry
   rise-case qc q l u w = go (leb m (suc n)) refl
     where
       go : (b : Bool) → leb m (suc n) ≡ b → Outcome m c true v
@@ -71,7 +66,7 @@ module _ (m : ℕ) (c : Conf Float) (v : Env) (n : ℕ) where
       go false t = keeps (rw (q, u, t)) (rw (qc, t)) (rw qc) (try-high (rw (qc, t, u)) q l (rw u (leb-false m (suc n) t)))
 
   fall-case : c ≡ highed (v .times .«t_prev») n → v .run .confirmed ≡ 0 → v .run .level ≡ 0 → v .run .«run_len» ≡ suc n → Outcome m c false v
-  unfolding mstep memit fall closed isHigh dueOf confirmIf mark
+  unfolding mstep memit fall closed isHigh dueOf confirmIf entry
   fall-case qc q l u = go (leb m (suc n)) refl
     where
       go : (b : Bool) → leb m (suc n) ≡ b → Outcome m c false v
@@ -79,11 +74,11 @@ module _ (m : ℕ) (c : Conf Float) (v : Env) (n : ℕ) where
       go false t = keeps (rw (q, u, t)) (rw (qc, t)) (rw (qc, t)) (try-low (rw (qc, t, u)) q l (rw u (leb-false m (suc n) t)))
 
   low-stays : c ≡ lowed n → v .run .confirmed ≡ 1 → v .run .level ≡ 0 → Outcome m c false v
-  unfolding mstep memit isHigh dueOf mark
+  unfolding mstep memit isHigh dueOf entry
   low-stays qc q l = keeps (rw q) (rw qc) (rw qc) (rest-low (rw qc) q l)
 
   high-stays : c ≡ highed (v .times .«t_run») n → v .run .confirmed ≡ 1 → v .run .level ≡ 1 → eqb (v .«ref_pending») 1 ≡ false → Outcome m c true v
-  unfolding mstep memit isHigh dueOf mark
+  unfolding mstep memit isHigh dueOf entry
   high-stays qc q l w = keeps (rw q) (rw qc) (rw qc) (rest-high (rw qc) q l w)
 
 sat-one : (a : ℕ) → a < 16777216 → satAddOf a 1 ≡ suc a
@@ -103,7 +98,8 @@ module _ (m : ℕ) (most : m ≤ 16777216) (c : Conf Float) (s w : Env) (t : Flo
 
   refined-low : (v : Env) (n : ℕ) → c ≡ highed (v .times .«t_prev») n → v .run .confirmed ≡ 0 → v .run .level ≡ 0 → v .run .«run_len» ≡ suc n → Refined m v w → Outcome m c false w
   refined-low v n qc q l u R =
-      fall-case m c w n (rw (R .same-before) qc) (ap (λ (r : Run). r .confirmed) (R .same-run) ∙ q) (ap (λ (r : Run). r .level) (R .same-run) ∙ l) (ap (λ (r : Run). r .«run_len») (R .same-run) ∙ u)
+      fall-case m c w n (rw (R .same-before) qc) (ap (λ (r : Run). r .confirmed) (R .same-run) ∙ q) (ap (λ (r : Run). r .level) (R .same-run) ∙ l)
+      (ap (λ (r : Run). r .«run_len») (R .same-run) ∙ u)
 
   settled-high : (v : Env) (n : ℕ) → c ≡ highed (v .times .«t_run») n → v .run .confirmed ≡ 1 → v .run .level ≡ 1 → eqb (v .«ref_pending») 1 ≡ false → Refined m v w → Outcome m c true w
   settled-high v n qc q l z R = rw (R .settled z) (high-stays m c v n qc q l z)

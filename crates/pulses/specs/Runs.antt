@@ -12,6 +12,11 @@ pub data Sample (E : Type 0) : Type 0 where
   high : E → Sample E
   low : E → Sample E
 
+-- a sample from its level, high (true) or low, and its edge
+unfoldable pub entry : {E : Type 0} → Bool → E → Sample E
+entry true e = high e
+entry false e = low e
+
 -- A run: its level, and the edges held at its samples in order.
 pub data Run (E : Type 0) : Type 0 where
   up : List E → Run E
@@ -79,8 +84,8 @@ module _ {E : Type 0} where
   nth (suc n) (e ∷ es) = nth n es
 
   -- The edge of a run that counts: the one held at its sample number m, with which it begins to count. A shorter run has none.
-  unfoldable pub edgeOf : ℕ → List E → Option E
-  edgeOf m es = nth (m - 1) es
+  unfoldable pub runEdge : ℕ → List E → Option E
+  runEdge m es = nth (m - 1) es
 
   unfoldable pub across : (E → E → ℕ) → Option E → Option E → Option ℕ
   across width (some a) (some b) = some (width a b)
@@ -88,5 +93,5 @@ module _ {E : Type 0} where
   across width none b = none
 
   -- a pulse's width, between the edges of its first run and its closing run
-  unfoldable pub widthOf : (E → E → ℕ) → ℕ → Pulse E → Option ℕ
-  widthOf width m q = across width (edgeOf m (q .first)) (edgeOf m (q .closing))
+  unfoldable pub pulseWidth : (E → E → ℕ) → ℕ → Pulse E → Option ℕ
+  pulseWidth width m q = across width (runEdge m (q .first)) (runEdge m (q .closing))
