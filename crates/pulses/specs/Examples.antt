@@ -34,7 +34,7 @@ use Rattle.lane.specs.Advance.{settleOf, fillOf, replayStep, leadStep, burstSte
 use Rattle.lane.specs.Advance as advance
 use Rattle.lane.specs.Part.{front, partOf}
 use Rattle.lane.specs.Step.{newLane, opened, begun, stepped}
-use Rattle.pulses.specs.Runs.{Pulse, entry, joinHigh, joinLow, runs, size, keep, counted, between, pulses}
+use Rattle.pulses.specs.Runs.{Pulse, join, runs, size, keep, counted, between, pulses}
 use Rattle.pulses.specs.Calls.{Call, opening, begin, step, answer, accepted, Given, Place, Ended, start, entryOf, whileStay, entries, leadEntries, stepEntries, givenBy, afterBy, accepts, afterCall, lentBy, HandedOn, closedBy, ended, bursts}
 use Rattle.pulses.specs.Demand.{Each, recordPulses}
 use Rattle.pulses.specs.Theorem.{demand-3}
@@ -149,5 +149,5 @@ table =
 
 -- each list shows what stands beside it
 right : map (λ (r : List Item × List Shown). shownIn (r .0)) table ≡ map (λ (r : List Item × List Shown). r .1) table
-unfolding table shownIn shown calls call start answer accepted entryOf whileStay entries leadEntries stepEntries givenBy afterBy afterCall closedBy ended bursts entry joinHigh joinLow runs size keep counted between pulses newLane opened begun stepped front partOf advance.advanceOf leadStep burstStep settleOf fillOf replayStep leadAddOf largestFrom leadFullOf historyOf beginLeadOf clearedOf leadLane noBurst idleLane openedOk laneOk historyOk beginFloatsOk stepFloatsOk followsOf beginRefusal stepRefusal replyOf phaseOf firstFailed frameOk burstOk leadOk candOk settingsOk beginBurstOf leadAtOf replayFrom replayOf sampleOf restOf lastOf snapIfOf snapOf nearStartOf carrierOf goneOf hasPulsesOf gapOverOf waitOf tailOf dueOf confirmIf riseOf fallOf confirmOf actOf thresholdOf onOf refineDueOf highOf pacOf seeOf pushPulseOf closeGapOf emptyTrainOf finishOf endTrainOf pulseDoneOf gapRatioExceededOf refineLevelOf refineLoOf excessOf splitFrom refineInOf refineOf lengthenOf rejoinOf beginRunOf beginsOf advanceOf pacRunOf beginEnvOf satAddOf inc sqrtOf exactOf roundExact wholeRoot roundOf narrowOf absOf midpointOf flushOf crossOf nearestIn ofBits add sub mul div neg lt le eq ofInt toUnsigned
+unfolding table shownIn shown calls call start answer accepted entryOf whileStay entries leadEntries stepEntries givenBy afterBy afterCall closedBy ended bursts join runs size keep counted between pulses newLane opened begun stepped front partOf advance.advanceOf leadStep burstStep settleOf fillOf replayStep leadAddOf largestFrom leadFullOf historyOf beginLeadOf clearedOf leadLane noBurst idleLane openedOk laneOk historyOk beginFloatsOk stepFloatsOk followsOf beginRefusal stepRefusal replyOf phaseOf firstFailed frameOk burstOk leadOk candOk settingsOk beginBurstOf leadAtOf replayFrom replayOf sampleOf restOf lastOf snapIfOf snapOf nearStartOf carrierOf goneOf hasPulsesOf gapOverOf waitOf tailOf dueOf confirmIf riseOf fallOf confirmOf actOf thresholdOf onOf refineDueOf highOf pacOf seeOf pushPulseOf closeGapOf emptyTrainOf finishOf endTrainOf pulseDoneOf gapRatioExceededOf refineLevelOf refineLoOf excessOf splitFrom refineInOf refineOf lengthenOf rejoinOf beginRunOf beginsOf advanceOf pacRunOf beginEnvOf satAddOf inc sqrtOf exactOf roundExact wholeRoot roundOf narrowOf absOf midpointOf flushOf crossOf nearestIn ofBits add sub mul div neg lt le eq ofInt toUnsigned
 right = refl

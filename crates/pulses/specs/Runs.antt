@@ -7,43 +7,31 @@ use Prim.Native.Nat.{ℕ, zero, suc, _-_}
 use lib.Dec.{leb}
 use lib.ListN.{length}
 
--- A sample of a record: its level, high or low, and the edge that demand 2's definition holds for its run once it is taken.
+-- A sample of a record: its level, high (true) or low, and the edge that demand 2's definition holds for its run once it is taken.
 pub data Sample (E : Type 0) : Type 0 where
-  high : E → Sample E
-  low : E → Sample E
-
--- a sample from its level, high (true) or low, and its edge
-unfoldable pub entry : {E : Type 0} → Bool → E → Sample E
-entry true e = high e
-entry false e = low e
+  entry : Bool → E → Sample E
 
 -- A run: its level, and the edges held at its samples in order.
 pub data Run (E : Type 0) : Type 0 where
-  up : List E → Run E
-  down : List E → Run E
+  run : Bool → List E → Run E
 
 module _ {E : Type 0} where
   -- a sample before a list of runs joins the first of them if that has its level
-  unfoldable pub joinHigh : E → List (Run E) → List (Run E)
-  joinHigh e [] = up (e ∷ []) ∷ []
-  joinHigh e (up es ∷ rs) = up (e ∷ es) ∷ rs
-  joinHigh e (down es ∷ rs) = up (e ∷ []) ∷ down es ∷ rs
-
-  unfoldable pub joinLow : E → List (Run E) → List (Run E)
-  joinLow e [] = down (e ∷ []) ∷ []
-  joinLow e (down es ∷ rs) = down (e ∷ es) ∷ rs
-  joinLow e (up es ∷ rs) = down (e ∷ []) ∷ up es ∷ rs
+  unfoldable pub join : Bool → E → List (Run E) → List (Run E)
+  join l e [] = run l (e ∷ []) ∷ []
+  join true e (run true es ∷ rs) = run true (e ∷ es) ∷ rs
+  join true e (run false es ∷ rs) = run true (e ∷ []) ∷ run false es ∷ rs
+  join false e (run false es ∷ rs) = run false (e ∷ es) ∷ rs
+  join false e (run true es ∷ rs) = run false (e ∷ []) ∷ run true es ∷ rs
 
   -- "A run is a stretch of neighbouring samples of one level in the burst's record, as long as it can be." That no other list of
   -- runs divides the record so is `runs-unique` in Division.
   unfoldable pub runs : List (Sample E) → List (Run E)
   runs [] = []
-  runs (high e ∷ xs) = joinHigh e (runs xs)
-  runs (low e ∷ xs) = joinLow e (runs xs)
+  runs (entry l e ∷ xs) = join l e (runs xs)
 
   unfoldable pub size : Run E → ℕ
-  size (up es) = length es
-  size (down es) = length es
+  size (run l es) = length es
 
   unfoldable pub keep : Bool → Run E → List (Run E) → List (Run E)
   keep true r rs = r ∷ rs
@@ -66,13 +54,13 @@ module _ {E : Type 0} where
   unfoldable mutual
     pub between : List (Run E) → List (Pulse E)
     between [] = []
-    between (down es ∷ rs) = between rs
-    between (up es ∷ rs) = row es [] rs
+    between (run false es ∷ rs) = between rs
+    between (run true es ∷ rs) = row es [] rs
 
     pub row : List E → List (List E) → List (Run E) → List (Pulse E)
     row f more [] = []
-    row f more (up es ∷ rs) = row f (more ++ (es ∷ [])) rs
-    row f more (down es ∷ rs) = record { first = f; more = more; closing = es } ∷ between rs
+    row f more (run true es ∷ rs) = row f (more ++ (es ∷ [])) rs
+    row f more (run false es ∷ rs) = record { first = f; more = more; closing = es } ∷ between rs
 
   -- the pulses of a record, where a run counts from m samples on
   unfoldable pub pulses : ℕ → List (Sample E) → List (Pulse E)
