@@ -1,5 +1,5 @@
 -- What demand 2's definitions of the calls say of a call that is refused, and of one that is accepted.
-use mathlib.Core.Path.{_≡_, refl, sym, _∙_}
+use mathlib.Core.Path.{_≡_, refl, sym, ap, _∙_}
 use mathlib.Core.Bool.{Bool, true, false, cond, not, _&&_, _||_}
 use mathlib.Core.List.{List}
 use Prim.Native.Nat.{ℕ, _+_, _*_, _^_, _≤_, _<_}
@@ -17,6 +17,8 @@ use Rattle.refusals.specs.State.{burstOk, leadOk, candOk}
 use Rattle.refusals.specs.Order.{none-failed}
 use Rattle.lane.specs.declared.Lane.{Lane}
 use Rattle.lane.specs.declared.Reply.the-variants as reply
+use Rattle.lane.specs.declared.Answer.{Answer}
+use Rattle.lane.specs.declared.Reply.{Reply}
 use Rattle.lane.specs.declared.BeginArgs.{BeginArgs}
 use Rattle.lane.specs.declared.StepArgs.{StepArgs}
 use Rattle.lane.specs.Refusals.{openedOk, laneOk, beginFloatsOk, stepFloatsOk, followsOf, beginRefusal, stepRefusal}
@@ -38,45 +40,42 @@ and-right : (a b : Bool) → (a && b) ≡ true → b ≡ true
 and-right true b q = q
 and-right false b q = clash (sym q)
 
+-- A call answers x where its checks pass (b) and y, a refusal, where one fails. So the reply tells which.
+module _ {A : Type 0} (reply : A → Reply) where
+  passed : (b : Bool) (x y : A) → accepted (reply y) ≡ false → accepted (reply (cond b x y)) ≡ true → (b ≡ true) × (cond b x y ≡ x)
+  passed true x y f h = (refl, refl)
+  passed false x y f h = clash (sym h ∙ f)
+
+  failed : (b : Bool) (x y : A) → accepted (reply x) ≡ true → accepted (reply (cond b x y)) ≡ false → cond b x y ≡ y
+  failed true x y t h = clash (sym t ∙ h)
+  failed false x y t h = refl
+
+abbrev replyIn : Answer → Reply
+replyIn a = a .reply
+
 -- ---- opening
-opened-by : (b : Bool) (l : Lane) (p : Settings) → accepted (cond b (stay (idleLane 1 p)) (refuse 3 l) .reply) ≡ true → cond b (stay (idleLane 1 p)) (refuse 3 l) ≡ stay (idleLane 1 p)
-unfolding accepted
-opened-by true l p h = refl
-opened-by false l p h = clash (sym h)
-
 pub open-accepted : (l : Lane) (p : Settings) → accepted (opened l p .reply) ≡ true → opened l p ≡ stay (idleLane 1 p)
-unfolding opened
-open-accepted l p h = opened-by (settingsOk p) l p h
-
-open-refused-by : (b : Bool) (l : Lane) (p : Settings) → accepted (cond b (stay (idleLane 1 p)) (refuse 3 l) .reply) ≡ false → cond b (stay (idleLane 1 p)) (refuse 3 l) .lane ≡ l
-unfolding accepted
-open-refused-by true l p h = clash h
-open-refused-by false l p h = refl
+unfolding opened accepted
+open-accepted l p h = passed replyIn (settingsOk p) (stay (idleLane 1 p)) (refuse 3 l) refl h .1
 
 pub open-refused : (l : Lane) (p : Settings) → accepted (opened l p .reply) ≡ false → opened l p .lane ≡ l
-unfolding opened
-open-refused l p h = open-refused-by (settingsOk p) l p h
+unfolding opened accepted
+open-refused l p h = ap (λ (a : Answer). a .lane) (failed replyIn (settingsOk p) (stay (idleLane 1 p)) (refuse 3 l) refl h)
 
 -- ---- begin
-begun-by : (k : ℕ) (c : Bool) (l : Lane) (b : BeginArgs) → eqb k 0 ≡ c → accepted (cond c (stay (leadLane l b)) (refuse k l) .reply) ≡ true
-    → (k ≡ 0) × (cond c (stay (leadLane l b)) (refuse k l) ≡ stay (leadLane l b))
-unfolding accepted
-begun-by k true l b q h = (eqb-true k 0 q, refl)
-begun-by k false l b q h = clash (sym h)
-
 pub begin-accepted : (l : Lane) (b : BeginArgs) (ook fsk : List ℕ) → accepted (begun l b ook fsk .reply) ≡ true
     → (beginRefusal l b (length ook) (length fsk) ≡ 0) × (begun l b ook fsk ≡ stay (leadLane l b))
-unfolding begun
-begin-accepted l b ook fsk h = begun-by (beginRefusal l b (length ook) (length fsk)) (eqb (beginRefusal l b (length ook) (length fsk)) 0) l b refl h
-
-begin-refused-by : (k : ℕ) (c : Bool) (l : Lane) (b : BeginArgs) → accepted (cond c (stay (leadLane l b)) (refuse k l) .reply) ≡ false → cond c (stay (leadLane l b)) (refuse k l) .lane ≡ l
-unfolding accepted
-begin-refused-by k true l b h = clash h
-begin-refused-by k false l b h = refl
+unfolding begun accepted
+begin-accepted l b ook fsk h =
+    let n : ℕ = beginRefusal l b (length ook) (length fsk) in
+    let t = passed replyIn (eqb n 0) (stay (leadLane l b)) (refuse n l) refl h in
+    (eqb-true n 0 (t .0), t .1)
 
 pub begin-refused : (l : Lane) (b : BeginArgs) (ook fsk : List ℕ) → accepted (begun l b ook fsk .reply) ≡ false → begun l b ook fsk .lane ≡ l
-unfolding begun
-begin-refused l b ook fsk h = begin-refused-by (beginRefusal l b (length ook) (length fsk)) (eqb (beginRefusal l b (length ook) (length fsk)) 0) l b h
+unfolding begun accepted
+begin-refused l b ook fsk h =
+    let n : ℕ = beginRefusal l b (length ook) (length fsk) in
+    ap (λ (a : Answer). a .lane) (failed replyIn (eqb n 0) (stay (leadLane l b)) (refuse n l) refl h)
 
 or-right : (a b : Bool) → a ≡ false → (a || b) ≡ true → b ≡ true
 or-right true b q h = clash q
@@ -135,16 +134,16 @@ begin-tells l b ook fsk h =
     (eqb-true (l .phase) 0 (t .2), domain-of (l .settings) (had-settings (l .opened) (l .phase) (l .settings) o (lane-tells l (t .1) .0)), leb-true (b .index) (2 ^ 40) (t .3))
 
 -- ---- step
-stepped-by : (k : ℕ) (c : Bool) (l : Lane) (s : StepArgs) (ook fsk : List ℕ) → eqb k 0 ≡ c → accepted (cond c (advanceOf l s ook fsk) (refuse k l, ook, fsk) .0 .reply) ≡ true
-    → (k ≡ 0) × (cond c (advanceOf l s ook fsk) (refuse k l, ook, fsk) ≡ advanceOf l s ook fsk)
-unfolding accepted
-stepped-by k true l s ook fsk q h = (eqb-true k 0 q, refl)
-stepped-by k false l s ook fsk q h = clash (sym h)
+abbrev stepReply : Answer × List ℕ × List ℕ → Reply
+stepReply r = r .0 .reply
 
 pub step-accepted : (l : Lane) (s : StepArgs) (ook fsk : List ℕ) → accepted (stepped l s ook fsk .0 .reply) ≡ true
     → (stepRefusal l s (length ook) (length fsk) ≡ 0) × (stepped l s ook fsk ≡ advanceOf l s ook fsk)
-unfolding stepped
-step-accepted l s ook fsk h = stepped-by (stepRefusal l s (length ook) (length fsk)) (eqb (stepRefusal l s (length ook) (length fsk)) 0) l s ook fsk refl h
+unfolding stepped accepted
+step-accepted l s ook fsk h =
+    let n : ℕ = stepRefusal l s (length ook) (length fsk) in
+    let t = passed stepReply (eqb n 0) (advanceOf l s ook fsk) (refuse n l, ook, fsk) refl h in
+    (eqb-true n 0 (t .0), t .1)
 
 -- an accepted step never answers a refusal
 reply-accepted : (n : Next) → accepted (replyOf n) ≡ true
@@ -179,14 +178,11 @@ advance-accepted l s ook fsk = go (eqb (l .phase) 1)
     go true = lead-accepted l s ring ook fsk
     go false = burst-accepted l s ring ook fsk
 
-step-refused-by : (k : ℕ) (c : Bool) (l : Lane) (s : StepArgs) (ook fsk : List ℕ) → accepted (cond c (advanceOf l s ook fsk) (refuse k l, ook, fsk) .0 .reply) ≡ false
-    → cond c (advanceOf l s ook fsk) (refuse k l, ook, fsk) .0 .lane ≡ l
-step-refused-by k true l s ook fsk h = clash (sym (advance-accepted l s ook fsk) ∙ h)
-step-refused-by k false l s ook fsk h = refl
-
 pub step-refused : (l : Lane) (s : StepArgs) (ook fsk : List ℕ) → accepted (stepped l s ook fsk .0 .reply) ≡ false → stepped l s ook fsk .0 .lane ≡ l
 unfolding stepped
-step-refused l s ook fsk h = step-refused-by (stepRefusal l s (length ook) (length fsk)) (eqb (stepRefusal l s (length ook) (length fsk)) 0) l s ook fsk h
+step-refused l s ook fsk h =
+    let n : ℕ = stepRefusal l s (length ook) (length fsk) in
+    ap (λ (r : Answer × List ℕ × List ℕ). r .0 .lane) (failed stepReply (eqb n 0) (advanceOf l s ook fsk) (refuse n l, ook, fsk) (advance-accepted l s ook fsk) h)
 
 -- what an accepted step tells of its lane and its arguments
 pub record Stepping (l : Lane) (s : StepArgs) (ook : ℕ) : Type 0 where
