@@ -1,46 +1,55 @@
--- An f64 by its exponent's field E and its digits' field T: the fraction that it equals. And `narrowOf` by any fraction that a value equals.
--- Assumes nothing.
+-- A value by its exponent's field e and its digits' field t, at either width: the fraction that it equals. And `narrowOf` by any fraction that a value equals. Assumes nothing.
 use mathlib.Core.Path.{_≡_, refl, sym, ap, _∙_, subst}
-use Prim.Native.Nat.{ℕ, zero, suc, _+_, _-_, _*_, _/_, _%_, _^_, _≤_, _<_}
-use native.Mathlib.Nat.{mul-one, lt-irrefl}
+use Prim.Native.Nat.{ℕ, zero, suc, _+_, _-_, _*_, _/_, _%_, _^_, _<_}
+use native.Mathlib.Nat.{mul-one, mod-eq-of-lt, lt-irrefl}
 use native.Mathlib.Omega.{arith}
 use mathlib.Core.Bool.{Bool, true, false, not, cond, _&&_}
 use lib.Dec.{T, leb, eqb, eqb→eq}
-use borrow.Author.Tests.{ne-eqb}
-use lib.Ieee.{Float, nan, inf, fin, Format, binary32, binary64, up, down, odd, round, ofBits, ofFields, toBits, fits, isNan, nanBits}
+use borrow.Author.Tests.{ne-eqb, lt-leb}
+use lib.Ieee.{Float, nan, inf, fin, Format, binary32, binary64, prec, low, hid, ones, top, up, down, odd, round, ofBits, ofFields, toBits, fits, isNan, nanBits}
 use lib.Ieee.Fits.{down-pos, eq→eqb}
 use lib.Ieee.Bits.{ofBits-toBits, nanBits-is}
 use lib.Ieee.Exact.{HasValue, odd-sign}
 use lib.Ieee.Scale.{round-same}
 use Rattle.arith.specs.Rounding.{narrowOf}
 
-pub ofBits-fields : (b : ℕ) → ofBits binary64 b ≡ ofFields binary64 (leb (2 ^ 63) b) (b % 2 ^ 63 / 2 ^ 52) (b % 2 ^ 52)
+pub ofBits-fields : (f : Format) (b : ℕ) → ofBits f b ≡ ofFields f (leb (top f) b) (b % top f / hid f) (b % hid f)
 unfolding ofBits
-ofBits-fields b = refl
+ofBits-fields f b = refl
 
-finite-is : (s : Bool) (x T : ℕ) → suc x < 2047 → ofFields binary64 s (suc x) T ≡ odd 53 s (2 ^ 52 + T) x 1074
+-- a pattern with the sign clear
+pub plus-fields : (f : Format) (b : ℕ) → b < top f → ofBits f b ≡ ofFields f false (b / hid f) (b % hid f)
+plus-fields f b h =
+    ofBits-fields f b
+    ∙ ap (λ (s : Bool). ofFields f s (b % top f / hid f) (b % hid f)) (lt-leb (top f) b h)
+    ∙ ap (λ (x : ℕ). ofFields f false (x / hid f) (b % hid f)) (mod-eq-of-lt h)
+
+finite-is : (f : Format) (s : Bool) (x t : ℕ) → suc x < ones f → ofFields f s (suc x) t ≡ odd (prec f) s (hid f + t) x (low f)
 unfolding ofFields
-finite-is s x T h = ap (λ (b : Bool). cond b (cond (eqb T 0) (inf s) nan) (odd 53 s (2 ^ 52 + T) x 1074)) (ne-eqb (suc x) 2047 (λ (e : suc x ≡ 2047). omega arith))
+finite-is f s x t h =
+    ap (λ (b : Bool). cond b (cond (eqb t 0) (inf s) nan) (odd (prec f) s (hid f + t) x (low f)))
+    (ne-eqb (suc x) (ones f) (λ (e : suc x ≡ ones f). lt-irrefl (suc x) (subst (λ (y : ℕ). suc x < y) (sym e) h)))
 
-zero-is : (s : Bool) (T : ℕ) → ofFields binary64 s 0 T ≡ odd 53 s T 0 1074
+zero-is : (f : Format) (s : Bool) (t : ℕ) → ofFields f s 0 t ≡ odd (prec f) s t 0 (low f)
 unfolding ofFields
-zero-is s T = refl
+zero-is f s t = refl
 
-pub value-finite : (s : Bool) (E T : ℕ) → 0 < E → E < 2047 → HasValue (ofFields binary64 s E T) s ((2 ^ 52 + T) * 2 ^ (E - 1)) (2 ^ 1074)
-value-finite s zero T p h = absurd (lt-irrefl 0 p)
-value-finite s (suc x) T p h =
+pub value-finite : (f : Format) (s : Bool) (e t : ℕ) → 0 < e → e < ones f → HasValue (ofFields f s e t) s ((hid f + t) * 2 ^ (e - 1)) (2 ^ low f)
+value-finite f s zero t p h = absurd (lt-irrefl 0 p)
+value-finite f s (suc x) t p h =
     let e : suc x - 1 ≡ x = omega arith in
-    subst (λ (k : ℕ). HasValue (ofFields binary64 s (suc x) T) s ((2 ^ 52 + T) * 2 ^ k) (2 ^ 1074)) (sym e)
-    (subst (λ (y : Float). HasValue y s ((2 ^ 52 + T) * 2 ^ x) (2 ^ 1074)) (sym (finite-is s x T h)) (odd-sign 53 s (2 ^ 52 + T) x 1074))
+    subst (λ (k : ℕ). HasValue (ofFields f s (suc x) t) s ((hid f + t) * 2 ^ k) (2 ^ low f)) (sym e)
+    (subst (λ (y : Float). HasValue y s ((hid f + t) * 2 ^ x) (2 ^ low f)) (sym (finite-is f s x t h)) (odd-sign (prec f) s (hid f + t) x (low f)))
 
-pub value-zero : (s : Bool) (T : ℕ) → HasValue (ofFields binary64 s 0 T) s T (2 ^ 1074)
-value-zero s T =
-    subst (λ (y : Float). HasValue y s T (2 ^ 1074)) (sym (zero-is s T))
-    (subst (λ (k : ℕ). HasValue (odd 53 s T 0 1074) s k (2 ^ 1074)) (mul-one T) (odd-sign 53 s T 0 1074))
+pub value-zero : (f : Format) (s : Bool) (t : ℕ) → HasValue (ofFields f s 0 t) s t (2 ^ low f)
+value-zero f s t =
+    subst (λ (y : Float). HasValue y s t (2 ^ low f)) (sym (zero-is f s t))
+    (subst (λ (k : ℕ). HasValue (odd (prec f) s t 0 (low f)) s k (2 ^ low f)) (mul-one t) (odd-sign (prec f) s t 0 (low f)))
 
-pub value-top : (s : Bool) → ofFields binary64 s 2047 0 ≡ inf s
+pub value-top : (f : Format) (s : Bool) → ofFields f s (ones f) 0 ≡ inf s
 unfolding ofFields
-value-top s = refl
+value-top binary32 s = refl
+value-top binary64 s = refl
 
 pub narrowOf-at : (x : Float) (s : Bool) (a c : ℕ) → 0 < c → HasValue x s a c → narrowOf x ≡ round binary32 s a c
 unfolding narrowOf
@@ -60,7 +69,7 @@ narrowOf-nan = refl
 pub by-fields : (x : Float) (s : Bool) → T (fits binary64 x) → leb (2 ^ 63) (toBits binary64 x) ≡ s → ofFields binary64 s (toBits binary64 x % 2 ^ 63 / 2 ^ 52) (toBits binary64 x % 2 ^ 52) ≡ x
 by-fields x s h e =
     let b = toBits binary64 x in
-    ap (λ (t : Bool). ofFields binary64 t (b % 2 ^ 63 / 2 ^ 52) (b % 2 ^ 52)) (sym e) ∙ sym (ofBits-fields b) ∙ ofBits-toBits binary64 x h
+    ap (λ (t : Bool). ofFields binary64 t (b % 2 ^ 63 / 2 ^ 52) (b % 2 ^ 52)) (sym e) ∙ sym (ofBits-fields binary64 b) ∙ ofBits-toBits binary64 x h
 
 -- where x is no NaN, an exponent's field of all ones has no digits
 pub top-plain : (x : Float) → T (fits binary64 x) → T (not (isNan x)) → toBits binary64 x % 2 ^ 63 / 2 ^ 52 ≡ 2047 → toBits binary64 x % 2 ^ 52 ≡ 0

@@ -1,18 +1,24 @@
 -- The laws that the proofs of several functions cite.
+pub mod Nan
 pub mod Values
 pub mod Pack
 pub mod Fields
+pub mod Short
+pub mod HalfUp
 pub mod Narrowing
 pub mod Integral
 pub mod Signs
+pub mod Magnitude
 pub mod Ends
 pub mod Cast
+pub mod Distance
 pub mod Near
+pub mod IntegralNearest
+pub mod NarrowNearest
 pub mod RootWhole
 pub mod RootBrought
 pub mod RootDigits
 pub mod RootSides
-pub mod RootPatterns
 pub mod RootValue
 pub mod RootHalving
 pub mod RootAssembled

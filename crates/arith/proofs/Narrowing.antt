@@ -3,12 +3,12 @@
 use mathlib.Core.Path.{_≡_, refl, sym, ap, _∙_, subst}
 use mathlib.Core.Logic.{_⊎_, inl, inr, ⊎-elim}
 use Prim.Native.Nat.{ℕ, zero, suc, _+_, _-_, _*_, _/_, _%_, _^_, _≤_, _<_, compare}
-use native.Mathlib.Nat.{zero-add, mul-assoc, one-mul, mul-one, mul-le-mul-left, mul-le-mul-right, mul-pos, le-trans, le-of-eq, lt-of-lt-of-le, lt-of-le-of-lt, le-div-iff-mul-le, div-lt-iff-lt-mul, div-eq-of-lt, mod-eq-of-lt, eq-or-lt-of-le}
+use native.Mathlib.Nat.{zero-add, mul-assoc, one-mul, mul-le-mul-left, mul-le-mul-right, mul-pos, le-trans, le-of-eq, lt-of-lt-of-le, lt-of-le-of-lt, le-div-iff-mul-le, div-lt-iff-lt-mul, div-eq-of-lt, mod-eq-of-lt, eq-or-lt-of-le}
 use native.Mathlib.Omega.{arith}
 use mathlib.Core.Bool.{Bool, true, false, not, cond}
 use lib.Dec.{T, ltb, ltb→lt, nltb→le}
 use lib.Pow.{pow-add, pow-pos, pow-mono, pow-lt, shl-lt, shr-lt}
-use lib.Ieee.{Float, inf, binary32, binary64, size, nearest, units, round, ofBits, ofFields}
+use lib.Ieee.{inf, binary32, binary64, size, nearest, units, round, ofBits, ofFields}
 use lib.Ieee.Digits.{size-le}
 use lib.Ieee.Fits.{round-is, nearest-le}
 use lib.Ieee.Nearest.{closest, closest-same, nearest-ge}
@@ -137,7 +137,7 @@ digits-lo : (t : ℕ) → 2 ^ 52 ≤ 2 ^ 52 + t
 digits-lo t = omega arith
 
 pub mag-tiny : (s : Bool) (e t : ℕ) → e < 872 → t < 2 ^ 52 → ofBits binary32 (cond s (2 ^ 31) 0 + 0) ≡ narrowOf (ofFields binary64 s e t)
-mag-tiny s zero t h k = narrow-tiny s t (lt-of-lt-of-le k (pow-mono r)) ∙ sym (narrowOf-at (ofFields binary64 s 0 t) s t (2 ^ 1074) (pow-pos 1074) (value-zero s t))
+mag-tiny s zero t h k = narrow-tiny s t (lt-of-lt-of-le k (pow-mono r)) ∙ sym (narrowOf-at (ofFields binary64 s 0 t) s t (2 ^ 1074) (pow-pos 1074) (value-zero binary64 s t))
   where
     r : 52 ≤ 924
     r = omega arith
@@ -146,18 +146,18 @@ mag-tiny s (suc x) t h k =
     let l : suc x < 2047 = omega arith in
     let r : 53 + (suc x - 1) ≤ 924 = omega arith in
     narrow-tiny s ((2 ^ 52 + t) * 2 ^ (suc x - 1)) (lt-of-lt-of-le (shl-lt 53 (suc x - 1) (digits-hi t k)) (pow-mono r))
-    ∙ sym (narrowOf-at (ofFields binary64 s (suc x) t) s ((2 ^ 52 + t) * 2 ^ (suc x - 1)) (2 ^ 1074) (pow-pos 1074) (value-finite s (suc x) t p l))
+    ∙ sym (narrowOf-at (ofFields binary64 s (suc x) t) s ((2 ^ 52 + t) * 2 ^ (suc x - 1)) (2 ^ 1074) (pow-pos 1074) (value-finite binary64 s (suc x) t p l))
 
 pub mag-over : (s : Bool) (e t : ℕ) → 1150 < e → e ≤ 2047 → t < 2 ^ 52 → (e ≡ 2047 → t ≡ 0) → ofBits binary32 (cond s (2 ^ 31) 0 + 255 * 2 ^ 23) ≡ narrowOf (ofFields binary64 s e t)
 mag-over s e t h k l z =
     ⊎-elim
     (λ (q : e ≡ 2047).
-    inf-bits s ∙ sym (ap (λ (x : ℕ). narrowOf (ofFields binary64 s x t)) q ∙ ap (λ (x : ℕ). narrowOf (ofFields binary64 s 2047 x)) (z q) ∙ ap narrowOf (value-top s) ∙ narrowOf-inf s))
+    inf-bits s ∙ sym (ap (λ (x : ℕ). narrowOf (ofFields binary64 s x t)) q ∙ ap (λ (x : ℕ). narrowOf (ofFields binary64 s 2047 x)) (z q) ∙ ap narrowOf (value-top binary64 s) ∙ narrowOf-inf s))
     (λ (q : e < 2047).
     let p : 0 < e = omega arith in
     inf-bits s
     ∙ sym
-    (narrowOf-at (ofFields binary64 s e t) s ((2 ^ 52 + t) * 2 ^ (e - 1)) (2 ^ 1074) (pow-pos 1074) (value-finite s e t p q)
+    (narrowOf-at (ofFields binary64 s e t) s ((2 ^ 52 + t) * 2 ^ (e - 1)) (2 ^ 1074) (pow-pos 1074) (value-finite binary64 s e t p q)
     ∙ narrow-over (2 ^ 52 + t) e (digits-lo t) (digits-hi t l) p s h))
     (eq-or-lt-of-le k)
 
@@ -166,9 +166,9 @@ mag-digits : (s : Bool) (e t : ℕ) → 0 < e → e ≤ 1150 → t < 2 ^ 52
 mag-digits s e t p h l =
     let q : e < 2047 = omega arith in
     narrow-digits (2 ^ 52 + t) e (digits-lo t) (digits-hi t l) p s h
-    ∙ sym (narrowOf-at (ofFields binary64 s e t) s ((2 ^ 52 + t) * 2 ^ (e - 1)) (2 ^ 1074) (pow-pos 1074) (value-finite s e t p q))
+    ∙ sym (narrowOf-at (ofFields binary64 s e t) s ((2 ^ 52 + t) * 2 ^ (e - 1)) (2 ^ 1074) (pow-pos 1074) (value-finite binary64 s e t p q))
 
-pub mag-low : (s : Bool) (e t : ℕ) → 872 ≤ e → e < 897 → t < 2 ^ 52 → ofBits binary32 (cond s (2 ^ 31) 0 + closest (2 ^ 52 + t) (2 ^ (926 - e))) ≡ narrowOf (ofFields binary64 s e t)
+mag-low : (s : Bool) (e t : ℕ) → 872 ≤ e → e < 897 → t < 2 ^ 52 → ofBits binary32 (cond s (2 ^ 31) 0 + closest (2 ^ 52 + t) (2 ^ (926 - e))) ≡ narrowOf (ofFields binary64 s e t)
 mag-low s e t h k l =
     let a : 0 < e = omega arith in
     let b : e ≤ 1150 = omega arith in
@@ -177,19 +177,35 @@ mag-low s e t h k l =
     sym (ap (λ (z : ℕ). ofBits binary32 (cond s (2 ^ 31) 0 + z)) (ap (λ (z : ℕ). z * 2 ^ 23 + closest (2 ^ 52 + t) (2 ^ (29 + (897 - e)))) x ∙ zero-add (closest (2 ^ 52 + t) (2 ^ (29 + (897 - e)))) ∙ ap (λ (z : ℕ). closest (2 ^ 52 + t) (2 ^ z)) y))
     ∙ mag-digits s e t a b l
 
-pub mag-normal : (s : Bool) (e t : ℕ) → 897 ≤ e → e ≤ 1150 → t < 2 ^ 52 → ofBits binary32 (cond s (2 ^ 31) 0 + ((e - 897) * 2 ^ 23 + closest (2 ^ 52 + t) (2 ^ 29))) ≡ narrowOf (ofFields binary64 s e t)
+mag-normal : (s : Bool) (e t : ℕ) → 897 ≤ e → e ≤ 1150 → t < 2 ^ 52 → ofBits binary32 (cond s (2 ^ 31) 0 + ((e - 897) * 2 ^ 23 + closest (2 ^ 52 + t) (2 ^ 29))) ≡ narrowOf (ofFields binary64 s e t)
 mag-normal s e t h k l =
     let a : 0 < e = omega arith in
     let y : 29 + (897 - e) ≡ 29 = omega arith in
     sym (ap (λ (z : ℕ). ofBits binary32 (cond s (2 ^ 31) 0 + ((e - 897) * 2 ^ 23 + closest (2 ^ 52 + t) (2 ^ z)))) y) ∙ mag-digits s e t a k l
 
 -- what is kept has at most 24 digits, and 2 ^ 24 itself
-pub closest-hi : (t sh : ℕ) → t < 2 ^ 52 → 29 ≤ sh → closest (2 ^ 52 + t) (2 ^ sh) ≤ 2 ^ 24
+closest-hi : (t sh : ℕ) → t < 2 ^ 52 → 29 ≤ sh → closest (2 ^ 52 + t) (2 ^ sh) ≤ 2 ^ 24
 closest-hi t sh l h =
     let u = 2 ^ sh in
     let D = 2 ^ 52 + t in
     let r : 53 ≤ 24 + sh = omega arith in
     le-trans (nearest-le (D / u) (compare (D % u * 2) u)) (shr-lt 24 sh (lt-of-lt-of-le (digits-hi t l) (pow-mono r)))
+
+-- ---- what `narrow_fields` asks, of either sign, with r for the digits kept
+
+abbrev pub Narrowed : ℕ → ℕ → ℕ → Type 0
+Narrowed e t b = (s : Bool) → ofBits binary32 (cond s (2 ^ 31) 0 + b) ≡ narrowOf (ofFields binary64 s e t)
+
+pub low-result : (e t u r : ℕ) → 872 ≤ e → e < 897 → t < 2 ^ 52 → u ≡ 2 ^ (926 - e) → r ≡ closest (2 ^ 52 + t) u → Narrowed e t r × (r ≤ 2 ^ 24)
+low-result e t u r h k l i j =
+    let q : r ≡ closest (2 ^ 52 + t) (2 ^ (926 - e)) = j ∙ ap (closest (2 ^ 52 + t)) i in
+    (λ s. ap (λ (x : ℕ). ofBits binary32 (cond s (2 ^ 31) 0 + x)) q ∙ mag-low s e t h k l, subst (λ (x : ℕ). x ≤ 2 ^ 24) (sym q) (closest-hi t (926 - e) l (omega arith)))
+
+pub normal-result : (e t r : ℕ) → 897 ≤ e → e ≤ 1150 → t < 2 ^ 52 → r ≡ closest (2 ^ 52 + t) (2 ^ 29) → Narrowed e t ((e - 897) * 2 ^ 23 + r) × (r ≤ 2 ^ 24)
+normal-result e t r h k l i = (
+  λ s. ap (λ (x : ℕ). ofBits binary32 (cond s (2 ^ 31) 0 + ((e - 897) * 2 ^ 23 + x))) i ∙ mag-normal s e t h k l,
+  subst (λ (x : ℕ). x ≤ 2 ^ 24) (sym i) (closest-hi t 29 l (omega arith)),
+)
 
 -- `1 << j` at u64
 pub one-shl : (j : ℕ) → j < 64 → 1 * 2 ^ j % 2 ^ 64 ≡ 2 ^ j

@@ -1,11 +1,13 @@
 -- The pattern that `round_exact` puts together, for each way the digits are rounded. Assumes nothing.
-use mathlib.Core.Path.{_≡_, refl, sym, ap, _∙_, subst}
+use mathlib.Core.Path.{_≡_, refl, sym, ap, _∙_}
+use mathlib.Core.Logic.{inr}
 use mathlib.Core.Bool.{Bool, true, false}
-use Prim.Native.Nat.{ℕ, zero, suc, _+_, _-_, _*_, _/_, _%_, _^_, _≤_, _<_}
+use Prim.Native.Nat.{ℕ, zero, suc, _+_, _*_, _/_, _%_, _^_, _≤_, _<_}
+use native.Mathlib.Nat.{zero-add, le-of-lt}
 use native.Mathlib.Omega.{arith}
-use lib.Ieee.{Float, binary32, ofBits, nearest, units}
+use lib.Ieee.{binary32, ofBits, nearest, units}
 use Rattle.arith.specs.Root.{roundExact, dropped}
-use Rattle.arith.proofs.RootPatterns.{pattern, units-is}
+use Rattle.arith.proofs.Pack.{pack}
 
 pub round-exact-is : (r : ℕ) (more : Bool) (p : ℕ) → roundExact r more p ≡ units binary32 false (nearest (r / 2) (dropped (r % 2) more)) (p + 50)
 unfolding roundExact
@@ -14,7 +16,7 @@ round-exact-is r more p = refl
 pub assembled : (r : ℕ) (more : Bool) (p q : ℕ) → nearest (r / 2) (dropped (r % 2) more) ≡ q → 2 ^ 23 ≤ q → q < 2 ^ 24 → p ≤ 200
     → (ofBits binary32 ((p + 50) * 8388608 + q) ≡ roundExact r more p) × ((p + 50) * 8388608 + q < 2139095040)
 assembled r more p q e lo hi h = (
-  pattern q (p + 50) lo hi (omega arith) ∙ sym (round-exact-is r more p ∙ ap (λ (x : ℕ). units binary32 false x (p + 50)) e ∙ units-is q (p + 50) (omega arith) hi (omega arith)),
+  ap (ofBits binary32) (sym (zero-add ((p + 50) * 8388608 + q))) ∙ pack false q (p + 50) (le-of-lt hi) (inr lo) (omega arith) ∙ sym (round-exact-is r more p ∙ ap (λ (x : ℕ). units binary32 false x (p + 50)) e),
   omega arith,
 )
 

@@ -1,9 +1,9 @@
 -- The 24 digits that are kept: from the root r of n, an even n from 2 ^ 48 to 2 ^ 50 - 2 ^ 26, the number q with (2q - 1)² < n < (2q + 1)². So the root of n, which is twice
 -- that of n / 4, is never half way between two whole numbers of half its size: there is no tie. Assumes nothing.
-use mathlib.Core.Path.{_≡_, refl, sym, ap, _∙_, subst}
+use mathlib.Core.Path.{_≡_, refl, ap, _∙_, subst}
 use mathlib.Core.Bool.{Bool, true, false, not}
 use Prim.Native.Nat.{ℕ, zero, suc, _+_, _-_, _*_, _/_, _%_, _^_, _≤_, _<_}
-use native.Mathlib.Nat.{le-trans, le-of-eq, le-of-lt, le-antisymm, lt-of-not-le, lt-of-lt-of-le, lt-of-le-of-lt, not-le-of-lt, zero-lt-suc, mul-le-mul, mul-le-mul-left, mul-right-comm, add-mul, one-mul, mul-lt-mul-of-pos-right}
+use native.Mathlib.Nat.{le-of-lt, lt-of-not-le, lt-of-lt-of-le, lt-of-le-of-lt, not-le-of-lt, mul-le-mul, mul-le-mul-left, mul-right-comm, add-mul, one-mul, mul-lt-mul-of-pos-right}
 use native.Mathlib.Omega.{arith}
 use lib.Dec.{T, ltb, ltb→lt, nltb→le}
 use lib.Ieee.{nearest}

@@ -1,91 +1,29 @@
 -- The root of a positive f32 is the nearest f32 to the exact root, and there is never a tie (`nearest-root`). Assumes nothing.
 use mathlib.Core.Path.{_≡_, refl, sym, ap, _∙_, subst}
-use mathlib.Core.Bool.{Bool, true, false, _&&_}
-use Prim.Native.Nat.{ℕ, zero, suc, _+_, _-_, _*_, _/_, _%_, _^_, _≤_, _<_}
-use native.Mathlib.Nat.{le-trans, le-of-lt, le-of-suc-le-suc, lt-of-not-le, lt-of-lt-of-le, lt-of-le-of-lt, not-le-of-lt, zero-lt-suc, zero-mul, zero-div, mul-assoc, mul-comm, mul-one, mul-right-comm, mul-div-cancel, mul-mul-mul-comm, mul-lt-mul-of-pos-right, lt-of-mul-lt-mul-right, pow-suc}
+use mathlib.Core.Logic.{⊎-elim}
+use mathlib.Core.Bool.{Bool, true, false, not}
+use Prim.Native.Nat.{ℕ, suc, _+_, _*_, _/_, _%_, _^_, _≤_, _<_}
+use native.Mathlib.Nat.{eq-or-lt-of-le, le-of-lt, lt-of-lt-of-le, zero-lt-suc, mul-assoc, mul-comm, mul-lt-mul-of-pos-right, pow-suc}
 use native.Mathlib.Omega.{arith}
-use lib.IntN.{ℤ, pos, negsuc}
-use lib.Dec.{T, leb, ltb, eqb, ltb→lt, leb→le}
-use lib.Pow.{pow-add, pow-pos, pow-lt, pow-mono, shl-lt}
-use lib.Ieee.{Float, nan, inf, fin, binary32, up, down, size, odd, units, nearest, fits}
+use lib.Dec.{T, leb, ltb, leb→le, nleb→lt}
+use lib.Pow.{pow-add, pow-pos, pow-mono, shl-lt}
+use lib.Ieee.{Float, nan, inf, fin, binary32, units, size, nearest, fits}
 use lib.Ieee.Digits.{size-le}
-use lib.Ieee.Fits.{and-l, and-r, down-pos, odd-fits}
-use lib.Ieee.Exact.{HasValue, odd-sign}
-use lib.Ieee.Scale.{finite}
+use lib.Ieee.Exact.{HasValue, units-val}
 use lib.Ieee.Positive.{num, den, positive, positive-finite, value-pos, first-pos}
-use Rattle.arith.specs.Root.{wholeRoot, brought, power, dropped, exactOf, roundExact, roundExactOf, sqrtOf}
-use Rattle.arith.specs.RootNearest.{inUnits, OnSide, NearestRoot}
+use Rattle.arith.specs.Root.{wholeRoot, brought, power, dropped, exactOf, roundExactOf, sqrtOf}
+use Rattle.arith.specs.Units.{inUnits}
+use Rattle.arith.specs.RootNearest.{OnSide, NearestRoot}
+use Rattle.arith.proofs.Values.{value-unique, value-is-finite}
+use Rattle.arith.proofs.Short.{short, in-units}
 use Rattle.arith.proofs.RootWhole.{wholeRoot-is}
 use Rattle.arith.proofs.RootBrought.{four-pow}
 use Rattle.arith.proofs.RootDigits.{Kept, kept}
 use Rattle.arith.proofs.RootSides.{nearer}
-use Rattle.arith.proofs.RootPatterns.{units-is}
+use Rattle.arith.proofs.Pack.{units-fit}
 use Rattle.arith.proofs.RootAssembled.{round-exact-is}
 use Rattle.arith.proofs.RootValue.{root-is}
 use Rattle.arith.proofs.RootSteps.{Ready, ready, in-25}
-
--- ---- a finite f32 is m * 2 ^ j units, with m below 2 ^ 24
-
-pow-le-back : (a l : ℕ) → 2 ^ a ≤ 2 ^ l → a ≤ l
-pow-le-back a l h = le-of-suc-le-suc (lt-of-not-le (λ (g : suc l ≤ a). not-le-of-lt (pow-lt g) h))
-
-place : (e : ℤ) → down e ≤ 2 ^ 149 → (j : ℕ) × ((m : ℕ) → m * up e * 2 ^ 149 ≡ m * 2 ^ j * down e)
-place (pos a) h = (a + 149, λ m. mul-assoc m (2 ^ a) (2 ^ 149) ∙ ap (λ (x : ℕ). m * x) (sym (pow-add 2 a 149)) ∙ sym (mul-one (m * 2 ^ (a + 149))))
-place (negsuc a) h =
-    let l : suc a ≤ 149 = pow-le-back (suc a) 149 h in
-    let e : 149 ≡ 149 - suc a + suc a = omega arith in
-    (149 - suc a, λ m. ap (λ (x : ℕ). x * 2 ^ 149) (mul-one m) ∙ ap (λ (x : ℕ). m * 2 ^ x) e ∙ ap (λ (x : ℕ). m * x) (pow-add 2 (149 - suc a) (suc a)) ∙ sym (mul-assoc m (2 ^ (149 - suc a)) (2 ^ suc a)))
-
-pub record Short (x : Float) : Type 0 where
-  pub m : ℕ
-  pub j : ℕ
-  pub small : m < 2 ^ 24
-  pub within : m * 2 ^ j < 2 ^ 277
-  pub exact : num x * 2 ^ 149 ≡ m * 2 ^ j * den x
-  pub size-is : inUnits x ≡ m * 2 ^ j
-
--- the value of a number from its units
-in-units : (x : Float) (s : Bool) (u : ℕ) → HasValue x s u (2 ^ 149) → inUnits x ≡ u
-in-units nan s u h = absurd h
-in-units (inf t) s u h = absurd h
-in-units (fin t m e) s u h = ap (λ (x : ℕ). x / down e) (h .1) ∙ mul-div-cancel u (down-pos e)
-
-short-fin : (s : Bool) (m : ℕ) (e : ℤ) → m < 2 ^ 24 → down e ≤ 2 ^ 149 → m * up e < 2 ^ 128 * down e → Short (fin s m e)
-short-fin s m e a b c =
-    let p = place e b in
-    let v : m * up e * 2 ^ 149 ≡ m * 2 ^ (p .0) * down e = p .1 m in
-    let w : m * up e * 2 ^ 149 < 2 ^ 128 * down e * 2 ^ 149 = mul-lt-mul-of-pos-right c (pow-pos 149) in
-    let g : 2 ^ 128 * down e * 2 ^ 149 ≡ 2 ^ 277 * down e = mul-right-comm (2 ^ 128) (down e) (2 ^ 149) in
-    record {
-      m = m;
-      j = p .0;
-      small = a;
-      within = lt-of-mul-lt-mul-right (down e) (subst (λ (x : ℕ). m * 2 ^ (p .0) * down e < x) g (subst (λ (x : ℕ). x < 2 ^ 128 * down e * 2 ^ 149) v w));
-      exact = v;
-      size-is = in-units (fin s m e) s (m * 2 ^ (p .0)) (refl, v);
-    }
-
-pub short : (x : Float) → T (fits binary32 x) → T (finite x) → Short x
-unfolding fits
-short nan f t = absurd t
-short (inf s) f t = absurd t
-short (fin s zero e) f t = record {
-  m = 0;
-  j = 0;
-  small = zero-lt-suc 16777215;
-  within = pow-pos 277;
-  exact = ap (λ (x : ℕ). x * 2 ^ 149) (zero-mul (up e)) ∙ sym (zero-mul (down e));
-  size-is = ap (λ (x : ℕ). x * 2 ^ 149 / down e) (zero-mul (up e)) ∙ zero-div (down e);
-}
-short (fin s (suc m) e) f t =
-    let A = eqb (suc m % 2) 1 in
-    let B = ltb (suc m) (2 ^ 24) in
-    let C = leb (down e) (2 ^ 149) in
-    let D = ltb (suc m * up e) (2 ^ 128 * down e) in
-    short-fin s (suc m) e
-    (ltb→lt (suc m) (2 ^ 24) (and-r A B (and-l (A && B) C (and-l (A && B && C) D f))))
-    (leb→le (down e) (2 ^ 149) (and-r (A && B) C (and-l (A && B && C) D f)))
-    (ltb→lt (suc m * up e) (2 ^ 128 * down e) (and-r (A && B && C) D f))
 
 -- ---- the root of m * 2 ^ j units
 
@@ -122,12 +60,9 @@ module _ (m j : ℕ) (p : 0 < m) (small : m < 2 ^ 24) (within : m * 2 ^ j < 2 ^ 
       at-most : (s : ℕ) → s ≤ 278 → (s + 1) / 2 + 50 ≤ 253
       at-most s h = omega arith
 
-  q-pos : 0 < q
-  q-pos = lt-of-lt-of-le (pow-pos 23) (keeps .least)
-
-  result : roundExactOf (exactOf v) ≡ odd 24 false q k 149
+  result : roundExactOf (exactOf v) ≡ units binary32 false q k
   unfolding exactOf
-  result = round-exact-is r (ltb (r * r) n) (power v) ∙ units-is q k q-pos (keeps .most) k-le
+  result = round-exact-is r (ltb (r * r) n) (power v)
 
   -- four times the operand, as the middles' squares are measured
   scale : 4 * (m * 2 ^ j * 2 ^ 149) ≡ n * (2 ^ k * 2 ^ k)
@@ -149,19 +84,19 @@ module _ (m j : ℕ) (p : 0 < m) (small : m < 2 ^ 24) (within : m * 2 ^ j < 2 ^ 
       more x h = omega arith
 
   y-value : HasValue (roundExactOf (exactOf v)) false (q * 2 ^ k) (2 ^ 149)
-  y-value = subst (λ (x : Float). HasValue x false (q * 2 ^ k) (2 ^ 149)) (sym result) (odd-sign 24 false q k 149)
+  y-value = subst (λ (x : Float). HasValue x false (q * 2 ^ k) (2 ^ 149)) (sym result) (units-val binary32 false q k q-within)
 
-  root-nearest : (x : Float) → inUnits x ≡ m * 2 ^ j → NearestRoot x (roundExactOf (exactOf v))
+  root-nearest : (x : Float) → inUnits binary32 x ≡ m * 2 ^ j → NearestRoot x (roundExactOf (exactOf v))
   root-nearest x e =
       let y = roundExactOf (exactOf v) in
-      let i : inUnits y ≡ q * 2 ^ k = in-units y false (q * 2 ^ k) y-value in
+      let i : inUnits binary32 y ≡ q * 2 ^ k = in-units binary32 y false (q * 2 ^ k) y-value in
       record {
-        held = subst (λ (x : Float). T (fits binary32 x)) (sym result) (odd-fits binary32 24 false q k (keeps .most) (le-of-lt (keeps .most)) q-within);
+        held = subst (λ (x : Float). T (fits binary32 x)) (sym result) (units-fit binary32 false q k (le-of-lt (keeps .most)));
         plain = subst (λ (u : ℕ). HasValue y false u (2 ^ 149)) (sym i) y-value;
         nearest = λ z f t.
-            let s = short z f t in
-            subst (λ (u : ℕ). OnSide u (inUnits y) (inUnits z)) (sym e)
-            (subst (λ (u : ℕ). OnSide (m * 2 ^ j) u (inUnits z)) (sym i)
+            let s = short binary32 z f t in
+            subst (λ (u : ℕ). OnSide u (inUnits binary32 y) (inUnits binary32 z)) (sym e)
+            (subst (λ (u : ℕ). OnSide (m * 2 ^ j) u (inUnits binary32 z)) (sym i)
             (subst (λ (u : ℕ). OnSide (m * 2 ^ j) (q * 2 ^ k) u) (sym (s .size-is))
             (nearer n q k (s .m) (s .j) (ok .lo) keeps (s .small) (m * 2 ^ j * 2 ^ 149) scale)));
       }
@@ -177,10 +112,33 @@ signed (fin false m d) t u e = (refl, e)
 -- for every f32 that is finite and above zero
 pub nearest-root : (x : Float) → T (fits binary32 x) → T (positive x) → NearestRoot x (sqrtOf x)
 nearest-root x f t =
-    let s = short x f (positive-finite x t) in
+    let s = short binary32 x f (positive-finite x t) in
     let h = signed x t (s .m * 2 ^ (s .j)) (s .exact) in
     let u : 0 < s .m * 2 ^ (s .j) = value-pos x (s .m * 2 ^ (s .j)) (2 ^ 149) t (pow-pos 149) h in
     let p : 0 < s .m = first-pos (s .m) (2 ^ (s .j)) u in
     subst (λ (y : Float). NearestRoot x y)
     (sym (root-is x (s .m * 2 ^ (s .j)) u h ∙ ap (λ (v : ℕ). roundExactOf (exactOf v)) (twice (s .m) (s .j) p (s .small) (s .within))))
     (root-nearest (s .m) (s .j) p (s .small) (s .within) x (s .size-is))
+
+-- only one number is such: of two, each would be strictly the nearer
+pub root-unique : (x y z : Float) → NearestRoot x y → NearestRoot x z → y ≡ z
+root-unique x y z a b =
+    let u = inUnits binary32 y in
+    let v = inUnits binary32 z in
+    let p = a .nearest z (b .held) (value-is-finite z false v (2 ^ 149) (b .plain)) in
+    let q = b .nearest y (a .held) (value-is-finite y false u (2 ^ 149) (a .plain)) in
+    let e : u ≡ v = same u v (4 * (inUnits binary32 x * 2 ^ 149)) (p .0) (p .1) (q .0) (q .1) in
+    value-unique binary32 y z false v (a .held) (b .held) (subst (λ (n : ℕ). HasValue y false n (2 ^ 149)) e (a .plain)) (b .plain)
+  where
+    flip : (u v : ℕ) → (u + v) * (u + v) ≡ (v + u) * (v + u)
+    flip u v = let e : u + v ≡ v + u = omega arith in ap (λ (n : ℕ). n * n) e
+
+    same : (u v w : ℕ) → (v < u → (u + v) * (u + v) < w) → (u < v → w < (u + v) * (u + v)) → (u < v → (v + u) * (v + u) < w) → (v < u → w < (v + u) * (v + u)) → u ≡ v
+    same u v w a b c d = go (leb u v) (leb→le u v) (nleb→lt u v)
+      where
+        clash : (i j : ℕ) → i ≡ j → i < w → w < j → ⊥
+        clash i j e l h = omega arith
+
+        go : (t : Bool) → (T t → u ≤ v) → (T (not t) → v < u) → u ≡ v
+        go true l g = ⊎-elim (λ (e : u ≡ v). e) (λ (h : u < v). absurd (clash ((v + u) * (v + u)) ((u + v) * (u + v)) (flip v u) (c h) (b h))) (eq-or-lt-of-le (l tt))
+        go false l g = absurd (clash ((u + v) * (u + v)) ((v + u) * (v + u)) (flip u v) (a (g tt)) (d (g tt)))

@@ -1,10 +1,10 @@
 -- Of the numbers a * 2 ^ j with a below 2 ^ 24, q * 2 ^ k is the nearest to the root of n * 4 ^ k, where q is the number kept of n (`Kept`): the root lies on its side of the middle
 -- between it and any other. The middle is half their sum, and a number is compared with the root by its square. Assumes nothing.
-use mathlib.Core.Path.{_≡_, refl, sym, ap, _∙_, subst}
+use mathlib.Core.Path.{_≡_, sym, ap, _∙_, subst}
 use mathlib.Core.Logic.{_⊎_, inl, inr}
 use mathlib.Core.Bool.{Bool, true, false, not}
-use Prim.Native.Nat.{ℕ, zero, suc, _+_, _-_, _*_, _/_, _%_, _^_, _≤_, _<_}
-use native.Mathlib.Nat.{le-trans, le-of-eq, le-of-lt, lt-of-lt-of-le, lt-of-le-of-lt, lt-irrefl, mul-le-mul, mul-le-mul-right, mul-assoc, mul-mul-mul-comm, mul-lt-mul-of-pos-right, lt-of-mul-lt-mul-right, mul-pos, add-mul, eq-or-lt-of-le, suc-mul}
+use Prim.Native.Nat.{ℕ, suc, _+_, _-_, _*_, _^_, _≤_, _<_}
+use native.Mathlib.Nat.{le-trans, le-of-eq, le-of-lt, lt-of-lt-of-le, lt-of-le-of-lt, lt-irrefl, mul-le-mul, mul-le-mul-right, mul-assoc, mul-mul-mul-comm, mul-lt-mul-of-pos-right, lt-of-mul-lt-mul-right, mul-pos, add-mul, eq-or-lt-of-le}
 use native.Mathlib.Omega.{arith}
 use lib.Dec.{T, leb, leb→le, nleb→lt}
 use lib.Pow.{pow-add, pow-pos, pow-mono, shl-lt}

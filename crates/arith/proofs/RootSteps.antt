@@ -1,22 +1,20 @@
 -- What the functions of the square root need of one another, from the files beside this one. Assumes nothing.
 use mathlib.Core.Path.{_≡_, refl, sym, ap, _∙_, subst}
-use mathlib.Core.Bool.{Bool, true, false, not, cond}
+use mathlib.Core.Bool.{false}
 use Prim.Native.Nat.{ℕ, zero, suc, _+_, _-_, _*_, _/_, _%_, _^_, _≤_, _<_}
-use native.Mathlib.Nat.{le-trans, le-of-eq, lt-of-not-le, lt-of-lt-of-le, lt-of-le-of-lt, not-le-of-lt, lt-irrefl, mod-eq-of-lt, mul-pos, mul-assoc, mul-one, pow-suc, add-comm}
+use native.Mathlib.Nat.{le-trans, lt-of-not-le, not-le-of-lt, mod-eq-of-lt, mul-pos, mul-assoc, pow-suc}
 use native.Mathlib.Omega.{arith}
-use lib.Dec.{T, leb, ltb, eqb, lt→ltb, ltb→lt, nltb→le, not-T, T-not}
-use lib.Arith.{le→nltb}
+use lib.Dec.{ltb}
 use lib.Pow.{pow-pos, pow-mono}
 use lib.Count.{leadingZeros, leading-top}
-use lib.Ieee.{Float, nan, inf, fin, binary32, odd, ofBits, toBits, nanBits, isNan, fits, ne}
-use lib.Ieee.Bits.{is-true, is-false, nanBits-is, nanBits-above, ofBits-toBits}
-use lib.Ieee.Exact.{HasValue, odd-sign}
+use lib.Ieee.{Float, binary32, ofFields, ofBits}
+use lib.Ieee.Exact.{HasValue}
 use Rattle.arith.specs.declared.Exact.{Exact}
-use Rattle.arith.specs.Root.{IsRoot, wholeRoot, brought, power, exactOf, roundExact, roundExactOf, scaled, sqrtOf}
+use Rattle.arith.specs.Root.{IsRoot, wholeRoot, brought, power, exactOf, roundExactOf, scaled, sqrtOf}
 use Rattle.arith.proofs.RootWhole.{wholeRoot-is, root-unique}
 use Rattle.arith.proofs.RootBrought as B
 use Rattle.arith.proofs.RootDigits.{r-lo, r-hi}
-use Rattle.arith.proofs.RootPatterns.{normal, subnormal}
+use Rattle.arith.proofs.Fields.{plus-fields, value-zero, value-finite}
 use Rattle.arith.proofs.RootValue.{scaled-is, root-is}
 
 -- ---- the number that an operand is brought to
@@ -119,27 +117,28 @@ pub record Reading (b a k : ℕ) : Type 0 where
   pub short : a < 2 ^ 24
   pub small : k < 255
 
+-- by the fields of the pattern
+by-fields : (b u : ℕ) → b < 2139095040 → HasValue (ofFields binary32 false (b / 8388608) (b % 8388608)) false u (2 ^ 149) → HasValue (ofBits binary32 b) false u (2 ^ 149)
+by-fields b u h v = subst (λ (x : Float). HasValue x false u (2 ^ 149)) (sym (plus-fields binary32 b (omega arith))) v
+
 pub read-low : (b : ℕ) → 0 < b → b / 8388608 ≡ 0 → Reading b (b % 8388608) 1
-read-low b p e =
-    let l : b < 8388608 = omega arith in
-    let s : b % 8388608 ≡ b = omega arith in
-    record {
-      u = b * 2 ^ 0;
-      value = subst (λ (x : Float). HasValue x false (b * 2 ^ 0) (2 ^ 149)) (sym (subnormal b l)) (odd-sign 24 false b 0 149);
-      twice = ap (λ (x : ℕ). x * 2) (mul-one b ∙ sym s);
-      some = omega arith;
-      short = omega arith;
-      small = omega arith;
-    }
+read-low b p e = record {
+  u = b % 8388608;
+  value = by-fields b (b % 8388608) (omega arith) (subst (λ (x : ℕ). HasValue (ofFields binary32 false x (b % 8388608)) false (b % 8388608) (2 ^ 149)) (sym e) (value-zero binary32 false (b % 8388608)));
+  twice = refl;
+  some = omega arith;
+  short = omega arith;
+  small = omega arith;
+}
 
 pub read-high : (b : ℕ) → (b / 8388608 ≡ 0 → ⊥) → b < 2139095040 → Reading b (b % 8388608 + 8388608) (b / 8388608)
 read-high b n h =
-    let l : 8388608 ≤ b = omega arith in
+    let l : 0 < b / 8388608 = omega arith in
     let f : b / 8388608 ≡ suc (b / 8388608 - 1) = omega arith in
     let g : 8388608 + b % 8388608 ≡ b % 8388608 + 8388608 = omega arith in
     record {
       u = (8388608 + b % 8388608) * 2 ^ (b / 8388608 - 1);
-      value = subst (λ (x : Float). HasValue x false ((8388608 + b % 8388608) * 2 ^ (b / 8388608 - 1)) (2 ^ 149)) (sym (normal b l h)) (odd-sign 24 false (8388608 + b % 8388608) (b / 8388608 - 1) 149);
+      value = by-fields b ((8388608 + b % 8388608) * 2 ^ (b / 8388608 - 1)) h (value-finite binary32 false (b / 8388608) (b % 8388608) l (omega arith));
       twice = mul-assoc (8388608 + b % 8388608) (2 ^ (b / 8388608 - 1)) 2 ∙ ap (λ (x : ℕ). (8388608 + b % 8388608) * x) (sym (pow-suc 2 (b / 8388608 - 1)) ∙ ap (λ (x : ℕ). 2 ^ x) (sym f)) ∙ ap (λ (x : ℕ). x * 2 ^ (b / 8388608)) g;
       some = omega arith;
       short = omega arith;

@@ -1,13 +1,13 @@
 -- The root of a positive number, from its value alone. Assumes nothing.
-use mathlib.Core.Path.{_≡_, refl, sym, ap, _∙_, subst}
-use mathlib.Core.Bool.{Bool, true, false}
-use Prim.Native.Nat.{ℕ, zero, suc, _+_, _-_, _*_, _/_, _%_, _^_, _≤_, _<_}
-use native.Mathlib.Nat.{lt-irrefl, lt-of-lt-of-le, mul-assoc, mul-comm, mul-right-comm, mul-div-cancel, mul-pos, zero-mul, zero-lt-suc}
+use mathlib.Core.Path.{_≡_, sym, ap, _∙_, subst}
+use mathlib.Core.Bool.{Bool, false}
+use Prim.Native.Nat.{ℕ, zero, suc, _*_, _/_, _^_, _<_}
+use native.Mathlib.Nat.{lt-irrefl, mul-assoc, mul-right-comm, mul-div-cancel, mul-pos, zero-mul}
 use lib.IntN.{ℤ}
 use lib.Ieee.{Float, nan, inf, fin, up, down}
 use lib.Ieee.Exact.{HasValue}
 use lib.Ieee.Fits.{down-pos}
-use Rattle.arith.specs.Root.{sqrtOf, exactOf, roundExact, roundExactOf, quarters, scaled}
+use Rattle.arith.specs.Root.{sqrtOf, exactOf, roundExactOf, quarters, scaled}
 
 -- u units of 2 ^ -149 are 2 * u quarters of 4 ^ -75
 scaled-fin : (m : ℕ) (e : ℤ) (u : ℕ) → m * up e * 2 ^ 149 ≡ u * down e → quarters m e ≡ u * 2

@@ -1,4 +1,4 @@
--- `atan2_fast`: a polynomial of the smaller magnitude over the larger, folded back by the octant. Each operation is rounded once, in this order.
+-- `atan2_fast` of band_pulse_detect.rs: a polynomial of the smaller magnitude over the larger, folded back by the octant. Each operation is rounded once, in this order.
 use mathlib.Core.Bool.{Bool, cond}
 use lib.Ieee.{Float, binary32, add, sub, mul, div, neg, lt, eq, ofBits}
 use Rattle.arith.specs.Leaves.{absOf, zero32}

@@ -1,6 +1,8 @@
--- The definitions that the arithmetic crate's contracts cite.
+-- The definitions that the contracts of the arithmetic cite, in reading order; then what the results have to be, however they are found.
 pub mod Rounding
 pub mod Root
-pub mod RootNearest
 pub mod Leaves
 pub mod Angle
+pub mod Units
+pub mod RoundingNearest
+pub mod RootNearest

@@ -13,6 +13,46 @@ ghost use Rattle.arith.specs.Rounding.{roundOf, narrowOf, halfUp};
 ghost use Rattle.arith.specs.Leaves.{absOf, midpointOf, flushOf, maxOf, minOf, cmulConjOf, crossOf, edgeOf, stepOf, wholeOf, widthOf, fskWidthOf, runFixOf, gainOf, leadLenOf};
 ghost use Rattle.arith.specs.Angle.{octant, fold, signed, atan2Of};
 
+// ---- bit patterns
+
+// The float of a pattern: each pattern of a NaN gives the one NaN.
+pub fn f32_of_bits(n: u32) -> f32
+    ensures { λ r. ⌜ r ≡ Ieee.ofBits binary32 n ⌝ }
+{
+    if 0x7f80_0000 < n % 0x8000_0000 {
+        return 0.0 / 0.0;
+    }
+    f32::from_bits(n)
+}
+
+pub fn f64_of_bits(n: u64) -> f64
+    ensures { λ r. ⌜ r ≡ Ieee.ofBits binary64 n ⌝ }
+{
+    if 0x7ff0_0000_0000_0000 < n % 0x8000_0000_0000_0000 {
+        return 0.0 / 0.0;
+    }
+    f64::from_bits(n)
+}
+
+// The pattern of a float: a NaN's is the quiet one with no other digit set.
+pub fn bits_of_f32(x: f32) -> u32
+    ensures { λ r. ⌜ r ≡ Ieee.toBits binary32 x ⌝ }
+{
+    if x != x {
+        return 0x7fc0_0000;
+    }
+    f32::to_bits(x)
+}
+
+pub fn bits_of_f64(x: f64) -> u64
+    ensures { λ r. ⌜ r ≡ Ieee.toBits binary64 x ⌝ }
+{
+    if x != x {
+        return 0x7ff8_0000_0000_0000;
+    }
+    f64::to_bits(x)
+}
+
 // ---- change of width and rounding to integral
 
 // v / u to the nearest whole number, a tie to the even one.
@@ -207,27 +247,36 @@ pub fn sqrt(x: f32) -> f32
     f32::from_bits(round_exact(exact_root(b)))
 }
 
-// ---- the leaves
+// ---- what the Rust takes from its language and libraries
 
-// The magnitude: the sign of a zero goes too.
+// The magnitude: the sign of a zero goes too. By the pattern, with no branch on the sign.
 pub fn abs(x: f32) -> f32
     ensures { λ r. ⌜ r ≡ absOf x ⌝ }
 {
-    if x < 0.0 {
-        -x
-    } else if x == 0.0 {
-        0.0
-    } else {
-        x
+    if x != x {
+        return x;
     }
+    f32::from_bits(f32::to_bits(x) % 0x8000_0000)
 }
 
+// The magnitude of an f64.
+pub fn abs64(x: f64) -> f64
+    ensures { λ r. ⌜ r ≡ absOf x ⌝ }
+{
+    if x != x {
+        return x;
+    }
+    f64::from_bits(f64::to_bits(x) % 0x8000_0000_0000_0000)
+}
+
+// f32::midpoint: both widened, added, halved, narrowed.
 pub fn midpoint(a: f32, b: f32) -> f32
     ensures { λ r. ⌜ r ≡ midpointOf a b ⌝ }
 {
     narrow((widen(a) + widen(b)) / 2.0)
 }
 
+// +0 below 2^-126 in magnitude, which is 1.1754943508222875e-38.
 pub fn flush_denormal(x: f32) -> f32
     ensures { λ r. ⌜ r ≡ flushOf x ⌝ }
 {
@@ -238,24 +287,13 @@ pub fn flush_denormal(x: f32) -> f32
     }
 }
 
+// The larger, and the other where one is a NaN, as f32::max has it.
 pub fn max(a: f32, b: f32) -> f32
     ensures { λ r. ⌜ r ≡ maxOf a b ⌝ }
 {
     if a != a {
         b
     } else if a < b {
-        b
-    } else {
-        a
-    }
-}
-
-pub fn min(a: f32, b: f32) -> f32
-    ensures { λ r. ⌜ r ≡ minOf a b ⌝ }
-{
-    if a != a {
-        b
-    } else if b < a {
         b
     } else {
         a
@@ -274,7 +312,8 @@ pub fn max64(a: f64, b: f64) -> f64
     }
 }
 
-pub fn min64(a: f64, b: f64) -> f64
+// The smaller, and the other where one is a NaN, as f32::min has it.
+pub fn min(a: f32, b: f32) -> f32
     ensures { λ r. ⌜ r ≡ minOf a b ⌝ }
 {
     if a != a {
@@ -286,32 +325,15 @@ pub fn min64(a: f64, b: f64) -> f64
     }
 }
 
-// The magnitude of an f64.
-pub fn abs64(x: f64) -> f64
-    ensures { λ r. ⌜ r ≡ absOf x ⌝ }
+pub fn min64(a: f64, b: f64) -> f64
+    ensures { λ r. ⌜ r ≡ minOf a b ⌝ }
 {
-    if x < 0.0 {
-        -x
-    } else if x == 0.0 {
-        0.0
+    if a != a {
+        b
+    } else if b < a {
+        b
     } else {
-        x
-    }
-}
-
-// A complex sample: real and imaginary part.
-pub struct C32 {
-    pub re: f32,
-    pub im: f32,
-}
-
-// x times the conjugate of y.
-pub fn cmul_conj(x: C32, y: C32) -> C32
-    ensures { λ r. ⌜ r ≡ cmulConjOf x y ⌝ }
-{
-    C32 {
-        re: x.re * y.re + x.im * y.im,
-        im: x.im * y.re - x.re * y.im,
+        a
     }
 }
 
@@ -326,31 +348,6 @@ pub fn u64_to_f64(n: u64) -> f64
     ensures { λ r. ⌜ r ≡ Ieee.ofInt binary64 (pos n) ⌝ }
 {
     std::num::nearest_u64_to_f64(n)
-}
-
-// Where the line from prev to cur crosses thr, as a part of the step.
-pub fn cross(prev: f32, cur: f32, thr: f32) -> f64
-    ensures { λ r. ⌜ r ≡ crossOf prev cur thr ⌝ }
-{
-    let d = cur - prev;
-    if 0.0 < abs(d) {
-        let q = widen((thr - prev) / d);
-        if q < 0.0 {
-            0.0
-        } else if 1.0 < q {
-            1.0
-        } else {
-            q
-        }
-    } else {
-        1.0
-    }
-}
-
-pub fn edge(idx: u64, frac: f64) -> f64
-    ensures { λ r. ⌜ r ≡ edgeOf idx frac ⌝ }
-{
-    u64_to_f64(idx) - 1.0 + frac
 }
 
 // A float to an integer: toward zero, to the nearest end of the range, and 0 for a NaN.
@@ -379,56 +376,7 @@ pub fn to_u32(x: f64) -> u32
     }
 }
 
-pub fn step_of(t: f64) -> u64
-    ensures { λ r. ⌜ r ≡ stepOf t ⌝ }
-{
-    to_u64(round(t))
-}
-
-pub fn whole(x: f64) -> u32
-    ensures { λ r. ⌜ r ≡ wholeOf x ⌝ }
-{
-    to_u32(round(x))
-}
-
-// Whole steps, and 64ths of a step.
-pub struct Steps(pub u32);
-
-pub struct Fix64(pub u32);
-
-pub fn width(a: f64, b: f64) -> Steps
-    ensures { λ r. ⌜ r ≡ widthOf a b ⌝ }
-{
-    Steps(whole(b - a))
-}
-
-pub fn fsk_width(a: f64, b: f64) -> Steps
-    ensures { λ r. ⌜ r ≡ fskWidthOf a b ⌝ }
-{
-    Steps(whole(round(b) - round(a)))
-}
-
-pub fn run_fix(t: f64) -> Fix64
-    ensures { λ r. ⌜ r ≡ runFixOf t ⌝ }
-{
-    Fix64(whole(t * 64.0))
-}
-
-pub fn a_gain(e: f32) -> f32
-    ensures { λ r. ⌜ r ≡ gainOf e ⌝ }
-{
-    let q = e * e;
-    if q > 1e-30 {
-        let exp = f32::to_bits(q) / 0x80_0000 % 256;
-        if exp < 254 {
-            f32::from_bits((254 - exp) * 0x80_0000)
-        } else {
-            0.0
-        }
-    } else {
-        0.0
-    }
-}
+// ---- the leaves, in the Rust's order
 
 // The steps of the lead-in: BAND_PULSE_LEAD (16), at most 4 min_steps - 1.
 pub fn lead_len(min_steps: u32) -> u32
@@ -443,6 +391,42 @@ pub fn lead_len(min_steps: u32) -> u32
     4 * min_steps - 1
 }
 
+// A complex sample: real and imaginary part.
+pub struct C32 {
+    pub re: f32,
+    pub im: f32,
+}
+
+// x times the conjugate of y.
+pub fn cmul_conj(x: C32, y: C32) -> C32
+    ensures { λ r. ⌜ r ≡ cmulConjOf x y ⌝ }
+{
+    C32 {
+        re: x.re * y.re + x.im * y.im,
+        im: x.im * y.re - x.re * y.im,
+    }
+}
+
+// Where the line from prev to cur crosses thr, as a part of the step.
+pub fn cross(prev: f32, cur: f32, thr: f32) -> f64
+    ensures { λ r. ⌜ r ≡ crossOf prev cur thr ⌝ }
+{
+    let d = cur - prev;
+    if 0.0 < abs(d) {
+        let q = widen((thr - prev) / d);
+        if q < 0.0 {
+            0.0
+        } else if 1.0 < q {
+            1.0
+        } else {
+            q
+        }
+    } else {
+        1.0
+    }
+}
+
+// The arc tangent of a from 0 to 1, by a polynomial.
 fn octant_of(a: f32) -> f32
     ensures { λ r. ⌜ r ≡ octant a ⌝ }
 {
@@ -467,6 +451,7 @@ const PI: f32 = 3.14159265358979323846264338327950288;
 
 const FRAC_PI_2: f32 = 1.57079632679489661923132169163975144;
 
+// atan2(y, x) to about 1e-5, by the octant.
 pub fn atan2_fast(y: f32, x: f32) -> f32
     ensures { λ r. ⌜ r ≡ atan2Of y x ⌝ }
 {
@@ -481,4 +466,68 @@ pub fn atan2_fast(y: f32, x: f32) -> f32
     let r = pick(steep, FRAC_PI_2 - r, r);
     let r = pick(x < 0.0, PI - r, r);
     if y < 0.0 { -r } else { r }
+}
+
+// The time of the crossing before the sample idx.
+pub fn edge(idx: u64, frac: f64) -> f64
+    ensures { λ r. ⌜ r ≡ edgeOf idx frac ⌝ }
+{
+    u64_to_f64(idx) - 1.0 + frac
+}
+
+// The step of a time: rounded, at least 0.
+pub fn step_of(t: f64) -> u64
+    ensures { λ r. ⌜ r ≡ stepOf t ⌝ }
+{
+    to_u64(round(t))
+}
+
+// A width in whole steps: rounded, at least 0, at most the largest u32.
+pub fn whole(x: f64) -> u32
+    ensures { λ r. ⌜ r ≡ wholeOf x ⌝ }
+{
+    to_u32(round(x))
+}
+
+// Each unit is a type of its own: whole steps, and 64ths of a step.
+pub struct Steps(pub u32);
+
+pub struct Fix64(pub u32);
+
+// The width of an envelope run from a to b.
+pub fn width(a: f64, b: f64) -> Steps
+    ensures { λ r. ⌜ r ≡ widthOf a b ⌝ }
+{
+    Steps(whole(b - a))
+}
+
+// The width of a frequency run from a to b: the difference of the two rounded times.
+pub fn fsk_width(a: f64, b: f64) -> Steps
+    ensures { λ r. ⌜ r ≡ fskWidthOf a b ⌝ }
+{
+    Steps(whole(round(b) - round(a)))
+}
+
+// 1 / e^2 rounded up to a power of two, by the exponent's field alone; 0 unless e^2 exceeds 1e-30.
+pub fn a_gain(e: f32) -> f32
+    ensures { λ r. ⌜ r ≡ gainOf e ⌝ }
+{
+    let q = e * e;
+    if q > 1e-30 {
+        let exp = f32::to_bits(q) / 0x80_0000 % 256;
+        if exp < 254 {
+            f32::from_bits((254 - exp) * 0x80_0000)
+        } else {
+            0.0
+        }
+    } else {
+        0.0
+    }
+}
+
+// A time after the origin of a frame, in 64ths of a step.
+pub fn run_fix(t: f64) -> Fix64
+    ensures { λ r. ⌜ r ≡ runFixOf t ⌝ }
+{
+    Fix64(whole(t * 64.0))
 }

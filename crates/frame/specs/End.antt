@@ -7,7 +7,7 @@ use lib.Dec.{leb, eqb}
 use lib.Ieee.{Float, binary32, sub, le}
 use Rattle.arith.specs.Leaves.{midpointOf, stepOf}
 use Rattle.arith.specs.declared.C32.{C32}
-use Rattle.grid.specs.Widths.{widthsOf}
+use Rattle.grid.specs.Widths.{fskWidthsOf}
 use Rattle.ook.specs.Counts.{inc, bit}
 use Rattle.ook.specs.declared.Out.{Out}
 use Rattle.ook.specs.declared.Settings.{Settings}
@@ -50,7 +50,7 @@ closePairOf c fsk =
 
 -- the first n slots become widths; nothing where there are not so many
 unfoldable pub widthsInOf : ℕ → List ℕ → List ℕ
-widthsInOf n fsk = cond (leb n (length fsk)) (widthsOf (take n fsk) ++ drop n fsk) fsk
+widthsInOf n fsk = cond (leb n (length fsk)) (fskWidthsOf (take n fsk) ++ drop n fsk) fsk
 
 -- the angle between the two levels, or the two sums that atan2f would get
 unfoldable pub carrierOf : ℕ → Float → Float → C32 → Carrier

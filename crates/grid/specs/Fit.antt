@@ -1,92 +1,119 @@
--- `symbols` and `grid_fit`: least squares of the transitions against a + k t. Each operation is roundOf once, in the Rust's order.
-use Prim.Native.Nat.{ℕ}
-use mathlib.Core.Bool.{Bool, true, false, cond, _&&_}
-use mathlib.Core.List.{List, [], _∷_}
+-- `symbols` and `grid_fit` (document 01, "Grid"): the least-squares grid a + k t of a frame's transitions. Each operation is rounded once, in the Rust's order.
+use mathlib.Core.Bool.{Bool, true, cond, _&&_}
+use mathlib.Core.List.{List}
 use lib.Ieee.{Float, binary64, add, sub, mul, div, lt, le, ofBits}
 use Rattle.arith.specs.Rounding.{roundOf}
 use Rattle.arith.specs.Leaves.{absOf, maxOf, zero64, one64}
 use Rattle.grid.specs.Slots.{fold}
 use Rattle.grid.specs.declared.Prev.{Prev}
-use Rattle.grid.specs.declared.Prev.the-variants.{Never, Was}
+use Rattle.grid.specs.declared.Prev.the-variants.{Unset, At}
 use Rattle.grid.specs.declared.Line.{Line}
-use Rattle.grid.specs.declared.Line.the-variants.{Bad, Of}
+use Rattle.grid.specs.declared.Line.the-variants.{NoLine, Rising}
 use Rattle.grid.specs.declared.Grid.{Grid}
-use Rattle.grid.specs.declared.Grid.the-variants.{Off, On}
-use Rattle.grid.specs.declared.Walk.{Walk}
+use Rattle.grid.specs.declared.Grid.the-variants.{NoGrid, On}
 use Rattle.grid.specs.declared.Sums.{Sums}
-use Rattle.grid.specs.declared.Near.{Near}
+use Rattle.grid.specs.declared.RunEnd.{RunEnd}
+use Rattle.grid.specs.declared.Check.{Check}
+
+-- GRID_TOL, 0.25
+abbrev pub gridTol : Float
+gridTol = ofBits binary64 0x3fd0_0000_0000_0000
+
+-- RUN_TOL, 0.4
+abbrev pub runTol : Float
+runTol = ofBits binary64 0x3fd9_9999_9999_999a
 
 -- the symbols of a run of d steps, at least 1, and 1 for a NaN
 unfoldable pub symbolsOf : Float → Float → Float
 symbolsOf d t = maxOf (roundOf (div binary64 d t)) one64
 
--- the walk over the transitions: k symbols so far, n of them in the last run, and the transition before
-unfoldable pub walkedFrom : Prev → Float → Walk → Float → Walk
-walkedFrom Never t w x = record { k = w .k; n = w .n; prev = Was x }
-walkedFrom (Was p) t w x = record { k = add binary64 (w .k) (symbolsOf (sub binary64 x p) t); n = symbolsOf (sub binary64 x p) t; prev = Was x }
+-- the symbol number of the transition x: one run further than the transition before
+unfoldable pub kAfter : Prev → Float → Float → Float → Float
+kAfter Unset k x t = k
+kAfter (At tp) k x t = add binary64 k (symbolsOf (sub binary64 x tp) t)
 
-unfoldable pub walked : Float → Walk → Float → Walk
-walked t w x = walkedFrom (w .prev) t w x
-
-abbrev pub noWalk : Walk
-noWalk = record { k = zero64; n = zero64; prev = Never }
-
--- ---- the sums of a fit
-abbrev pub summed : Sums → Walk → Float → Sums
-summed s w x = record { n = add binary64 (s .n) one64; sk = add binary64 (s .sk) (w .k); skk = add binary64 (s .skk) (mul binary64 (w .k) (w .k)); st = add binary64 (s .st) x; skt = add binary64 (s .skt) (mul binary64 (w .k) x); walk = w }
+-- ---- the two fits
+abbrev pub summed : Sums → Float → Float → Sums
+summed s k x = record {
+  n = add binary64 (s .n) one64;
+  sk = add binary64 (s .sk) k;
+  skk = add binary64 (s .skk) (mul binary64 k k);
+  st = add binary64 (s .st) x;
+  skt = add binary64 (s .skt) (mul binary64 k x);
+  k = k;
+  prev = At x;
+}
 
 unfoldable pub fitStep : Float → Sums → Float → Sums
-fitStep t s x = summed s (walked t (s .walk) x) x
+fitStep t s x = summed s (kAfter (s .prev) (s .k) x t) x
 
 abbrev pub noSums : Sums
-noSums = record { n = zero64; sk = zero64; skk = zero64; st = zero64; skt = zero64; walk = noWalk }
+noSums = record { n = zero64; sk = zero64; skk = zero64; st = zero64; skt = zero64; k = zero64; prev = Unset }
 
-abbrev pub detOf : Sums → Float
-detOf s = sub binary64 (mul binary64 (s .n) (s .skk)) (mul binary64 (s .sk) (s .sk))
+unfoldable pub sumsOf : Float → List Float → Sums
+sumsOf t ts = fold (fitStep t) noSums ts
 
-abbrev pub slopeOf : Sums → Float
-slopeOf s = div binary64 (sub binary64 (mul binary64 (s .n) (s .skt)) (mul binary64 (s .sk) (s .st))) (detOf s)
+abbrev pub det : Sums → Float
+det s = sub binary64 (mul binary64 (s .n) (s .skk)) (mul binary64 (s .sk) (s .sk))
 
-abbrev pub originOf : Sums → Float → Float
-originOf s t = div binary64 (sub binary64 (s .st) (mul binary64 t (s .sk))) (s .n)
+-- the slope of the line, its symbol length
+abbrev pub slope : Sums → Float
+slope s = div binary64 (sub binary64 (mul binary64 (s .n) (s .skt)) (mul binary64 (s .sk) (s .st))) (det s)
 
-unfoldable pub risingOf : Sums → Float → Line
-risingOf s t = cond (lt zero64 t) (Of (originOf s t) t) Bad
+-- the line's first time
+abbrev pub origin : Sums → Float → Float
+origin s t = div binary64 (sub binary64 (s .st) (mul binary64 t (s .sk))) (s .n)
+
+unfoldable pub lineWith : Sums → Float → Line
+lineWith s t = cond (lt zero64 t) (Rising (origin s t) t) NoLine
 
 unfoldable pub lineOf : Sums → Line
-lineOf s = cond (le (detOf s) zero64) Bad (risingOf s (slopeOf s))
+lineOf s = cond (le (det s) zero64) NoLine (lineWith s (slope s))
 
-unfoldable pub fit : List Float → Float → Line
-fit ts t = lineOf (fold (fitStep t) noSums ts)
+unfoldable pub fitOf : List Float → Float → Line
+fitOf ts t = lineOf (sumsOf t ts)
 
--- ---- every transition near its grid point, and every run near its whole number of symbols: 0.25 and 0.4 symbols
-unfoldable pub runNear : Prev → Float → Float → Float → Bool
-runNear Never n x t = true
-runNear (Was p) n x t = le (absOf (sub binary64 (sub binary64 x p) (mul binary64 n t))) (mul binary64 (ofBits binary64 0x3fd9_9999_9999_999a) t)
+-- ---- the check: every run near its whole number of symbols, and every transition near its grid point
+unfoldable pub runNear : Prev → Float → Float → Bool
+runNear Unset x t = true
+runNear (At tp) x t = le (absOf (sub binary64 (sub binary64 x tp) (mul binary64 (symbolsOf (sub binary64 x tp) t) t))) (mul binary64 runTol t)
 
-abbrev pub offOf : Float → Float → Float → Float → Float
-offOf a t k x = div binary64 (sub binary64 x (add binary64 a (mul binary64 k t))) t
+unfoldable pub runAfter : Prev → Float → Float → Float → RunEnd
+runAfter prev k x t = record { k = kAfter prev k x t; ok = runNear prev x t }
 
-abbrev pub nearAt : Near → Walk → Bool → Float → Near
-nearAt c w run r = record { ok = (c .ok && run) && le (absOf r) (ofBits binary64 0x3fd0_0000_0000_0000); cost = add binary64 (c .cost) (mul binary64 r r); walk = w }
+-- the distance of the transition x from its grid point, in symbols
+abbrev pub distance : Float → Float → Float → Float → Float
+distance a t k x = div binary64 (sub binary64 x (add binary64 a (mul binary64 k t))) t
 
-unfoldable pub nearStep : Float → Float → Near → Float → Near
-nearStep a t c x = nearAt c (walked t (c .walk) x) (runNear (c .walk .prev) (walked t (c .walk) x .n) x t) (offOf a t (walked t (c .walk) x .k) x)
+abbrev pub checked : Check → RunEnd → Float → Float → Check
+checked c run r x = record {
+  ok = (c .ok && run .ok) && le (absOf r) gridTol;
+  cost = add binary64 (c .cost) (mul binary64 r r);
+  k = run .k;
+  prev = At x;
+}
 
-abbrev pub allNear : Near
-allNear = record { ok = true; cost = zero64; walk = noWalk }
+unfoldable pub checkStep : Float → Float → Check → Float → Check
+checkStep a t c x = checked c (runAfter (c .prev) (c .k) x t) (distance a t (runAfter (c .prev) (c .k) x t .k) x) x
 
-unfoldable pub gridOn : Float → Float → Near → Grid
-gridOn a t c = cond (c .ok) (On a t (c .cost)) Off
+abbrev pub noCheck : Check
+noCheck = record { ok = true; cost = zero64; k = zero64; prev = Unset }
 
--- the fit with the guess, the fit with its symbol, and the test
-unfoldable pub tested : List Float → Line → Grid
-tested ts Bad = Off
-tested ts (Of a t) = gridOn a t (fold (nearStep a t) allNear ts)
+-- the cases of the answer: the grid with its cost where the check passed, and no grid where it did not
+unfoldable pub answerOf : Float → Float → Check → Grid
+answerOf a t c = cond (c .ok) (On a t (c .cost)) NoGrid
 
-unfoldable pub again : List Float → Line → Grid
-again ts Bad = Off
-again ts (Of a t) = tested ts (fit ts t)
+unfoldable pub checkOf : List Float → Float → Float → Grid
+checkOf ts a t = answerOf a t (fold (checkStep a t) noCheck ts)
 
-unfoldable pub gridFit : List Float → Float → Grid
-gridFit ts guess = again ts (fit ts guess)
+unfoldable pub checkLine : List Float → Line → Grid
+checkLine ts NoLine = NoGrid
+checkLine ts (Rising a t) = checkOf ts a t
+
+-- the fit once more, with the first fit's symbol
+unfoldable pub secondOf : List Float → Line → Grid
+secondOf ts NoLine = NoGrid
+secondOf ts (Rising a t) = checkLine ts (fitOf ts t)
+
+unfoldable pub gridFitOf : List Float → Float → Grid
+gridFitOf ts guess = secondOf ts (fitOf ts guess)

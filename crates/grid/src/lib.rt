@@ -1,160 +1,131 @@
+// The widths of an FSK frame (document 01, "Grid"): the ends of its runs become widths in whole steps, on the grid of the
+// frame's symbol clock where its transitions lie on one. A slot holds 64ths of a step at entry (`arith::Fix64`) and whole
+// steps at exit (`arith::Steps`).
 ghost use mathlib.Core.Path.{_≡_};
-ghost use mathlib.Core.Bool.{cond, _&&_};
+ghost use mathlib.Core.Bool.{true, cond, _&&_};
 ghost use Prim.Native.Nat.{_+_, _<_, _≤_};
-ghost use lib.ListN.{length};
-ghost use lib.Dec.{ltb};
-ghost use lib.Ieee.{binary64, ofBits};
-ghost use Rattle.grid.specs.Slots.{timeOf, lastRise, upTo, transitions, fold, turned, counted};
-ghost use Rattle.grid.specs.Fit.{symbolsOf, walked, noWalk, fitStep, noSums, risingOf, lineOf, fit, runNear, nearStep, allNear, gridOn, tested, again, gridFit};
-ghost use Rattle.grid.specs.Widths.{shorter, shortStep, noShort, meanIf, meanOf, meanStep, noMean, better, triedIf, tryOf, tryStep, searched, leastOf, meanIn, gridOf, nearestTo, measured, placed, onGrid, atStart, endOf, clockOf, widthsOn, widthsOf};
+ghost use lib.ListN.{length, getD};
+ghost use lib.Dec.{ltb, eqb};
+ghost use lib.Ieee.{binary64, toBits};
+ghost use Rattle.arith.specs.Leaves.{zero64};
+ghost use Rattle.grid.specs.Slots.{timeOf, slotBefore, lastRise, upTo, fold, turned};
+ghost use Rattle.grid.specs.Fit.{symbolsOf, kAfter, fitStep, noSums, sumsOf, lineWith, lineOf, fitOf, runAfter, checkStep, checkOf, secondOf, gridFitOf};
+ghost use Rattle.grid.specs.Widths.{gridCand, shorterOf, runsStep, noRuns, runsOf, addedOf, meanAfter, meanStep, meanOf, betterOf, triedOf, tryAfter, tryStep, searchOf, gridOf, endOf, clockOf, placeOf, atStart, onGridOf, measuredOf, fskWidthsOf};
 
-// The transition before: the Rust's Option<f64>.
+// The resolution of the run ends kept during an FSK frame: 1 / RUN_FIX steps.
+const RUN_FIX: f64 = 64.0;
+
+// The largest distance of a transition from the grid of the symbol clock of a frame, and of the length of a run from its
+// whole number of symbols, as fractions of the symbol. (The slicer delays the two kinds of transition in opposite
+// directions, so a run is off by up to twice as much as a transition.)
+const GRID_TOL: f64 = 0.25;
+
+const RUN_TOL: f64 = 0.4;
+
+// The fewest transitions of a frame for its symbol grid: with fewer, a grid fits almost any runs.
+const GRID_MIN: usize = 5;
+
+// The runs of one symbol whose lengths are tried as the symbol of the grid, besides their mean.
+const GRID_CAND: usize = 8;
+
+// The transition before, where there is one.
 pub enum Prev {
-    Never,
-    Was(f64),
+    Unset,
+    At(f64),
 }
 
-// The line of a fit, a and t, or none.
-pub enum Line {
-    Bad,
-    Of(f64, f64),
-}
+// ---- the transitions
 
-// A grid, a and t and its cost, or none.
-pub enum Grid {
-    Off,
-    On(f64, f64, f64),
-}
-
-// k symbols up to the transition before, and n in the run that ended there.
-pub struct Walk {
-    pub k: f64,
-    pub n: f64,
-    pub prev: Prev,
-}
-
-pub struct Sums {
-    pub n: f64,
-    pub sk: f64,
-    pub skk: f64,
-    pub st: f64,
-    pub skt: f64,
-    pub walk: Walk,
-}
-
-pub struct Near {
-    pub ok: bool,
-    pub cost: f64,
-    pub walk: Walk,
-}
-
-pub struct Short {
-    pub least: f64,
-    pub prev: Prev,
-}
-
-pub struct Mean {
-    pub sum: f64,
-    pub n: f64,
-    pub prev: Prev,
-}
-
-pub struct Tries {
-    pub tried: u32,
-    pub grid: Grid,
-    pub prev: Prev,
-}
-
-pub struct Clock {
-    pub lead: f64,
-    pub stop: f64,
-    pub t: f64,
-    pub count: usize,
-}
-
-pub struct Place {
-    pub raw: u32,
-    pub at: f64,
-    pub seen: usize,
-    pub walk: Walk,
-}
-
-// 64ths of a step as steps.
+// The 64ths of a slot as steps.
 fn time_of(v: arith::Fix64) -> f64
-    ensures { λ r. ⌜ r ≡ timeOf (v .0) ⌝ }
+    ensures { λ r. ⌜ r ≡ timeOf v ⌝ }
 {
-    v.0 as f64 / 64.0
+    v.0 as f64 / RUN_FIX
 }
 
-// i where the slot v rises, and else what was found before.
-fn rise_at(before: u32, v: u32, i: usize, found: usize) -> usize
-    requires { ⌜ found ≤ i ⌝ }
-    ensures { λ r. ⌜ (r ≡ cond (ltb before v) i found) × (r ≤ i) ⌝ }
+// The slot before the one at i, 0 before the first.
+fn slot_before(slots: &[u32], i: usize) -> u32
+    requires { ⌜ i ≤ length (now slots) ⌝ }
+    ensures { λ r. ⌜ r ≡ slotBefore 0 (now (slots .entry)) i ⌝ }
 {
-    let up = before < v;
-    if up {
-        return i;
+    if i == 0 {
+        return 0;
     }
-    found
+    slots[i - 1]
 }
 
-// The index of the last slot that is above the one before it, or 0.
+// The index of the last slot that is above the one before it, or 0: the transitions lie before it.
 fn last_rise(slots: &[u32]) -> usize
     ensures { λ r. ⌜ (r ≡ lastRise (now (slots .entry))) × (r ≤ length (now (slots .entry))) ⌝ }
 {
-    let mut last = 0;
-    let mut before: u32 = 0;
-    let mut i = 0;
-    while i < slots.len() {
-        let v = slots[i];
-        last = rise_at(before, v, i, last);
-        before = v;
-        i += 1;
+    let mut n = slots.len();
+    while 0 < n {
+        let i = n - 1;
+        let up = slot_before(slots, i) < slots[i];
+        if up {
+            return i;
+        }
+        n = i;
     }
-    last
+    0
 }
 
-// The symbols of a run of d steps for the symbol t, at least 1.
+// ---- the fit of a grid
+
+// The symbols of a run of d steps for the symbol t steps long (at least 1).
 fn symbols(d: f64, t: f64) -> f64
     ensures { λ r. ⌜ r ≡ symbolsOf d t ⌝ }
 {
     arith::max64(arith::round(d / t), 1.0)
 }
 
-fn walk_on(w: Walk, x: f64, t: f64) -> Walk
-    ensures { λ r. ⌜ r ≡ walked t w x ⌝ }
+// The sums of a fit over the transitions so far; k is the last one's symbol number.
+pub struct Sums {
+    pub n: f64,
+    pub sk: f64,
+    pub skk: f64,
+    pub st: f64,
+    pub skt: f64,
+    pub k: f64,
+    pub prev: Prev,
+}
+
+// The line a + k t, where there is one.
+pub enum Line {
+    NoLine,
+    Rising(f64, f64),
+}
+
+// The grid a + k t and its cost, where there is one.
+pub enum Grid {
+    NoGrid,
+    On(f64, f64, f64),
+}
+
+// The symbol number of the transition x.
+fn k_after(prev: Prev, k: f64, x: f64, t: f64) -> f64
+    ensures { λ r. ⌜ r ≡ kAfter prev k x t ⌝ }
 {
-    let q = Prev::Was(x);
-    let prev = w.prev;
     match prev {
-        Prev::Was(p) => {
-            let n = symbols(x - p, t);
-            Walk {
-                k: w.k + n,
-                n,
-                prev: q,
-            }
-        }
-        Prev::Never => Walk {
-            k: w.k,
-            n: w.n,
-            prev: q,
-        },
+        Prev::At(tp) => k + symbols(x - tp, t),
+        Prev::Unset => k,
     }
 }
 
 fn fit_step(s: Sums, x: f64, t: f64) -> Sums
     ensures { λ r. ⌜ r ≡ fitStep t s x ⌝ }
 {
-    let v = s.walk;
-    let w = walk_on(v, x, t);
+    let prev = s.prev;
+    let k = k_after(prev, s.k, x, t);
+    let here = Prev::At(x);
     Sums {
         n: s.n + 1.0,
-        sk: s.sk + w.k,
-        skk: s.skk + w.k * w.k,
+        sk: s.sk + k,
+        skk: s.skk + k * k,
         st: s.st + x,
-        skt: s.skt + w.k * x,
-        walk: w,
+        skt: s.skt + k * x,
+        k,
+        prev: here,
     }
 }
 
@@ -168,23 +139,19 @@ fn fit_turn(s: Sums, before: u32, v: u32, t: f64) -> Sums
     s
 }
 
-fn sums_of(slots: &[u32], last: usize, t: f64) -> Sums
+fn fit_sums(slots: &[u32], last: usize, t: f64) -> Sums
     requires { ⌜ last ≤ length (now slots) ⌝ }
-    ensures { λ r. ⌜ r ≡ fold (fitStep t) noSums (upTo last (now (slots .entry))) ⌝ }
+    ensures { λ r. ⌜ r ≡ sumsOf t (upTo last (now (slots .entry))) ⌝ }
 {
-    let q = Prev::Never;
-    let w = Walk {
-        k: 0.0,
-        n: 0.0,
-        prev: q,
-    };
+    let unset = Prev::Unset;
     let mut s = Sums {
         n: 0.0,
         sk: 0.0,
         skk: 0.0,
         st: 0.0,
         skt: 0.0,
-        walk: w,
+        k: 0.0,
+        prev: unset,
     };
     let mut before: u32 = 0;
     let mut i = 0;
@@ -197,15 +164,15 @@ fn sums_of(slots: &[u32], last: usize, t: f64) -> Sums
     s
 }
 
-// The line of slope t through the sums, where it rises.
-fn rising(s: Sums, t: f64) -> Line
-    ensures { λ r. ⌜ r ≡ risingOf s t ⌝ }
+// The line of the symbol t through the sums.
+fn line_with(s: Sums, t: f64) -> Line
+    ensures { λ r. ⌜ r ≡ lineWith s t ⌝ }
 {
-    let rises = t > 0.0;
-    if rises {
-        return Line::Of((s.st - t * s.sk) / s.n, t);
+    let rising = t > 0.0;
+    if rising {
+        return Line::Rising((s.st - t * s.sk) / s.n, t);
     }
-    Line::Bad
+    Line::NoLine
 }
 
 fn line_of(s: Sums) -> Line
@@ -214,16 +181,46 @@ fn line_of(s: Sums) -> Line
     let det = s.n * s.skk - s.sk * s.sk;
     let flat = det <= 0.0;
     if flat {
-        return Line::Bad;
+        return Line::NoLine;
     }
-    rising(s, (s.n * s.skt - s.sk * s.st) / det)
+    line_with(s, (s.n * s.skt - s.sk * s.st) / det)
 }
 
 fn fit_with(slots: &[u32], last: usize, t: f64) -> Line
     requires { ⌜ last ≤ length (now slots) ⌝ }
-    ensures { λ r. ⌜ r ≡ fit (upTo last (now (slots .entry))) t ⌝ }
+    ensures { λ r. ⌜ r ≡ fitOf (upTo last (now (slots .entry))) t ⌝ }
 {
-    line_of(sums_of(slots, last, t))
+    line_of(fit_sums(slots, last, t))
+}
+
+// The end of a run: the symbol number there, and whether the run is near its whole number of symbols.
+pub struct RunEnd {
+    pub k: f64,
+    pub ok: bool,
+}
+
+fn run_after(prev: Prev, k: f64, x: f64, t: f64) -> RunEnd
+    ensures { λ r. ⌜ r ≡ runAfter prev k x t ⌝ }
+{
+    match prev {
+        Prev::At(tp) => {
+            let d = x - tp;
+            let n = symbols(d, t);
+            RunEnd {
+                k: k + n,
+                ok: arith::abs64(d - n * t) <= RUN_TOL * t,
+            }
+        }
+        Prev::Unset => RunEnd { k, ok: true },
+    }
+}
+
+// What the check of a grid found so far.
+pub struct Check {
+    pub ok: bool,
+    pub cost: f64,
+    pub k: f64,
+    pub prev: Prev,
 }
 
 fn both(a: bool, b: bool) -> bool
@@ -235,206 +232,196 @@ fn both(a: bool, b: bool) -> bool
     false
 }
 
-// A run is within 0.4 symbols of its n symbols.
-fn run_near(prev: Prev, n: f64, x: f64, t: f64) -> bool
-    ensures { λ r. ⌜ r ≡ runNear prev n x t ⌝ }
+fn check_step(c: Check, x: f64, a: f64, t: f64) -> Check
+    ensures { λ r. ⌜ r ≡ checkStep a t c x ⌝ }
 {
-    match prev {
-        Prev::Was(p) => arith::abs64(x - p - n * t) <= 0.4 * t,
-        Prev::Never => true,
-    }
-}
-
-fn near_step(c: Near, x: f64, a: f64, t: f64) -> Near
-    ensures { λ r. ⌜ r ≡ nearStep a t c x ⌝ }
-{
-    let v = c.walk;
-    let prev = v.prev;
-    let w = walk_on(v, x, t);
-    let run = run_near(prev, w.n, x, t);
-    let r = (x - (a + w.k * t)) / t;
-    let near = arith::abs64(r) <= 0.25;
-    let ok = both(both(c.ok, run), near);
-    Near {
+    let prev = c.prev;
+    let run = run_after(prev, c.k, x, t);
+    let r = (x - (a + run.k * t)) / t;
+    let near = arith::abs64(r) <= GRID_TOL;
+    let ok = both(both(c.ok, run.ok), near);
+    let here = Prev::At(x);
+    Check {
         ok,
         cost: c.cost + r * r,
-        walk: w,
+        k: run.k,
+        prev: here,
     }
 }
 
-fn near_turn(c: Near, before: u32, v: u32, a: f64, t: f64) -> Near
-    ensures { λ r. ⌜ r ≡ turned (nearStep a t) before v c ⌝ }
+fn check_turn(c: Check, before: u32, v: u32, a: f64, t: f64) -> Check
+    ensures { λ r. ⌜ r ≡ turned (checkStep a t) before v c ⌝ }
 {
     let up = before < v;
     if up {
-        return near_step(c, time_of(arith::Fix64(v)), a, t);
+        return check_step(c, time_of(arith::Fix64(v)), a, t);
     }
     c
 }
 
-fn near_of(slots: &[u32], last: usize, a: f64, t: f64) -> Near
+// The grid a + k t where every transition is near its grid point and every run near its whole number of symbols. It ends
+// at the first that is not: the answer is known then.
+fn grid_check(slots: &[u32], last: usize, a: f64, t: f64) -> Grid
     requires { ⌜ last ≤ length (now slots) ⌝ }
-    ensures { λ r. ⌜ r ≡ fold (nearStep a t) allNear (upTo last (now (slots .entry))) ⌝ }
+    ensures { λ r. ⌜ r ≡ checkOf (upTo last (now (slots .entry))) a t ⌝ }
 {
-    let q = Prev::Never;
-    let w = Walk {
-        k: 0.0,
-        n: 0.0,
-        prev: q,
-    };
-    let mut s = Near {
+    let unset = Prev::Unset;
+    let mut c = Check {
         ok: true,
         cost: 0.0,
-        walk: w,
+        k: 0.0,
+        prev: unset,
     };
     let mut before: u32 = 0;
     let mut i = 0;
     while i < last {
         let v = slots[i];
-        s = near_turn(s, before, v, a, t);
-        before = v;
-        i += 1;
+        c = check_turn(c, before, v, a, t);
+        let ok = c.ok;
+        if ok {
+            before = v;
+            i += 1;
+        } else {
+            return Grid::NoGrid;
+        }
     }
-    s
+    Grid::On(a, t, c.cost)
 }
 
-fn grid_on(a: f64, t: f64, c: Near) -> Grid
-    ensures { λ r. ⌜ r ≡ gridOn a t c ⌝ }
-{
-    let ok = c.ok;
-    if ok {
-        return Grid::On(a, t, c.cost);
-    }
-    Grid::Off
-}
-
-fn test_line(slots: &[u32], last: usize, l: Line) -> Grid
+// The check of the fit with the first fit's symbol.
+fn second_fit(slots: &[u32], last: usize, first: Line) -> Grid
     requires { ⌜ last ≤ length (now slots) ⌝ }
-    ensures { λ r. ⌜ r ≡ tested (upTo last (now (slots .entry))) l ⌝ }
+    ensures { λ r. ⌜ r ≡ secondOf (upTo last (now (slots .entry))) first ⌝ }
 {
-    match l {
-        Line::Of(a, t) => grid_on(a, t, near_of(slots, last, a, t)),
-        Line::Bad => Grid::Off,
-    }
+    let Line::Rising(_, t1) = first else {
+        return Grid::NoGrid;
+    };
+    let second = fit_with(slots, last, t1);
+    let Line::Rising(a, t) = second else {
+        return Grid::NoGrid;
+    };
+    grid_check(slots, last, a, t)
 }
 
-fn fit_again(slots: &[u32], last: usize, l: Line) -> Grid
-    requires { ⌜ last ≤ length (now slots) ⌝ }
-    ensures { λ r. ⌜ r ≡ again (upTo last (now (slots .entry))) l ⌝ }
-{
-    match l {
-        Line::Of(_, t) => test_line(slots, last, fit_with(slots, last, t)),
-        Line::Bad => Grid::Off,
-    }
+// ---- the guesses of the symbol
+
+// How many transitions there are, and the shortest run between two.
+pub struct Runs {
+    pub count: usize,
+    pub shortest: f64,
+    pub prev: Prev,
 }
 
-// The grid of the transitions for the symbol length guess.
-fn grid_fit(slots: &[u32], last: usize, guess: f64) -> Grid
-    requires { ⌜ last ≤ length (now slots) ⌝ }
-    ensures { λ r. ⌜ r ≡ gridFit (upTo last (now (slots .entry))) guess ⌝ }
-{
-    fit_again(slots, last, fit_with(slots, last, guess))
-}
-
-fn shorter_of(prev: Prev, m: f64, x: f64) -> f64
-    ensures { λ r. ⌜ r ≡ shorter prev m x ⌝ }
+fn shorter_of(prev: Prev, shortest: f64, x: f64) -> f64
+    ensures { λ r. ⌜ r ≡ shorterOf prev shortest x ⌝ }
 {
     match prev {
-        Prev::Was(p) => arith::min64(m, x - p),
-        Prev::Never => m,
+        Prev::At(tp) => arith::min64(shortest, x - tp),
+        Prev::Unset => shortest,
     }
 }
 
-fn short_turn(s: Short, before: u32, v: u32) -> Short
-    ensures { λ r. ⌜ r ≡ turned shortStep before v s ⌝ }
+fn runs_turn(s: Runs, before: u32, v: u32) -> Runs
+    requires { ⌜ s .count < 0xffff_ffff_ffff_ffff ⌝ }
+    ensures { λ r. ⌜ r ≡ turned runsStep before v s ⌝ }
 {
     let up = before < v;
     if up {
         let x = time_of(arith::Fix64(v));
         let prev = s.prev;
-        let least = shorter_of(prev, s.least, x);
-        let q = Prev::Was(x);
-        return Short { least, prev: q };
+        let shortest = shorter_of(prev, s.shortest, x);
+        let here = Prev::At(x);
+        return Runs {
+            count: s.count + 1,
+            shortest,
+            prev: here,
+        };
     }
     s
 }
 
-// The shortest run between two transitions.
-fn least_of(slots: &[u32], last: usize) -> f64
+fn runs_of(slots: &[u32], last: usize) -> Runs
     requires { ⌜ last ≤ length (now slots) ⌝ }
-    ensures { λ r. ⌜ r ≡ leastOf (upTo last (now (slots .entry))) ⌝ }
+    ensures { λ r. ⌜ r ≡ runsOf (upTo last (now (slots .entry))) ⌝ }
 {
-    let q = Prev::Never;
-    let infinite = f64::from_bits(0x7ff0_0000_0000_0000);
-    let mut s = Short {
-        least: infinite,
-        prev: q,
+    let unset = Prev::Unset;
+    let infinity = f64::from_bits(0x7ff0_0000_0000_0000);
+    let mut s = Runs {
+        count: 0,
+        shortest: infinity,
+        prev: unset,
     };
     let mut before: u32 = 0;
     let mut i = 0;
     while i < last {
         let v = slots[i];
-        s = short_turn(s, before, v);
+        s = runs_turn(s, before, v);
         before = v;
         i += 1;
-    }
-    s.least
-}
-
-fn mean_if(one: bool, s: Mean, x: f64, p: f64) -> Mean
-    ensures { λ r. ⌜ r ≡ meanIf one s x p ⌝ }
-{
-    let q = Prev::Was(x);
-    if one {
-        return Mean {
-            sum: s.sum + (x - p),
-            n: s.n + 1.0,
-            prev: q,
-        };
-    }
-    Mean {
-        sum: s.sum,
-        n: s.n,
-        prev: q,
-    }
-}
-
-fn mean_step(prev: Prev, s: Mean, x: f64, least: f64) -> Mean
-    ensures { λ r. ⌜ r ≡ meanOf prev least s x ⌝ }
-{
-    match prev {
-        Prev::Was(p) => mean_if(x - p < 1.5 * least, s, x, p),
-        Prev::Never => mean_if(false, s, x, 0.0),
-    }
-}
-
-fn mean_turn(s: Mean, before: u32, v: u32, least: f64) -> Mean
-    ensures { λ r. ⌜ r ≡ turned (meanStep least) before v s ⌝ }
-{
-    let up = before < v;
-    if up {
-        let prev = s.prev;
-        return mean_step(prev, s, time_of(arith::Fix64(v)), least);
     }
     s
 }
 
 // The runs of one symbol: their sum and how many.
-fn mean_of(slots: &[u32], last: usize, least: f64) -> Mean
-    requires { ⌜ last ≤ length (now slots) ⌝ }
-    ensures { λ r. ⌜ r ≡ fold (meanStep least) noMean (upTo last (now (slots .entry))) ⌝ }
+pub struct Mean {
+    pub sum: f64,
+    pub n: f64,
+    pub prev: Prev,
+}
+
+fn added(one: bool, s: Mean, d: f64, x: f64) -> Mean
+    ensures { λ r. ⌜ r ≡ addedOf one s d x ⌝ }
 {
-    let q = Prev::Never;
+    let here = Prev::At(x);
+    if one {
+        return Mean {
+            sum: s.sum + d,
+            n: s.n + 1.0,
+            prev: here,
+        };
+    }
+    Mean {
+        sum: s.sum,
+        n: s.n,
+        prev: here,
+    }
+}
+
+fn mean_after(prev: Prev, s: Mean, x: f64, shortest: f64) -> Mean
+    ensures { λ r. ⌜ r ≡ meanAfter prev shortest s x ⌝ }
+{
+    match prev {
+        Prev::At(tp) => added(x - tp < 1.5 * shortest, s, x - tp, x),
+        Prev::Unset => added(false, s, 0.0, x),
+    }
+}
+
+fn mean_turn(s: Mean, before: u32, v: u32, shortest: f64) -> Mean
+    ensures { λ r. ⌜ r ≡ turned (meanStep shortest) before v s ⌝ }
+{
+    let up = before < v;
+    if up {
+        let prev = s.prev;
+        return mean_after(prev, s, time_of(arith::Fix64(v)), shortest);
+    }
+    s
+}
+
+fn mean_of(slots: &[u32], last: usize, shortest: f64) -> Mean
+    requires { ⌜ last ≤ length (now slots) ⌝ }
+    ensures { λ r. ⌜ r ≡ meanOf shortest (upTo last (now (slots .entry))) ⌝ }
+{
+    let unset = Prev::Unset;
     let mut s = Mean {
         sum: 0.0,
         n: 0.0,
-        prev: q,
+        prev: unset,
     };
     let mut before: u32 = 0;
     let mut i = 0;
     while i < last {
         let v = slots[i];
-        s = mean_turn(s, before, v, least);
+        s = mean_turn(s, before, v, shortest);
         before = v;
         i += 1;
     }
@@ -451,218 +438,223 @@ fn pick_grid(b: bool, x: Grid, y: Grid) -> Grid
 }
 
 // The grid of the smaller cost, the first of two alike.
-fn better_of(b: Grid, g: Grid) -> Grid
-    ensures { λ r. ⌜ r ≡ better b g ⌝ }
+fn better(grid: Grid, g: Grid) -> Grid
+    ensures { λ r. ⌜ r ≡ betterOf grid g ⌝ }
 {
     match g {
-        Grid::Off => b,
-        Grid::On(_, _, c) => match b {
-            Grid::Off => g,
-            Grid::On(_, _, d) => pick_grid(c < d, g, b),
+        Grid::NoGrid => grid,
+        Grid::On(_, _, c) => match grid {
+            Grid::NoGrid => g,
+            Grid::On(_, _, d) => pick_grid(c < d, g, grid),
         },
     }
 }
 
-fn try_if(slots: &[u32], last: usize, one: bool, s: Tries, x: f64, p: f64) -> Tries
-    requires { ⌜ last ≤ length (now slots) ⌝ }
-    ensures { λ r. ⌜ r ≡ triedIf (one && ltb (s .tried) 8) (upTo last (now (slots .entry))) p s x ⌝ }
+// How many runs of one symbol were tried, and the best grid so far.
+pub struct Tries {
+    pub tried: usize,
+    pub grid: Grid,
+    pub prev: Prev,
+}
+
+// The first fit of the mean, and the grid that its second fit gave.
+pub struct Fitted {
+    pub line: Line,
+    pub grid: Grid,
+}
+
+// Whether two numbers have one pattern.
+fn same(t: f64, u: f64) -> bool
+    ensures { λ r. ⌜ (r ≡ eqb (toBits binary64 t) (toBits binary64 u)) × (r ≡ true → t ≡ u) ⌝ }
 {
-    let q = Prev::Was(x);
-    let b = s.grid;
+    arith::bits_of_f64(t) == arith::bits_of_f64(u)
+}
+
+// The least-squares grid of the transitions for the symbol length guess: every run between two transitions is a whole
+// number of symbols, rounded with guess, then once more with the fitted symbol. Where the first fit has the symbol of
+// the mean's first fit, the second is the mean's too, and its grid is known.
+fn grid_fit(slots: &[u32], last: usize, mean: Fitted, guess: f64) -> Grid
+    requires { ⌜ (last ≤ length (now slots)) × (mean .grid ≡ secondOf (upTo last (now slots)) (mean .line)) ⌝ }
+    ensures { λ r. ⌜ r ≡ gridFitOf (upTo last (now (slots .entry))) guess ⌝ }
+{
+    let first = fit_with(slots, last, guess);
+    let known = mean.line;
+    let Line::Rising(_, t) = first else {
+        return Grid::NoGrid;
+    };
+    let Line::Rising(_, u) = known else {
+        return second_fit(slots, last, first);
+    };
+    let alike = same(t, u);
+    if alike {
+        let g = mean.grid;
+        return g;
+    }
+    second_fit(slots, last, first)
+}
+
+fn tried_with(
+    slots: &[u32],
+    last: usize,
+    mean: Fitted,
+    one: bool,
+    s: Tries,
+    d: f64,
+    x: f64,
+) -> Tries
+    requires { ⌜ (last ≤ length (now slots)) × (mean .grid ≡ secondOf (upTo last (now slots)) (mean .line)) ⌝ }
+    ensures { λ r. ⌜ r ≡ triedOf (one && ltb (s .tried) gridCand) (upTo last (now (slots .entry))) s d x ⌝ }
+{
+    let here = Prev::At(x);
+    let grid = s.grid;
     let tried = s.tried;
     if one {
-        if tried < 8 {
-            let f = grid_fit(slots, last, x - p);
-            let g = better_of(b, f);
+        if tried < GRID_CAND {
+            let f = grid_fit(slots, last, mean, d);
+            let g = better(grid, f);
             let next = tried + 1;
             return Tries {
                 tried: next,
                 grid: g,
-                prev: q,
+                prev: here,
             };
         }
         return Tries {
             tried,
-            grid: b,
-            prev: q,
+            grid,
+            prev: here,
         };
     }
     Tries {
         tried,
-        grid: b,
-        prev: q,
+        grid,
+        prev: here,
     }
 }
 
-fn try_step(slots: &[u32], last: usize, prev: Prev, s: Tries, x: f64, least: f64) -> Tries
-    requires { ⌜ last ≤ length (now slots) ⌝ }
-    ensures { λ r. ⌜ r ≡ tryOf prev (upTo last (now (slots .entry))) least s x ⌝ }
+fn try_after(
+    slots: &[u32],
+    last: usize,
+    mean: Fitted,
+    prev: Prev,
+    s: Tries,
+    x: f64,
+    shortest: f64,
+) -> Tries
+    requires { ⌜ (last ≤ length (now slots)) × (mean .grid ≡ secondOf (upTo last (now slots)) (mean .line)) ⌝ }
+    ensures { λ r. ⌜ r ≡ tryAfter prev (upTo last (now (slots .entry))) shortest s x ⌝ }
 {
     match prev {
-        Prev::Was(p) => try_if(slots, last, x - p < 1.5 * least, s, x, p),
-        Prev::Never => try_if(slots, last, false, s, x, 0.0),
+        Prev::At(tp) => tried_with(slots, last, mean, x - tp < 1.5 * shortest, s, x - tp, x),
+        Prev::Unset => tried_with(slots, last, mean, false, s, 0.0, x),
     }
 }
 
-fn try_turn(slots: &[u32], last: usize, s: Tries, before: u32, v: u32, least: f64) -> Tries
-    requires { ⌜ last ≤ length (now slots) ⌝ }
-    ensures { λ r. ⌜ r ≡ turned (tryStep (upTo last (now (slots .entry))) least) before v s ⌝ }
+fn try_turn(
+    slots: &[u32],
+    last: usize,
+    mean: Fitted,
+    s: Tries,
+    before: u32,
+    v: u32,
+    shortest: f64,
+) -> Tries
+    requires { ⌜ (last ≤ length (now slots)) × (mean .grid ≡ secondOf (upTo last (now slots)) (mean .line)) ⌝ }
+    ensures { λ r. ⌜ r ≡ turned (tryStep (upTo last (now (slots .entry))) shortest) before v s ⌝ }
 {
     let up = before < v;
     if up {
         let prev = s.prev;
-        return try_step(slots, last, prev, s, time_of(arith::Fix64(v)), least);
+        return try_after(
+            slots,
+            last,
+            mean,
+            prev,
+            s,
+            time_of(arith::Fix64(v)),
+            shortest,
+        );
     }
     s
 }
 
-fn search(slots: &[u32], last: usize, least: f64, m: Mean) -> Grid
+// The grid of the smallest cost from the guesses: the mean of the runs of one symbol and each of the first GRID_CAND of
+// them.
+fn search(slots: &[u32], last: usize, shortest: f64, m: Mean) -> Grid
     requires { ⌜ last ≤ length (now slots) ⌝ }
-    ensures { λ r. ⌜ r ≡ searched (upTo last (now (slots .entry))) least m ⌝ }
+    ensures { λ r. ⌜ r ≡ searchOf (upTo last (now (slots .entry))) shortest m ⌝ }
 {
-    let q = Prev::Never;
-    let g = grid_fit(slots, last, m.sum / m.n);
+    let unset = Prev::Unset;
+    let line = fit_with(slots, last, m.sum / m.n);
+    let grid = second_fit(slots, last, line);
+    let mean = Fitted { line, grid };
     let mut s = Tries {
         tried: 0,
-        grid: g,
-        prev: q,
+        grid,
+        prev: unset,
     };
     let mut before: u32 = 0;
     let mut i = 0;
     while i < last {
         let v = slots[i];
-        s = try_turn(slots, last, s, before, v, least);
+        s = try_turn(slots, last, mean, s, before, v, shortest);
         before = v;
         i += 1;
     }
     s.grid
 }
 
-fn count_turn(n: usize, before: u32, v: u32) -> usize
-    requires { ⌜ n < 0xffff_ffff_ffff_ffff ⌝ }
-    ensures { λ r. ⌜ r ≡ turned counted before v n ⌝ }
-{
-    let up = before < v;
-    if up {
-        return n + 1;
-    }
-    n
-}
-
-// How many transitions there are.
-fn count_of(slots: &[u32], last: usize) -> usize
+// The grid of a frame.
+fn grid_of(slots: &[u32], last: usize, runs: Runs) -> Grid
     requires { ⌜ last ≤ length (now slots) ⌝ }
-    ensures { λ r. ⌜ r ≡ length (upTo last (now (slots .entry))) ⌝ }
+    ensures { λ r. ⌜ r ≡ gridOf (upTo last (now (slots .entry))) runs ⌝ }
 {
-    let mut n = 0;
-    let mut before: u32 = 0;
-    let mut i = 0;
-    while i < last {
-        let v = slots[i];
-        n = count_turn(n, before, v);
-        before = v;
-        i += 1;
-    }
-    n
-}
-
-// The grid of a frame, or none.
-fn grid_of(slots: &[u32], last: usize) -> Grid
-    requires { ⌜ last ≤ length (now slots) ⌝ }
-    ensures { λ r. ⌜ r ≡ gridOf (upTo last (now (slots .entry))) ⌝ }
-{
-    let least = least_of(slots, last);
-    let m = mean_of(slots, last, least);
+    let m = mean_of(slots, last, runs.shortest);
     let some = m.n > 0.0;
-    let enough = 5 <= count_of(slots, last);
+    let enough = GRID_MIN <= runs.count;
     if enough {
         if some {
-            return search(slots, last, least, m);
+            return search(slots, last, runs.shortest, m);
         }
-        return Grid::Off;
+        return Grid::NoGrid;
     }
-    Grid::Off
+    Grid::NoGrid
 }
 
-fn nearest_to(v: u32) -> f64
-    ensures { λ r. ⌜ r ≡ nearestTo v ⌝ }
-{
-    arith::round(time_of(arith::Fix64(v)))
-}
+// ---- the widths
 
-// The widths of the measured times.
-fn measure(slots: &mut [u32])
-    ensures { λ _. ⌜ now (slots .exit) ≡ measured (ofBits binary64 0) (now (slots .entry)) ⌝ }
+// The measured times: widths of the rounded times after the start.
+fn measured(slots: &mut [u32])
+    ensures { λ _. ⌜ now (slots .exit) ≡ measuredOf zero64 (now (slots .entry)) ⌝ }
 {
     let mut before: f64 = 0.0;
     let mut i = 0;
     while i < slots.len() {
-        let r = nearest_to(slots[i]);
+        let r = arith::round(time_of(arith::Fix64(slots[i])));
         slots[i] = arith::width(before, r).0;
         before = r;
         i += 1;
     }
 }
 
-fn place_at(c: Clock, p: Place, v: u32) -> Place
-    ensures { λ r. ⌜ r ≡ placed c p v ⌝ }
-{
-    let w = p.walk;
-    let empty = v <= p.raw;
-    if empty {
-        return Place {
-            raw: v,
-            at: p.at,
-            seen: p.seen,
-            walk: w,
-        };
-    }
-    let seen = p.seen;
-    if seen < c.count {
-        let q = walk_on(w, time_of(arith::Fix64(v)), c.t);
-        let at = arith::round((c.lead + q.k) * c.t);
-        let next = seen + 1;
-        return Place {
-            raw: v,
-            at,
-            seen: next,
-            walk: q,
-        };
-    }
-    let at = arith::round(c.stop * c.t);
-    Place {
-        raw: v,
-        at,
-        seen,
-        walk: w,
-    }
+// The grid after the start: lead symbols before the first transition, stop up to the end, and n_tr transitions.
+pub struct Clock {
+    pub t: f64,
+    pub lead: f64,
+    pub stop: f64,
+    pub n_tr: usize,
 }
 
-// The widths on the grid.
-fn on_grid(slots: &mut [u32], c: Clock)
-    ensures { λ _. ⌜ now (slots .exit) ≡ onGrid c atStart (now (slots .entry)) ⌝ }
-{
-    let q = Prev::Never;
-    let w = Walk {
-        k: 0.0,
-        n: 0.0,
-        prev: q,
-    };
-    let mut p = Place {
-        raw: 0,
-        at: 0.0,
-        seen: 0,
-        walk: w,
-    };
-    let mut i = 0;
-    while i < slots.len() {
-        let before = p.at;
-        p = place_at(c, p, slots[i]);
-        slots[i] = arith::width(before, p.at).0;
-        i += 1;
-    }
+// The boundary before a slot: its 64ths, its time on the grid, and the transitions seen.
+pub struct Place {
+    pub before_raw: u32,
+    pub before: f64,
+    pub seen: usize,
+    pub k: f64,
+    pub prev: Prev,
 }
 
+// The end of the frame.
 fn end_of(slots: &[u32]) -> f64
     ensures { λ r. ⌜ r ≡ endOf (now (slots .entry)) ⌝ }
 {
@@ -674,65 +666,92 @@ fn end_of(slots: &[u32]) -> f64
     time_of(arith::Fix64(v))
 }
 
-fn walk_turn(w: Walk, before: u32, v: u32, t: f64) -> Walk
-    ensures { λ r. ⌜ r ≡ turned (walked t) before v w ⌝ }
+fn clock_of(slots: &[u32], last: usize, a: f64, t: f64, n_tr: usize) -> Clock
+    requires { ⌜ last ≤ length (now slots) ⌝ }
+    ensures { λ r. ⌜ r ≡ clockOf a t «n_tr» (upTo last (now (slots .entry))) (endOf (now (slots .entry))) ⌝ }
 {
-    let up = before < v;
-    if up {
-        return walk_on(w, time_of(arith::Fix64(v)), t);
+    let s = fit_sums(slots, last, t);
+    let end = end_of(slots);
+    let lead = symbols(a, t);
+    let tail = symbols(end - (a + s.k * t), t);
+    Clock {
+        t,
+        lead,
+        stop: lead + s.k + tail,
+        n_tr,
     }
-    w
 }
 
-// The symbols from the first transition to the last one.
-fn symbols_to_last(slots: &[u32], last: usize, t: f64) -> f64
-    requires { ⌜ last ≤ length (now slots) ⌝ }
-    ensures { λ r. ⌜ r ≡ fold (walked t) noWalk (upTo last (now (slots .entry))) .k ⌝ }
+// The boundary after the slot v.
+fn place_at(c: Clock, p: Place, v: u32) -> Place
+    ensures { λ r. ⌜ r ≡ placeOf c p v ⌝ }
 {
-    let q = Prev::Never;
-    let mut s = Walk {
+    let prev = p.prev;
+    let empty = v <= p.before_raw;
+    if empty {
+        return Place {
+            before_raw: v,
+            before: p.before,
+            seen: p.seen,
+            k: p.k,
+            prev,
+        };
+    }
+    let seen = p.seen;
+    if seen < c.n_tr {
+        let x = time_of(arith::Fix64(v));
+        let k = k_after(prev, p.k, x, c.t);
+        let here = Prev::At(x);
+        let next = seen + 1;
+        return Place {
+            before_raw: v,
+            before: arith::round((c.lead + k) * c.t),
+            seen: next,
+            k,
+            prev: here,
+        };
+    }
+    Place {
+        before_raw: v,
+        before: arith::round(c.stop * c.t),
+        seen,
+        k: p.k,
+        prev,
+    }
+}
+
+// The boundaries in order after the start: the transitions on the grid, the end.
+fn on_grid(slots: &mut [u32], c: Clock)
+    ensures { λ _. ⌜ now (slots .exit) ≡ onGridOf c atStart (now (slots .entry)) ⌝ }
+{
+    let unset = Prev::Unset;
+    let mut p = Place {
+        before_raw: 0,
+        before: 0.0,
+        seen: 0,
         k: 0.0,
-        n: 0.0,
-        prev: q,
+        prev: unset,
     };
-    let mut before: u32 = 0;
     let mut i = 0;
-    while i < last {
-        let v = slots[i];
-        s = walk_turn(s, before, v, t);
-        before = v;
+    while i < slots.len() {
+        let before = p.before;
+        p = place_at(c, p, slots[i]);
+        slots[i] = arith::width(before, p.before).0;
         i += 1;
     }
-    s.k
 }
 
-fn clock_of(slots: &[u32], last: usize, a: f64, t: f64) -> Clock
-    requires { ⌜ last ≤ length (now slots) ⌝ }
-    ensures { λ r. ⌜ r ≡ clockOf a t (upTo last (now (slots .entry))) (endOf (now (slots .entry))) ⌝ }
-{
-    let k = symbols_to_last(slots, last, t);
-    let end = end_of(slots);
-    let count = count_of(slots, last);
-    let lead = symbols(a, t);
-    let tail = symbols(end - (a + k * t), t);
-    Clock {
-        lead,
-        stop: lead + k + tail,
-        t,
-        count,
-    }
-}
-
-// The slots of a finished frame become widths in whole steps.
+// The run ends of a finished frame become widths in whole steps.
 pub fn fsk_widths(slots: &mut [u32])
-    ensures { λ _. ⌜ now (slots .exit) ≡ widthsOf (now (slots .entry)) ⌝ }
+    ensures { λ _. ⌜ now (slots .exit) ≡ fskWidthsOf (now (slots .entry)) ⌝ }
 {
     let last = last_rise(slots);
-    let g = grid_of(slots, last);
-    match g {
-        Grid::Off => measure(slots),
+    let runs = runs_of(slots, last);
+    let grid = grid_of(slots, last, runs);
+    match grid {
+        Grid::NoGrid => measured(slots),
         Grid::On(a, t, _) => {
-            let c = clock_of(slots, last, a, t);
+            let c = clock_of(slots, last, a, t, runs.count);
             on_grid(slots, c);
         }
     }

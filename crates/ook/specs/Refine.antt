@@ -52,6 +52,7 @@ splitFrom ring t on (suc k) j sum best split =
 abbrev pub bestSplitOf : List Float → Float → Bool → ℕ → ℕ → ℕ
 bestSplitOf ring t on lo idx = splitFrom ring t on (idx - lo) idx zero32 (ofBits binary32 0xff80_0000) idx
 
+-- the crossing of t between the two samples at the split
 abbrev pub crossAt : List Float → Float → ℕ → Float
 crossAt ring t split = edgeOf split (crossOf (at ring (split - 1)) (at ring split) t)
 
@@ -59,6 +60,7 @@ crossAt ring t split = edgeOf split (crossOf (at ring (split - 1)) (at ring spli
 unfoldable pub refineInOf : List Float → Float → Bool → ℕ → ℕ → Float → Float
 refineInOf ring t on lo idx «t_run» = cond (leb idx lo) «t_run» (crossAt ring t (bestSplitOf ring t on lo idx))
 
+-- refine, of a burst whose run is s
 unfoldable pub refineOf : List Float → ℕ → Float → Float → Bool → ℕ → ℕ → Env → Float
 refineOf ring «min_steps» high noise on «lead_at» idx s =
     refineInOf ring (refineLevelOf high noise) on (refineLoOf «min_steps» (s .«ref_idx») «lead_at» idx) idx (s .times .«t_run»)

@@ -54,6 +54,7 @@ advanceOf s on tc idx =
     (cond (eqb (s .run .confirmed) 0) (rejoinOf s on)
     (beginRunOf s tc idx on))
 
+-- `pac = [0.0; 2]` under a test
 unfoldable pub zeroIf : Bool → C32 → C32
 zeroIf b pac = cond b zeroC32 pac
 

@@ -95,16 +95,18 @@ recordOf t high =
       carrier = Vector (t .acc .re) (t .acc .im);
     }
 
+-- pairs make a record; the train is empty then
 unfoldable pub finishOf : Train → Float → Out → Ended
 finishOf t high out = record { train = emptyTrainOf t; out = cond (ltb 0 (t .«ook_n»)) (recordOf t high) out }
 
 abbrev pub finishBy : Float → Out → Train × List ℕ → Ended × List ℕ
 finishBy high out q = (finishOf (q .0) high out, q .1)
 
--- end_train: an open pulse gets the gap 0, and pairs make a record
+-- end_train: only an open pulse gets the gap 0
 unfoldable pub endTrainOf : Train → Float → Out → List ℕ → Ended × List ℕ
 endTrainOf t high out ook = finishBy high out (closeGapOf t zeroSteps ook)
 
+-- `if len > longest`
 abbrev pub longerOf : Steps → Steps → Steps
 longerOf longest len = cond (ltb (longest .0) (len .0)) len longest
 

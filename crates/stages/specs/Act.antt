@@ -18,9 +18,11 @@ use Rattle.ook.specs.Train.{withFirst, closeGapOf, pulseDoneOf, stayBy}
 use Rattle.stages.specs.declared.Seen.{Seen}
 use Rattle.stages.specs.declared.Acted.{Acted}
 
+-- `confirmed == 0 && run_len >= min_steps`: the run counts from this sample on
 unfoldable pub dueOf : ℕ → Run → Bool
 dueOf «min_steps» r = cond (eqb (r .confirmed) 0) (leb «min_steps» (r .«run_len»)) false
 
+-- `confirmed = 1`
 unfoldable pub confirmIf : Bool → Env → Env
 confirmIf due s = cond due (withRun (runOf (s .run .level) (s .run .«run_len») 1 (s .run .«prev_len»)) s) s
 
@@ -38,6 +40,7 @@ fallOf p s t pac high out ook =
     (pulseDoneOf p t pac high out (widthOf (s .«t_prev») (s .«t_run»)) (s .«c_run») ook)
     (stayBy out (t, ook))
 
+-- what the train makes of the run, if it counts from here on
 unfoldable pub confirmOf : Bool → Settings → Bool → Times → Train → C32 → Float → Out → List ℕ → Done × List ℕ
 confirmOf due p on s t pac high out ook =
     cond due
@@ -47,6 +50,7 @@ confirmOf due p on s t pac high out ook =
 abbrev pub actedBy : Env → Done × List ℕ → Acted × List ℕ
 actedBy s q = (record { next = q .0 .next; env = s; train = q .0 .train; out = q .0 .out }, q .1)
 
+-- the stage whole; an answer other than stay ends the sample here
 unfoldable pub actOf : Settings → Seen → Train → Out → List ℕ → Acted × List ℕ
 actOf p s t out ook =
     let due : Bool = dueOf (p .«min_steps») (s .env .run) in

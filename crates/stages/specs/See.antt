@@ -21,10 +21,11 @@ use Rattle.stages.specs.declared.Seen.{Seen}
 abbrev pub hysteresisOf : Float → Float
 hysteresisOf t = mul binary32 t (ofBits binary32 0x3e00_0000)
 
--- document 01, "OOK": above midpoint plus an eighth, and down to midpoint minus an eighth while high
+-- document 01, "The parts", OOK: high above midpoint plus an eighth, and down to midpoint minus an eighth while high
 unfoldable pub thresholdOf : ℕ → Float → Float → Float
 thresholdOf level t h = cond (eqb level 1) (sub binary32 t h) (add binary32 t h)
 
+-- the level: `e >= thr` while high, else `e > thr`
 unfoldable pub onOf : ℕ → Float → Float → Bool
 onOf level e thr = cond (eqb level 1) (le thr e) (lt thr e)
 
@@ -47,9 +48,11 @@ highOf on e upper high =
     (cond (lt upper e) (flushOf (add binary32 high (mul binary32 (ofBits binary32 0x3c80_0000) (sub binary32 e high)))) high)
     high
 
+-- the sum of the pulse's rotation
 unfoldable pub pacOf : Bool → C32 → C32 → C32
 pacOf on pac d = cond on (plusOf pac d) pac
 
+-- the stages whole, in the Rust's order; `began` and `d` are for presence, which comes after
 unfoldable pub seeOf : Settings → At → List Float → Float → Float → Env → C32 → Seen
 seeOf p a ring high «e_prev» s pac =
     let t : Float = midpointOf (a .noise) high in

@@ -1,21 +1,23 @@
-use Rattle.arith.proofs.Signs.{abs-below, abs-level, abs-above}
-use lib.Ieee.{binary64, ofBits}
+-- `arith::abs64` meets its contract: a number's pattern without the sign's digit. Assumes nothing.
+use lib.Ieee.{binary64}
 use lib.Dec.{T}
-use mathlib.Core.Path.{_≡_, refl, sym, ap, _∙_, subst}
+use mathlib.Core.Path.{sym, subst}
+use Rattle.arith.proofs.Nan.{is-nan, no-nan}
+use Rattle.arith.proofs.Magnitude.{abs-nan, abs-plain, abs-bits}
 use Rattle.arith.proofs.abs64.Statement.{statement}
 use Rattle.arith.proofs.abs64.Tie as tie
 
 returns : tie.Need-returns
-unfolding ofBits
-returns c = abs-below (c .before .args .x) (c .if1 .taken)
+returns c = abs-nan (c .before .args .x) (is-nan (c .before .args .x) (c .if1 .taken))
+
+float-to-bits-result : tie.Need-float-to-bits-result
+float-to-bits-result c = no-nan (c .before .args .x) (c .if1 .left)
+
+float-from-bits-result : tie.Need-float-from-bits-result
+float-from-bits-result c = abs-plain binary64 (c .before .args .x) (subst T (sym (c .before .good .0 .1)) tt) (no-nan (c .before .args .x) (c .if1 .left))
 
 returns-2 : tie.Need-returns-2
-unfolding ofBits
-returns-2 c = abs-level binary64 (c .before .before .args .x) (subst T (sym (c .before .before .good .0 .1)) tt) (c .if2 .taken)
-
-returns-3 : tie.Need-returns-3
-unfolding ofBits
-returns-3 c = abs-above (c .before .before .args .x) (c .before .if1 .left) (c .if2 .left)
+returns-2 c = abs-bits binary64 (c .before .args .x) (subst T (sym (c .before .good .0 .1)) tt)
 
 pub abs64-spec : {M : Type 1} → statement M
-abs64-spec = tie.close (tie.spec returns returns-2 returns-3)
+abs64-spec = tie.close (tie.spec returns float-to-bits-result float-from-bits-result returns-2)

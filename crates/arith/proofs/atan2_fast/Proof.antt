@@ -1,3 +1,4 @@
+-- `arith::atan2_fast` meets its contract: the calls and the two tests, one after the other. Assumes nothing.
 use Rattle.arith.specs.Angle.{atan2Of}
 use borrow.Author.Needs.{needs}
 use Rattle.arith.proofs.atan2_fast.Statement.{statement}

@@ -1,3 +1,4 @@
+-- `arith::closest_div` meets its contract: `closest` by what is left over and what is missing (`Values.antt`). Assumes nothing.
 use native.Mathlib.Omega.{arith}
 use native.Mathlib.Nat.{mod-lt, div-le-self}
 use Rattle.arith.proofs.Values.{closest-below, closest-above, closest-tie}

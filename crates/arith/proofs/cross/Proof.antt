@@ -1,3 +1,4 @@
+-- `arith::cross` meets its contract: the calls and the tests of each return. Assumes nothing.
 use Rattle.arith.specs.Leaves.{crossOf}
 use borrow.Author.Needs.{needs}
 use Rattle.arith.proofs.cross.Statement.{statement}

@@ -1,6 +1,6 @@
 -- `arith::exact_of` meets its contract. What it hands to `whole_root` is the operand brought by a power of 4, and there is one whole root (`RootSteps.antt`). Assumes nothing.
-use mathlib.Core.Path.{_≡_, sym, subst}
-use Prim.Native.Nat.{ℕ, _+_, _*_, _^_, _≤_, _<_}
+use mathlib.Core.Path.{sym, subst}
+use Prim.Native.Nat.{ℕ, _*_, _^_, _≤_, _<_}
 use native.Mathlib.Nat.{le-trans, lt-of-not-le, not-le-of-lt, mul-le-mul}
 use native.Mathlib.Omega.{arith}
 use borrow.Author.Needs.{needs}

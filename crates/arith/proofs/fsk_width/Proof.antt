@@ -1,3 +1,4 @@
+-- `arith::fsk_width` meets its contract: what the calls ensure, one after the other. Assumes nothing.
 use borrow.Author.Needs.{needs}
 use Rattle.arith.proofs.fsk_width.Statement.{statement}
 use Rattle.arith.proofs.fsk_width.Tie as tie

@@ -1,4 +1,5 @@
-use Rattle.arith.proofs.Signs.{nan-true, nan-false}
+-- `arith::max64` meets its contract: the tests of each return. Assumes nothing.
+use Rattle.arith.proofs.Nan.{nan-true, nan-false}
 use Rattle.arith.proofs.max64.Statement.{statement}
 use Rattle.arith.proofs.max64.Tie as tie
 

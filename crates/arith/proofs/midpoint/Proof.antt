@@ -1,3 +1,4 @@
+-- `arith::midpoint` meets its contract: what the calls ensure, one after the other. Assumes nothing.
 use Rattle.arith.specs.Leaves.{midpointOf}
 use borrow.Author.Needs.{needs}
 use Rattle.arith.proofs.midpoint.Statement.{statement}

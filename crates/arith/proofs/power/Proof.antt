@@ -1,3 +1,4 @@
+-- `arith::power` meets its contract: a shift by less than the width loses nothing. Assumes nothing.
 use Rattle.arith.proofs.Narrowing.{one-shl}
 use borrow.Author.Needs.{needs}
 use Rattle.arith.proofs.power.Statement.{statement}

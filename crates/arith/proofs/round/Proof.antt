@@ -1,25 +1,34 @@
+-- `arith::round` meets its contract: whole already from the field 1075 on, and else the whole number below the sign. Assumes nothing.
 use Rattle.arith.proofs.Integral.{roundOf-nan, whole-already, neg-round}
 use Rattle.arith.proofs.Fields.{by-fields}
-use Rattle.arith.proofs.Values.{is-nan, no-nan}
+use Rattle.arith.proofs.Nan.{is-nan, no-nan}
 use Rattle.arith.specs.Rounding.{roundOf}
-use lib.Ieee.{binary64, toBits, inFloat, ofInt}
+use lib.Ieee.{binary64, fits, toBits, inFloat, ofInt}
 use borrow.Author.Tests.{lt-leb, le-leb}
 use lib.Dec.{T, le→leb}
-use Prim.Native.Nat.{ℕ, _^_}
+use Prim.Native.Nat.{_^_}
 use mathlib.Core.Bool.{true, false}
-use mathlib.Core.Path.{_≡_, sym, ap, _∙_, subst}
+use mathlib.Core.Path.{sym, ap, _∙_, subst}
 use borrow.Author.Needs.{needs}
 use Rattle.arith.proofs.round.Statement.{statement}
 use Rattle.arith.proofs.round.Tie as tie
 
+-- what owning an `f64` tells: the format holds it
+held : (c : tie.Start) → T (fits binary64 (c .args .x))
+held c = subst T (sym (c .good .0 .1)) tt
+
 returns : tie.Need-returns
-returns c = is-nan (c .before .args .x) (c .if1 .taken) ∙ sym (ap roundOf (is-nan (c .before .args .x) (c .if1 .taken)) ∙ roundOf-nan)
+returns c =
+    let e = is-nan (c .before .args .x) (c .if1 .taken) in
+    e ∙ sym (ap roundOf e ∙ roundOf-nan)
 
 float-to-bits-b : tie.Need-float-to-bits-b
 float-to-bits-b c = no-nan (c .before .args .x) (c .if1 .left)
 
 returns-2 : tie.Need-returns-2
-returns-2 c = sym (whole-already (c .before .before .args .x) (subst T (sym (c .before .before .good .0 .1)) tt) (no-nan (c .before .before .args .x) (c .before .if1 .left)) (c .if2 .taken))
+returns-2 c =
+    let s = c .before .before in
+    sym (whole-already (s .args .x) (held s) (no-nan (s .args .x) (c .before .if1 .left)) (c .if2 .taken))
 
 whole-fields-requires : tie.Need-whole-fields-requires
 whole-fields-requires c κs = search needs
@@ -30,11 +39,18 @@ int-to-float-r c = le→leb (c .before .whole-fields .result) (2 ^ 53) (c .befor
 
 returns-3 : tie.Need-returns-3
 unfolding ofInt
-returns-3 c = sym (c .before .before .whole-fields .ensures .0 false) ∙ ap roundOf (by-fields (c .before .before .before .before .before .args .x) false (subst T (sym (c .before .before .before .before .before .good .0 .1)) tt) (lt-leb (2 ^ 63) (toBits binary64 (c .before .before .before .before .before .args .x)) (c .if3 .taken)))
+returns-3 c =
+    let s = c .before .before .before .before .before in
+    sym (c .before .before .whole-fields .ensures .0 false) ∙ ap roundOf (by-fields (s .args .x) false (held s) (lt-leb (2 ^ 63) (toBits binary64 (s .args .x)) (c .if3 .taken)))
 
 returns-4 : tie.Need-returns-4
 unfolding ofInt
-returns-4 c = neg-round binary64 false (c .before .before .whole-fields .result) 1 ∙ sym (c .before .before .whole-fields .ensures .0 true) ∙ ap roundOf (by-fields (c .before .before .before .before .before .args .x) true (subst T (sym (c .before .before .before .before .before .good .0 .1)) tt) (le-leb (2 ^ 63) (toBits binary64 (c .before .before .before .before .before .args .x)) (c .if3 .left)))
+returns-4 c =
+    let s = c .before .before .before .before .before in
+    let r = c .before .before .whole-fields in
+    neg-round binary64 false (r .result) 1
+    ∙ sym (r .ensures .0 true)
+    ∙ ap roundOf (by-fields (s .args .x) true (held s) (le-leb (2 ^ 63) (toBits binary64 (s .args .x)) (c .if3 .left)))
 
 pub round-spec : {M : Type 1} → statement M
 round-spec =

@@ -1,13 +1,13 @@
 -- `arith::sqrt` meets its contract: special operands (`RootSpecial.antt`), then the exact result and the rounding (`RootSteps.antt`). Assumes nothing.
-use mathlib.Core.Path.{_≡_, refl, sym, ap, _∙_, subst}
-use Prim.Native.Nat.{ℕ, _%_, _^_, _≤_, _<_}
+use mathlib.Core.Path.{sym, ap, _∙_, subst}
+use Prim.Native.Nat.{_<_}
 use native.Mathlib.Omega.{arith}
 use lib.Dec.{T}
-use lib.Ieee.{Float, nan, binary32, fits, ofBits, toBits}
+use lib.Ieee.{binary32, fits, toBits}
 use lib.Ieee.Bits.{ofBits-toBits, toBits-lt}
-use Rattle.arith.specs.Root.{sqrtOf, roundExact, roundExactOf}
-use Rattle.arith.specs.declared.Exact.{Exact}
-use Rattle.arith.proofs.RootSpecial.{nan-is, nan-root, no-nan, below-no-nan, bits-no-nan, own-root, zero-root, minus-zero-root, infinity-root, made-nan, negative-root}
+use Rattle.arith.specs.Root.{sqrtOf, roundExactOf}
+use Rattle.arith.proofs.RootSpecial.{nan-root, bits-no-nan, own-root, zero-root, minus-zero-root, infinity-root, negative-root}
+use Rattle.arith.proofs.Nan.{is-nan, no-nan, plain-read, zero-by-zero}
 use Rattle.arith.proofs.RootSteps.{read, read-root, read-range}
 use Rattle.arith.proofs.sqrt.Statement.{statement}
 use Rattle.arith.proofs.sqrt.Tie as tie
@@ -18,7 +18,7 @@ held c = subst T (sym (c .good .0 .1)) tt
 
 returns : tie.Need-returns
 returns c =
-    let e = nan-is (c .before .args .x) (c .if1 .taken) in
+    let e = is-nan (c .before .args .x) (c .if1 .taken) in
     e ∙ sym nan-root ∙ ap sqrtOf (sym e)
 
 float-to-bits-b : tie.Need-float-to-bits-b
@@ -32,7 +32,7 @@ returns-2 c =
 returns-3 : tie.Need-returns-3
 returns-3 c =
     let s = c .before .before .before in
-    made-nan ∙ sym (negative-root (toBits binary32 (s .args .x)) (c .if3 .taken) (toBits-lt binary32 (s .args .x) (held s))) ∙ ap sqrtOf (ofBits-toBits binary32 (s .args .x) (held s))
+    zero-by-zero binary32 ∙ sym (negative-root (toBits binary32 (s .args .x)) (c .if3 .taken) (toBits-lt binary32 (s .args .x) (held s))) ∙ ap sqrtOf (ofBits-toBits binary32 (s .args .x) (held s))
 
 returns-4 : tie.Need-returns-4
 returns-4 c =
@@ -66,7 +66,7 @@ round-exact-requires c κs =
 float-from-bits-result : tie.Need-float-from-bits-result
 float-from-bits-result c =
     let h = c .round-exact .ensures .1 in
-    below-no-nan (c .round-exact .result) (omega arith)
+    plain-read binary32 (c .round-exact .result) (omega arith)
 
 returns-6 : tie.Need-returns-6
 returns-6 c =

@@ -1,3 +1,4 @@
+-- `arith::step_of` meets its contract: a cast of the rounded number is the whole number, held to the range (`Cast.antt`). Assumes nothing.
 use mathlib.Core.Path.{sym, ap, _∙_, subst}
 use lib.Dec.{T}
 use lib.Ieee.{toUnsigned}

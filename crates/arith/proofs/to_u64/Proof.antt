@@ -1,7 +1,8 @@
+-- `arith::to_u64` meets its contract: a truncation inside the range, and its two ends (`Ends.antt`). Assumes nothing.
 use Rattle.arith.proofs.Ends.{past-top, past-low}
 use lib.Ieee.{ofBits, neg}
 use lib.Dec.{T}
-use mathlib.Core.Path.{_≡_, refl, sym, ap, _∙_, subst}
+use mathlib.Core.Path.{sym, subst}
 use borrow.Author.Needs.{needs}
 use Rattle.arith.proofs.to_u64.Statement.{statement}
 use Rattle.arith.proofs.to_u64.Tie as tie

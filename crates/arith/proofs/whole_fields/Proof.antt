@@ -1,15 +1,18 @@
-use Rattle.arith.proofs.Integral.{whole-none, whole-some, halfUp-le, power-lo, power-hi}
-use Rattle.arith.specs.Rounding.{halfUp}
-use lib.Ieee.{binary64, round}
+-- `arith::whole_fields` meets its contract, in the ranges of e that `Integral.antt` tells apart. Assumes nothing.
 use native.Mathlib.Omega.{arith}
-use Prim.Native.Nat.{ℕ, _+_, _^_, _≤_}
-use mathlib.Core.Path.{_≡_, sym, ap, _∙_, subst}
+use Prim.Native.Nat.{ℕ, _+_, _^_}
+use mathlib.Core.Path.{sym, ap, _∙_}
 use borrow.Author.Needs.{needs}
+use lib.Ieee.{binary64, round}
+use Rattle.arith.specs.Rounding.{halfUp}
+use Rattle.arith.proofs.Integral.{whole-none, whole-some, halfUp-le, power-range}
 use Rattle.arith.proofs.whole_fields.Statement.{statement}
 use Rattle.arith.proofs.whole_fields.Tie as tie
 
 returns : tie.Need-returns
-returns c = (λ s. whole-none s (c .before .args .e) (c .before .args .t) (c .if1 .taken) (c .before .pre .1), omega arith)
+returns c =
+    let s = c .before in
+    (λ b. whole-none b (s .args .e) (s .args .t) (c .if1 .taken) (s .pre .1), omega arith)
 
 sub-power : tie.Need-sub-power
 sub-power c = search needs
@@ -24,16 +27,30 @@ mul-result : tie.Need-mul-result
 mul-result c = search needs
 
 add-result-2 : tie.Need-add-result-2
-add-result-2 c = record { fits = omega (arith, c .power .ensures, power-lo (c .before .before .args .e) (c .before .before .pre .0), power-hi (c .before .before .args .e) (c .before .if1 .left)) }
+add-result-2 c =
+    let s = c .before .before in
+    let u = power-range (s .args .e) (c .power .result) (c .before .if1 .left) (s .pre .0) (c .power .ensures) in
+    record { fits = omega (arith, u .1) }
 
 mul-result-2 : tie.Need-mul-result-2
-mul-result-2 c = record { fits = omega (arith, c .power .ensures, power-lo (c .before .before .args .e) (c .before .before .pre .0), power-hi (c .before .before .args .e) (c .before .if1 .left)) }
+mul-result-2 c =
+    let s = c .before .before in
+    let u = power-range (s .args .e) (c .power .result) (c .before .if1 .left) (s .pre .0) (c .power .ensures) in
+    record { fits = omega (arith, u .1) }
 
 div-result : tie.Need-div-result
-div-result c = omega (arith, c .power .ensures, power-lo (c .before .before .args .e) (c .before .before .pre .0), power-hi (c .before .before .args .e) (c .before .if1 .left))
+div-result c =
+    let s = c .before .before in
+    let u = power-range (s .args .e) (c .power .result) (c .before .if1 .left) (s .pre .0) (c .power .ensures) in
+    omega (arith, u .0)
 
 returns-2 : tie.Need-returns-2
-returns-2 c = (λ s. whole-some s (c .before .before .args .e) (c .before .before .args .t) (c .before .if1 .left) (c .before .before .pre .0) (c .before .before .pre .1) ∙ ap (λ (u : ℕ). round binary64 s (halfUp (2 ^ 52 + c .before .before .args .t) u) 1) (sym (c .power .ensures)), halfUp-le (c .before .before .args .t) (c .power .result) (c .before .before .pre .1) (omega (arith, c .power .ensures, power-lo (c .before .before .args .e) (c .before .before .pre .0), power-hi (c .before .before .args .e) (c .before .if1 .left))))
+returns-2 c =
+    let s = c .before .before in
+    let u = power-range (s .args .e) (c .power .result) (c .before .if1 .left) (s .pre .0) (c .power .ensures) in (
+      λ b. whole-some b (s .args .e) (s .args .t) (c .before .if1 .left) (s .pre .0) (s .pre .1) ∙ ap (λ (x : ℕ). round binary64 b (halfUp (2 ^ 52 + s .args .t) x) 1) (sym (c .power .ensures)),
+      halfUp-le (s .args .t) (c .power .result) (s .pre .1) (u .0),
+    )
 
 pub whole-fields-spec : {M : Type 1} → statement M
 whole-fields-spec =

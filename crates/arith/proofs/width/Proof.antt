@@ -1,3 +1,4 @@
+-- `arith::width` meets its contract: what the call ensures. Assumes nothing.
 use borrow.Author.Needs.{needs}
 use Rattle.arith.proofs.width.Statement.{statement}
 use Rattle.arith.proofs.width.Tie as tie

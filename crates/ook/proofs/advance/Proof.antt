@@ -1,3 +1,4 @@
+-- `ook::advance` meets its contract: by its tests and what the calls ensure. Assumes nothing.
 use Rattle.ook.specs.Run.{advanceOf}
 use borrow.Author.Needs.{needs}
 use Rattle.ook.proofs.advance.Statement.{statement}

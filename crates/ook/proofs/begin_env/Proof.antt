@@ -1,3 +1,4 @@
+-- `ook::begin_env` meets its contract: the definition, field by field. Assumes nothing.
 use mathlib.Core.Path.{refl}
 use Rattle.ook.specs.Run.{beginEnvOf}
 use Rattle.ook.proofs.begin_env.Statement.{statement}

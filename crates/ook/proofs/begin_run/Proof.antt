@@ -1,3 +1,4 @@
+-- `ook::begin_run` meets its contract: what the calls ensure. Assumes nothing.
 use Rattle.ook.specs.Run.{beginRunOf}
 use borrow.Author.Needs.{needs}
 use Rattle.ook.proofs.begin_run.Statement.{statement}

@@ -1,3 +1,4 @@
+-- `ook::begins` meets its contract: by its tests and what the calls ensure. Assumes nothing.
 use Rattle.ook.specs.Run.{beginsOf}
 use borrow.Author.Needs.{needs}
 use Rattle.ook.proofs.begins.Statement.{statement}

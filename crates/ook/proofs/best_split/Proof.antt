@@ -1,3 +1,4 @@
+-- `ook::best_split` meets its contract: the invariant: the turns that are left from step j give the whole split; a turn and the end are `split-turn` and `split-end`. Assumes nothing.
 use Prim.Native.Nat.{_-_}
 use mathlib.Core.Path.{_≡_, _∙_, sym}
 use lib.Ieee.{nanBits}

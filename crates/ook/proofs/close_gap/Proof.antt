@@ -1,3 +1,4 @@
+-- `ook::close_gap` meets its contract: by its tests and what the calls ensure. Assumes nothing.
 use Rattle.ook.specs.Train.{closeGapOf}
 use borrow.Author.Needs.{needs}
 use Rattle.ook.proofs.close_gap.Statement.{statement}

@@ -1,3 +1,4 @@
+-- `ook::finish` meets its contract: by its tests and what the calls ensure. Assumes nothing.
 use Rattle.ook.specs.Train.{finishOf}
 use borrow.Author.Needs.{needs}
 use Rattle.ook.proofs.finish.Statement.{statement}

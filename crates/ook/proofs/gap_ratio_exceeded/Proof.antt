@@ -1,3 +1,4 @@
+-- `ook::gap_ratio_exceeded` meets its contract: by its tests and what the calls ensure. Assumes nothing.
 use Rattle.ook.specs.Train.{gapRatioExceededOf}
 use borrow.Author.Needs.{needs}
 use Rattle.ook.proofs.gap_ratio_exceeded.Statement.{statement}

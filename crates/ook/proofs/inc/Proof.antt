@@ -1,3 +1,4 @@
+-- `ook::inc` meets its contract: what the wrapping sum ensures. Assumes nothing.
 use Rattle.ook.specs.Counts.{inc}
 use borrow.Author.Needs.{needs}
 use Rattle.ook.proofs.inc.Statement.{statement}

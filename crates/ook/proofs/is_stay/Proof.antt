@@ -1,3 +1,4 @@
+-- `ook::is_stay` meets its contract: what `next_number` ensures. Assumes nothing.
 use borrow.Author.Needs.{needs}
 use Rattle.ook.proofs.is_stay.Statement.{statement}
 use Rattle.ook.proofs.is_stay.Tie as tie

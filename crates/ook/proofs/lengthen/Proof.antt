@@ -1,3 +1,4 @@
+-- `ook::lengthen` meets its contract: what the calls ensure. Assumes nothing.
 use Rattle.ook.specs.Run.{lengthenOf}
 use borrow.Author.Needs.{needs}
 use Rattle.ook.proofs.lengthen.Statement.{statement}

@@ -1,3 +1,4 @@
+-- `ook::longer` meets its contract: by its tests. Assumes nothing.
 use Rattle.ook.proofs.longer.Statement.{statement}
 use Rattle.ook.proofs.longer.Tie as tie
 

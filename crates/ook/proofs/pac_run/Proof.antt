@@ -1,3 +1,4 @@
+-- `ook::pac_run` meets its contract: by its tests and what the calls ensure. Assumes nothing.
 use Rattle.ook.specs.Run.{pacRunOf}
 use borrow.Author.Needs.{needs}
 use Rattle.ook.proofs.pac_run.Statement.{statement}

@@ -1,3 +1,4 @@
+-- `ook::pulse_done` meets its contract: by its tests and what the calls ensure. Assumes nothing.
 use Rattle.ook.specs.Train.{pulseDoneOf}
 use borrow.Author.Needs.{needs}
 use Rattle.ook.proofs.pulse_done.Statement.{statement}

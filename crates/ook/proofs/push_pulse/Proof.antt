@@ -1,3 +1,4 @@
+-- `ook::push_pulse` meets its contract: by its tests and what the calls ensure. Assumes nothing.
 use Rattle.ook.specs.Train.{pushPulseOf}
 use borrow.Author.Needs.{needs}
 use Rattle.ook.proofs.push_pulse.Statement.{statement}

@@ -1,3 +1,4 @@
+-- `ook::put` meets its contract: a slot past the end leaves the list (`set-out`). Assumes nothing.
 use lib.Seq.{set-out}
 use mathlib.Core.Path.{sym}
 use borrow.Author.Needs.{needs}

@@ -1,3 +1,4 @@
+-- `ook::refine` meets its contract: what the calls ensure. Assumes nothing.
 use Rattle.ook.specs.Refine.{refineOf}
 use borrow.Author.Needs.{needs}
 use Rattle.ook.proofs.refine.Statement.{statement}

@@ -1,3 +1,4 @@
+-- `ook::refine_in` meets its contract: by its tests and what the calls ensure. Assumes nothing.
 use Rattle.ook.specs.Refine.{refineInOf}
 use borrow.Author.Needs.{needs}
 use Rattle.ook.proofs.refine_in.Statement.{statement}

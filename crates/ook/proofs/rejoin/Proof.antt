@@ -1,3 +1,4 @@
+-- `ook::rejoin` meets its contract: what the calls ensure. Assumes nothing.
 use Rattle.ook.specs.Run.{rejoinOf}
 use borrow.Author.Needs.{needs}
 use Rattle.ook.proofs.rejoin.Statement.{statement}

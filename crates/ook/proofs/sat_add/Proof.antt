@@ -1,3 +1,4 @@
+-- `ook::sat_add` meets its contract: the sum fits or the limit is less. Assumes nothing.
 use Rattle.ook.specs.Counts.{satAddOf}
 use borrow.Author.Needs.{needs}
 use Rattle.ook.proofs.sat_add.Statement.{statement}

@@ -1,3 +1,4 @@
+-- `stages::act` meets its contract: what the calls ensure. Assumes nothing.
 use Rattle.stages.specs.Act.{actOf}
 use borrow.Author.Needs.{needs}
 use Rattle.stages.proofs.act.Statement.{statement}

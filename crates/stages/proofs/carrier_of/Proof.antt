@@ -1,3 +1,4 @@
+-- `stages::carrier_of` meets its contract: by its tests. Assumes nothing.
 use Rattle.stages.specs.Tail.{carrierOf}
 use Rattle.stages.proofs.carrier_of.Statement.{statement}
 use Rattle.stages.proofs.carrier_of.Tie as tie

@@ -1,3 +1,4 @@
+-- `stages::confirm` meets its contract: by its tests and what the calls ensure. Assumes nothing.
 use Rattle.stages.specs.Act.{confirmOf}
 use borrow.Author.Needs.{needs}
 use Rattle.stages.proofs.confirm.Statement.{statement}

@@ -1,3 +1,4 @@
+-- `stages::confirm_if` meets its contract: by its tests. Assumes nothing.
 use Rattle.stages.specs.Act.{confirmIf}
 use Rattle.stages.proofs.confirm_if.Statement.{statement}
 use Rattle.stages.proofs.confirm_if.Tie as tie

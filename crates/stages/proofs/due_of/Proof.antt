@@ -1,3 +1,4 @@
+-- `stages::due_of` meets its contract: by its tests. Assumes nothing.
 use Rattle.stages.specs.Act.{dueOf}
 use Rattle.stages.proofs.due_of.Statement.{statement}
 use Rattle.stages.proofs.due_of.Tie as tie

@@ -1,3 +1,4 @@
+-- `stages::fall` meets its contract: by its tests and what the calls ensure. Assumes nothing.
 use Rattle.stages.specs.Act.{fallOf}
 use borrow.Author.Needs.{needs}
 use Rattle.stages.proofs.fall.Statement.{statement}

@@ -1,3 +1,4 @@
+-- `stages::gap_over` meets its contract: by its tests and what the calls ensure. Assumes nothing.
 use Rattle.stages.specs.Tail.{gapOverOf}
 use borrow.Author.Needs.{needs}
 use Rattle.stages.proofs.gap_over.Statement.{statement}

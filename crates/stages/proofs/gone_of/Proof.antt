@@ -1,3 +1,4 @@
+-- `stages::gone_of` meets its contract: by its tests. Assumes nothing.
 use Rattle.stages.specs.Tail.{goneOf}
 use Rattle.stages.proofs.gone_of.Statement.{statement}
 use Rattle.stages.proofs.gone_of.Tie as tie

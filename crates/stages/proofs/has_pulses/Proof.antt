@@ -1,3 +1,4 @@
+-- `stages::has_pulses` meets its contract: the sum of two u32 fits a u64. Assumes nothing.
 use Rattle.stages.specs.Tail.{hasPulsesOf}
 use borrow.Author.Needs.{needs}
 use Rattle.stages.proofs.has_pulses.Statement.{statement}

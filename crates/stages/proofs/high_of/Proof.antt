@@ -1,3 +1,4 @@
+-- `stages::high_of` meets its contract: by its tests and what the calls ensure. Assumes nothing.
 use Rattle.stages.specs.See.{highOf}
 use borrow.Author.Needs.{needs}
 use Rattle.stages.proofs.high_of.Statement.{statement}

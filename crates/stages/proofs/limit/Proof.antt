@@ -1,3 +1,4 @@
+-- `stages::limit` meets its contract: by its tests. Assumes nothing.
 use Rattle.stages.proofs.limit.Statement.{statement}
 use Rattle.stages.proofs.limit.Tie as tie
 

@@ -1,3 +1,4 @@
+-- `stages::on_of` meets its contract: by its tests. Assumes nothing.
 use Rattle.stages.specs.See.{onOf}
 use Rattle.stages.proofs.on_of.Statement.{statement}
 use Rattle.stages.proofs.on_of.Tie as tie

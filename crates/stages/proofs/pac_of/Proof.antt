@@ -1,3 +1,4 @@
+-- `stages::pac_of` meets its contract: by its tests. Assumes nothing.
 use Rattle.stages.specs.See.{pacOf}
 use Rattle.stages.proofs.pac_of.Statement.{statement}
 use Rattle.stages.proofs.pac_of.Tie as tie

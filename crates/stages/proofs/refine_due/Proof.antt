@@ -1,3 +1,4 @@
+-- `stages::refine_due` meets its contract: by its tests and what the calls ensure. Assumes nothing.
 use Rattle.stages.specs.See.{refineDueOf}
 use borrow.Author.Needs.{needs}
 use Rattle.stages.proofs.refine_due.Statement.{statement}

@@ -1,3 +1,4 @@
+-- `stages::rise` meets its contract: by its tests and what the calls ensure. Assumes nothing.
 use Rattle.stages.specs.Act.{riseOf}
 use borrow.Author.Needs.{needs}
 use Rattle.stages.proofs.rise.Statement.{statement}

@@ -1,3 +1,4 @@
+-- `stages::see` meets its contract: what the calls ensure. Assumes nothing.
 use Rattle.stages.specs.See.{seeOf}
 use borrow.Author.Needs.{needs}
 use Rattle.stages.proofs.see.Statement.{statement}

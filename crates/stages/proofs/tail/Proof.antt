@@ -1,3 +1,4 @@
+-- `stages::tail` meets its contract: by its tests and what the calls ensure. Assumes nothing.
 use Rattle.stages.specs.Tail.{tailOf}
 use borrow.Author.Needs.{needs}
 use Rattle.stages.proofs.tail.Statement.{statement}

@@ -1,3 +1,4 @@
+-- `stages::threshold` meets its contract: by its tests. Assumes nothing.
 use Rattle.stages.specs.See.{thresholdOf}
 use Rattle.stages.proofs.threshold.Statement.{statement}
 use Rattle.stages.proofs.threshold.Tie as tie

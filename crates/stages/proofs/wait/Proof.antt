@@ -1,3 +1,4 @@
+-- `stages::wait` meets its contract: by its tests and what the calls ensure. Assumes nothing.
 use Rattle.stages.specs.Tail.{waitOf}
 use borrow.Author.Needs.{needs}
 use Rattle.stages.proofs.wait.Statement.{statement}

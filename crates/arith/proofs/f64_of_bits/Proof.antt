@@ -1,0 +1,19 @@
+-- `arith::f64_of_bits` meets its contract: a NaN's pattern is looked at before it is read as a number. Assumes nothing.
+use mathlib.Core.Path.{sym, _∙_}
+use borrow.Author.Needs.{needs}
+use lib.Ieee.{binary64}
+use Rattle.arith.proofs.Nan.{nan-read, plain-read, zero-by-zero}
+use Rattle.arith.proofs.f64_of_bits.Statement.{statement}
+use Rattle.arith.proofs.f64_of_bits.Tie as tie
+
+returns : tie.Need-returns
+returns c = zero-by-zero binary64 ∙ sym (nan-read binary64 (c .before .args .n) (c .if1 .taken))
+
+float-from-bits-result : tie.Need-float-from-bits-result
+float-from-bits-result c = plain-read binary64 (c .before .args .n) (c .if1 .left)
+
+returns-2 : tie.Need-returns-2
+returns-2 c = search needs
+
+pub f64-of-bits-spec : {M : Type 1} → statement M
+f64-of-bits-spec = tie.close (tie.spec returns float-from-bits-result returns-2)

@@ -1,0 +1,99 @@
+-- The commands as document 01, "Commands", has them: over lists of bytes, little-endian.
+use Prim.Native.Nat.{ℕ, _+_, _*_}
+use mathlib.Core.Bool.{cond}
+use mathlib.Core.List.{List}
+use lib.ListN.{length, getD, drop}
+use lib.Dec.{eqb, ltb}
+use lib.Ieee.{Float, binary32, ofBits}
+use Rattle.arith.specs.declared.C32.{C32}
+use Rattle.ook.specs.declared.Settings.{Settings}
+use Rattle.lane.specs.declared.BeginArgs.{BeginArgs}
+use Rattle.lane.specs.declared.StepArgs.{StepArgs}
+use Rattle.lane.specs.declared.History.{History}
+use Rattle.commands.specs.declared.Command.{Command}
+use Rattle.commands.specs.declared.Command.the-variants.{End, Open, Begin, Step, Unknown, Short}
+
+-- the four bytes from i on, the least significant first
+unfoldable pub u32At : List ℕ → ℕ → ℕ
+u32At o i = getD o i 0 + getD o (i + 1) 0 * 0x100 + getD o (i + 2) 0 * 0x1_0000 + getD o (i + 3) 0 * 0x100_0000
+
+-- the eight bytes from i on
+unfoldable pub u64At : List ℕ → ℕ → ℕ
+u64At o i = u32At o i + u32At o (i + 4) * 0x1_0000_0000
+
+-- the float of the four bytes from i on: `nan` for every pattern of a NaN
+abbrev pub f32At : List ℕ → ℕ → Float
+f32At o i = ofBits binary32 (u32At o i)
+
+-- a sample, the real part first
+abbrev pub pairAt : List ℕ → ℕ → C32
+pairAt o i = record { re = f32At o i; im = f32At o (i + 4) }
+
+-- 01: mode u8, then five u32, then four f32; 37 operand bytes
+unfoldable pub settingsOf : List ℕ → Settings
+settingsOf o =
+    record {
+      mode = getD o 0 0;
+      «min_steps» = u32At o 1;
+      «gap_steps» = u32At o 5;
+      «pre_timeout» = u32At o 9;
+      «long_steps» = u32At o 13;
+      «max_pulses» = u32At o 17;
+      alpha = f32At o 21;
+      «gap_ratio» = f32At o 25;
+      «fsk_delta» = f32At o 29;
+      «fsk_split» = f32At o 33;
+    }
+
+-- the seven envelopes of 02, nearest first
+unfoldable pub historyOf : List ℕ → History
+historyOf o =
+    record {
+      e1 = f32At o 32;
+      e2 = f32At o 36;
+      e3 = f32At o 40;
+      e4 = f32At o 44;
+      e5 = f32At o 48;
+      e6 = f32At o 52;
+      e7 = f32At o 56;
+    }
+
+-- 02: index u64, factor, envelope, real, imaginary, previous real, previous imaginary, seven envelopes; 60 bytes
+unfoldable pub beginArgsOf : List ℕ → BeginArgs
+unfolding historyOf
+beginArgsOf o =
+    record {
+      index = u64At o 0;
+      factor = f32At o 8;
+      envelope = f32At o 12;
+      x = pairAt o 16;
+      before = pairAt o 24;
+      history = historyOf o;
+    }
+
+-- 03: index u64, noise, envelope, real, imaginary; 24 bytes
+unfoldable pub stepArgsOf : List ℕ → StepArgs
+stepArgsOf o = record { index = u64At o 0; noise = f32At o 8; envelope = f32At o 12; x = pairAt o 16 }
+
+-- a command whose n operand bytes are there, and refusal 2 otherwise
+abbrev pub within : ℕ → List ℕ → Command → Command
+within n o k = cond (ltb (length o) n) Short k
+
+-- what stands at the front of the bytes: refusal 1 where the command byte is none of the listed ones
+unfoldable pub decoded : List ℕ → Command
+unfolding settingsOf beginArgsOf stepArgsOf
+decoded s =
+    cond (ltb (length s) 1) End
+    (cond (eqb (getD s 0 0) 1) (within 37 (drop 1 s) (Open (settingsOf (drop 1 s))))
+    (cond (eqb (getD s 0 0) 2) (within 60 (drop 1 s) (Begin (beginArgsOf (drop 1 s))))
+    (cond (eqb (getD s 0 0) 3) (within 24 (drop 1 s) (Step (stepArgsOf (drop 1 s))))
+    Unknown)))
+
+-- how many bytes a command takes, its command byte counted; none where the stream ends
+abbrev pub sizeOf : Command → ℕ
+sizeOf End = 0
+sizeOf (Open p) = 38
+sizeOf (Begin b) = 61
+sizeOf (Step s) = 25
+sizeOf Unknown = 0
+sizeOf Short = 0

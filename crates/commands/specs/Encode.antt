@@ -1,0 +1,139 @@
+-- The commands as bytes, and the other direction of decoding: whatever values document 01's layout can carry, their
+-- bytes decode to these values and are not refused, whatever comes after them. Assumes nothing.
+use Prim.Native.Nat.{ℕ, _+_, _*_, _/_, _%_, _<_}
+use mathlib.Core.Path.{_≡_, _∙_, ap}
+use mathlib.Core.List.{List, [], _∷_, _++_}
+use native.Mathlib.Omega.{arith}
+use lib.ListN.{length, drop}
+use lib.Dec.{T}
+use lib.Ieee.{Float, binary32, ofBits, toBits, fits}
+use lib.Ieee.Bits.{ofBits-toBits, toBits-lt}
+use borrow.Author.Tests.{le-ltb}
+use Rattle.ook.specs.declared.Settings.{Settings}
+use Rattle.lane.specs.declared.BeginArgs.{BeginArgs}
+use Rattle.lane.specs.declared.StepArgs.{StepArgs}
+use Rattle.commands.specs.declared.Command.the-variants.{Open, Begin, Step}
+use Rattle.commands.specs.Command.{u32At, u64At, settingsOf, beginArgsOf, stepArgsOf, historyOf, decoded}
+
+-- ---- the layout
+
+-- four bytes, the least significant first
+abbrev pub word : ℕ → List ℕ
+word n = (n % 256) ∷ (n / 256 % 256) ∷ (n / 256 / 256 % 256) ∷ (n / 256 / 256 / 256 % 256) ∷ []
+
+abbrev pub word64 : ℕ → List ℕ
+word64 n = word (n % 0x1_0000_0000) ++ word (n / 0x1_0000_0000)
+
+abbrev pub float : Float → List ℕ
+float x = word (toBits binary32 x)
+
+-- 01
+abbrev pub openBytes : Settings → List ℕ
+openBytes p =
+    1 ∷ p .mode
+    ∷ (word (p .«min_steps») ++ (word (p .«gap_steps») ++ (word (p .«pre_timeout») ++ (word (p .«long_steps») ++ (word (p .«max_pulses»)
+    ++ (float (p .alpha) ++ (float (p .«gap_ratio») ++ (float (p .«fsk_delta») ++ (float (p .«fsk_split») ++ [])))))))))
+
+-- 02
+abbrev pub beginBytes : BeginArgs → List ℕ
+beginBytes b =
+    2
+    ∷ (word64 (b .index) ++ (float (b .factor) ++ (float (b .envelope)
+    ++ (float (b .x .re) ++ (float (b .x .im) ++ (float (b .before .re) ++ (float (b .before .im)
+    ++ (float (b .history .e1) ++ (float (b .history .e2) ++ (float (b .history .e3) ++ (float (b .history .e4)
+    ++ (float (b .history .e5) ++ (float (b .history .e6) ++ (float (b .history .e7) ++ []))))))))))))))
+
+-- 03
+abbrev pub stepBytes : StepArgs → List ℕ
+stepBytes s = 3 ∷ (word64 (s .index) ++ (float (s .noise) ++ (float (s .envelope) ++ (float (s .x .re) ++ (float (s .x .im) ++ [])))))
+
+-- ---- the values that the layout can carry
+
+abbrev pub Word : ℕ → Type 0
+Word n = n < 0x1_0000_0000
+
+abbrev pub Single : Float → Type 0
+Single x = T (fits binary32 x)
+
+abbrev pub OpenFits : Settings → Type 0
+OpenFits p =
+    Word (p .«min_steps») × Word (p .«gap_steps») × Word (p .«pre_timeout») × Word (p .«long_steps») × Word (p .«max_pulses»)
+    × Single (p .alpha) × Single (p .«gap_ratio») × Single (p .«fsk_delta») × Single (p .«fsk_split»)
+
+abbrev pub BeginFits : BeginArgs → Type 0
+BeginFits b =
+    (b .index < 0x1_0000_0000_0000_0000) × Single (b .factor) × Single (b .envelope)
+    × Single (b .x .re) × Single (b .x .im) × Single (b .before .re) × Single (b .before .im)
+    × Single (b .history .e1) × Single (b .history .e2) × Single (b .history .e3) × Single (b .history .e4)
+    × Single (b .history .e5) × Single (b .history .e6) × Single (b .history .e7)
+
+abbrev pub StepFits : StepArgs → Type 0
+StepFits s =
+    (s .index < 0x1_0000_0000_0000_0000) × Single (s .noise) × Single (s .envelope) × Single (s .x .re) × Single (s .x .im)
+
+-- ---- bytes and back
+
+-- the number that four bytes stand for
+abbrev back : ℕ → ℕ
+back n = n % 256 + n / 256 % 256 * 256 + n / 256 / 256 % 256 * 65536 + n / 256 / 256 / 256 % 256 * 16777216
+
+word-back : (n : ℕ) → Word n → back n ≡ n
+word-back n h = omega arith
+
+index-back : (n : ℕ) → n < 0x1_0000_0000_0000_0000 → back (n % 0x1_0000_0000) + back (n / 0x1_0000_0000) * 0x1_0000_0000 ≡ n
+index-back n h = omega (arith, word-back (n % 0x1_0000_0000) (omega arith), word-back (n / 0x1_0000_0000) (omega arith))
+
+float-back : (x : Float) → Single x → ofBits binary32 (back (toBits binary32 x)) ≡ x
+float-back x h = ap (ofBits binary32) (word-back (toBits binary32 x) (toBits-lt binary32 x h)) ∙ ofBits-toBits binary32 x h
+
+pub open-back : (p : Settings) (t : List ℕ) → OpenFits p → decoded (openBytes p ++ t) ≡ Open p
+unfolding decoded settingsOf u32At u64At
+open-back p t h =
+    simp (
+      le-ltb (length (openBytes p ++ t)) 1 (omega arith),
+      le-ltb (length (drop 1 (openBytes p ++ t))) 37 (omega arith),
+      word-back (p .«min_steps») (h .0),
+      word-back (p .«gap_steps») (h .1),
+      word-back (p .«pre_timeout») (h .2),
+      word-back (p .«long_steps») (h .3),
+      word-back (p .«max_pulses») (h .4),
+      float-back (p .alpha) (h .5),
+      float-back (p .«gap_ratio») (h .6),
+      float-back (p .«fsk_delta») (h .7),
+      float-back (p .«fsk_split») (h .8),
+    )
+
+pub begin-back : (b : BeginArgs) (t : List ℕ) → BeginFits b → decoded (beginBytes b ++ t) ≡ Begin b
+unfolding decoded beginArgsOf historyOf u32At u64At
+begin-back b t h =
+    simp (
+      le-ltb (length (beginBytes b ++ t)) 1 (omega arith),
+      le-ltb (length (drop 1 (beginBytes b ++ t))) 60 (omega arith),
+      index-back (b .index) (h .0),
+      float-back (b .factor) (h .1),
+      float-back (b .envelope) (h .2),
+      float-back (b .x .re) (h .3),
+      float-back (b .x .im) (h .4),
+      float-back (b .before .re) (h .5),
+      float-back (b .before .im) (h .6),
+      float-back (b .history .e1) (h .7),
+      float-back (b .history .e2) (h .8),
+      float-back (b .history .e3) (h .9),
+      float-back (b .history .e4) (h .10),
+      float-back (b .history .e5) (h .11),
+      float-back (b .history .e6) (h .12),
+      float-back (b .history .e7) (h .13),
+    )
+
+pub step-back : (s : StepArgs) (t : List ℕ) → StepFits s → decoded (stepBytes s ++ t) ≡ Step s
+unfolding decoded stepArgsOf u32At u64At
+step-back s t h =
+    simp (
+      le-ltb (length (stepBytes s ++ t)) 1 (omega arith),
+      le-ltb (length (drop 1 (stepBytes s ++ t))) 24 (omega arith),
+      index-back (s .index) (h .0),
+      float-back (s .noise) (h .1),
+      float-back (s .envelope) (h .2),
+      float-back (s .x .re) (h .3),
+      float-back (s .x .im) (h .4),
+    )

@@ -1,0 +1,121 @@
+-- Laws of the decoder that a reader of a stream needs. Assumes nothing.
+use Prim.Native.Nat.{ℕ, suc, _+_, _<_, _≤_}
+use mathlib.Core.Bool.{Bool, true, false, cond}
+use mathlib.Core.Path.{_≡_, refl, ap}
+use mathlib.Core.List.{List, [], _∷_, _++_}
+use native.Mathlib.Omega.{arith}
+use lib.ListN.{length, length-append, List·getD-append}
+use lib.Dec.{eqb, ltb}
+use borrow.Author.Tests.{ltb-false, le-ltb}
+use native.Mathlib.Nat.{not-suc-le-zero}
+use Rattle.commands.specs.declared.Command.{Command}
+use Rattle.commands.specs.declared.Command.the-variants.{Open, Begin, Step, Short}
+use Rattle.commands.specs.Command.{u32At, u64At, settingsOf, beginArgsOf, stepArgsOf, historyOf, within, decoded, sizeOf}
+
+-- ---- a command that lies in the bytes takes no more of them than there are
+
+pick : (b : Bool) (x y : Command) (n : ℕ) → sizeOf x ≤ n → sizeOf y ≤ n → sizeOf (cond b x y) ≤ n
+pick true x y n h k = h
+pick false x y n h k = k
+
+held : (o : List ℕ) (m n : ℕ) (x : Command) → sizeOf x ≡ suc m → length o < n → sizeOf (within m o x) ≤ n
+held o m n x e h = go (ltb (length o) m) refl
+  where
+    go : (b : Bool) → ltb (length o) m ≡ b → sizeOf (cond b Short x) ≤ n
+    go true q = omega arith
+    go false q = omega (arith, ltb-false (length o) m q)
+
+pub size-fits : (s : List ℕ) → sizeOf (decoded s) ≤ length s
+unfolding decoded
+size-fits [] = omega arith
+size-fits (b ∷ o) =
+    pick (ltb (length (b ∷ o)) 1) _ _ _ (omega arith)
+    (pick (eqb b 1) _ _ _ (held o 37 _ _ refl (omega arith))
+    (pick (eqb b 2) _ _ _ (held o 60 _ _ refl (omega arith))
+    (pick (eqb b 3) _ _ _ (held o 24 _ _ refl (omega arith)) (omega arith))))
+
+-- ---- bytes that come after a whole command change nothing
+
+u32-more : (o t : List ℕ) (i : ℕ) → i + 4 ≤ length o → u32At (o ++ t) i ≡ u32At o i
+unfolding u32At
+u32-more o t i h =
+    simp (
+      List·getD-append o t 0 i (omega arith),
+      List·getD-append o t 0 (i + 1) (omega arith),
+      List·getD-append o t 0 (i + 2) (omega arith),
+      List·getD-append o t 0 (i + 3) (omega arith),
+    )
+
+u64-more : (o t : List ℕ) (i : ℕ) → i + 8 ≤ length o → u64At (o ++ t) i ≡ u64At o i
+unfolding u64At
+u64-more o t i h = simp (u32-more o t i (omega arith), u32-more o t (i + 4) (omega arith))
+
+settings-more : (o t : List ℕ) → 37 ≤ length o → settingsOf (o ++ t) ≡ settingsOf o
+unfolding settingsOf
+settings-more o t h =
+    simp (
+      List·getD-append o t 0 0 (omega arith),
+      u32-more o t 1 (omega arith),
+      u32-more o t 5 (omega arith),
+      u32-more o t 9 (omega arith),
+      u32-more o t 13 (omega arith),
+      u32-more o t 17 (omega arith),
+      u32-more o t 21 (omega arith),
+      u32-more o t 25 (omega arith),
+      u32-more o t 29 (omega arith),
+      u32-more o t 33 (omega arith),
+    )
+
+history-more : (o t : List ℕ) → 60 ≤ length o → historyOf (o ++ t) ≡ historyOf o
+unfolding historyOf
+history-more o t h =
+    simp (
+      u32-more o t 32 (omega arith),
+      u32-more o t 36 (omega arith),
+      u32-more o t 40 (omega arith),
+      u32-more o t 44 (omega arith),
+      u32-more o t 48 (omega arith),
+      u32-more o t 52 (omega arith),
+      u32-more o t 56 (omega arith),
+    )
+
+begin-more : (o t : List ℕ) → 60 ≤ length o → beginArgsOf (o ++ t) ≡ beginArgsOf o
+unfolding beginArgsOf
+begin-more o t h =
+    simp (
+      u64-more o t 0 (omega arith),
+      u32-more o t 8 (omega arith),
+      u32-more o t 12 (omega arith),
+      u32-more o t 16 (omega arith),
+      u32-more o t 20 (omega arith),
+      u32-more o t 24 (omega arith),
+      u32-more o t 28 (omega arith),
+      history-more o t h,
+    )
+
+step-more : (o t : List ℕ) → 24 ≤ length o → stepArgsOf (o ++ t) ≡ stepArgsOf o
+unfolding stepArgsOf
+step-more o t h =
+    simp (
+      u64-more o t 0 (omega arith),
+      u32-more o t 8 (omega arith),
+      u32-more o t 12 (omega arith),
+      u32-more o t 16 (omega arith),
+      u32-more o t 20 (omega arith),
+    )
+
+within-more : (n : ℕ) (o t : List ℕ) (x y : Command) → n ≤ length o → x ≡ y → within n (o ++ t) x ≡ within n o y
+within-more n o t x y h e =
+    simp (le-ltb (length (o ++ t)) n (omega (arith, length-append o t)), le-ltb (length o) n h, e)
+
+pub decoded-more : (s t : List ℕ) → 61 ≤ length s → decoded (s ++ t) ≡ decoded s
+unfolding decoded
+decoded-more [] t h = absurd (not-suc-le-zero h)
+decoded-more (b ∷ o) t h =
+    simp (
+      le-ltb (suc (length (o ++ t))) 1 (omega arith),
+      le-ltb (suc (length o)) 1 (omega arith),
+      within-more 37 o t (Open (settingsOf (o ++ t))) (Open (settingsOf o)) (omega arith) (ap Open (settings-more o t (omega arith))),
+      within-more 60 o t (Begin (beginArgsOf (o ++ t))) (Begin (beginArgsOf o)) (omega arith) (ap Begin (begin-more o t (omega arith))),
+      within-more 24 o t (Step (stepArgsOf (o ++ t))) (Step (stepArgsOf o)) (omega arith) (ap Step (step-more o t (omega arith))),
+    )

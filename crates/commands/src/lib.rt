@@ -1,0 +1,234 @@
+// The commands of the listing program, decoded from bytes (document 01, "Commands", and its
+// refusals 1 and 2).
+ghost use mathlib.Core.Path.{_≡_};
+ghost use Prim.Native.Nat.{_+_, _≤_, _<_};
+ghost use lib.ListN.{length, drop};
+ghost use lib.Ieee.{binary32, ofBits};
+ghost use Rattle.commands.specs.Command.{u32At, u64At, f32At, pairAt, historyOf, settingsOf, beginArgsOf, stepArgsOf, decoded, sizeOf};
+use arith::C32;
+use lane::BeginArgs;
+use lane::History;
+use lane::StepArgs;
+use ook::Settings;
+
+pub enum Command {
+    // Nothing is left.
+    End,
+    Open(Settings),
+    Begin(BeginArgs),
+    Step(StepArgs),
+    // Refusal 1: the command byte is none of the listed ones.
+    Unknown,
+    // Refusal 2: fewer operand bytes are left than the command has.
+    Short,
+}
+
+// ---- operands
+
+fn wide(b: u8) -> u32
+    ensures { λ r. ⌜ (r ≡ b) × (r < 256) ⌝ }
+{
+    b as u32
+}
+
+// The four bytes from i on, little-endian.
+fn u32_at(o: &[u8], i: usize) -> u32
+    requires { ⌜ i + 4 ≤ length (now o) ⌝ }
+    ensures { λ r. ⌜ r ≡ u32At (now (o .entry)) i ⌝ }
+{
+    let a = wide(o[i]);
+    let b = wide(o[i + 1]);
+    let c = wide(o[i + 2]);
+    let d = wide(o[i + 3]);
+    a + b * 0x100 + c * 0x1_0000 + d * 0x100_0000
+}
+
+fn u64_at(o: &[u8], i: usize) -> u64
+    requires { ⌜ i + 8 ≤ length (now o) ⌝ }
+    ensures { λ r. ⌜ r ≡ u64At (now (o .entry)) i ⌝ }
+{
+    let low = u32_at(o, i) as u64;
+    let high = u32_at(o, i + 4) as u64;
+    low + high * 0x1_0000_0000
+}
+
+// The float of a bit pattern. Every pattern of a NaN gives the one NaN, as 0 / 0 does.
+fn float_of(n: u32) -> f32
+    ensures { λ r. ⌜ r ≡ ofBits binary32 n ⌝ }
+{
+    if n % 0x8000_0000 > 0x7f80_0000 {
+        return 0.0 / 0.0;
+    }
+    f32::from_bits(n)
+}
+
+fn f32_at(o: &[u8], i: usize) -> f32
+    requires { ⌜ i + 4 ≤ length (now o) ⌝ }
+    ensures { λ r. ⌜ r ≡ f32At (now (o .entry)) i ⌝ }
+{
+    float_of(u32_at(o, i))
+}
+
+fn pair_at(o: &[u8], i: usize) -> C32
+    requires { ⌜ i + 8 ≤ length (now o) ⌝ }
+    ensures { λ r. ⌜ r ≡ pairAt (now (o .entry)) i ⌝ }
+{
+    let re = f32_at(o, i);
+    let im = f32_at(o, i + 4);
+    C32 { re, im }
+}
+
+fn settings_of(o: &[u8]) -> Settings
+    requires { ⌜ 37 ≤ length (now o) ⌝ }
+    ensures { λ r. ⌜ r ≡ settingsOf (now (o .entry)) ⌝ }
+{
+    let mode = wide(o[0]);
+    let min_steps = u32_at(o, 1);
+    let gap_steps = u32_at(o, 5);
+    let pre_timeout = u32_at(o, 9);
+    let long_steps = u32_at(o, 13);
+    let max_pulses = u32_at(o, 17);
+    let alpha = f32_at(o, 21);
+    let gap_ratio = f32_at(o, 25);
+    let fsk_delta = f32_at(o, 29);
+    let fsk_split = f32_at(o, 33);
+    Settings {
+        mode,
+        min_steps,
+        gap_steps,
+        pre_timeout,
+        long_steps,
+        max_pulses,
+        alpha,
+        gap_ratio,
+        fsk_delta,
+        fsk_split,
+    }
+}
+
+fn history_of(o: &[u8]) -> History
+    requires { ⌜ 60 ≤ length (now o) ⌝ }
+    ensures { λ r. ⌜ r ≡ historyOf (now (o .entry)) ⌝ }
+{
+    let e1 = f32_at(o, 32);
+    let e2 = f32_at(o, 36);
+    let e3 = f32_at(o, 40);
+    let e4 = f32_at(o, 44);
+    let e5 = f32_at(o, 48);
+    let e6 = f32_at(o, 52);
+    let e7 = f32_at(o, 56);
+    History {
+        e1,
+        e2,
+        e3,
+        e4,
+        e5,
+        e6,
+        e7,
+    }
+}
+
+fn begin_args(o: &[u8]) -> BeginArgs
+    requires { ⌜ 60 ≤ length (now o) ⌝ }
+    ensures { λ r. ⌜ r ≡ beginArgsOf (now (o .entry)) ⌝ }
+{
+    let index = u64_at(o, 0);
+    let factor = f32_at(o, 8);
+    let envelope = f32_at(o, 12);
+    let x = pair_at(o, 16);
+    let before = pair_at(o, 24);
+    let history = history_of(o);
+    BeginArgs {
+        index,
+        factor,
+        envelope,
+        x,
+        before,
+        history,
+    }
+}
+
+fn step_args(o: &[u8]) -> StepArgs
+    requires { ⌜ 24 ≤ length (now o) ⌝ }
+    ensures { λ r. ⌜ r ≡ stepArgsOf (now (o .entry)) ⌝ }
+{
+    let index = u64_at(o, 0);
+    let noise = f32_at(o, 8);
+    let envelope = f32_at(o, 12);
+    let x = pair_at(o, 16);
+    StepArgs {
+        index,
+        noise,
+        envelope,
+        x,
+    }
+}
+
+// ---- commands
+
+// The bytes from a place on, none where there are not so many.
+fn after(s: &[u8], a: usize) -> &[u8]
+    ensures { λ r. ⌜ now r ≡ drop a (now (s .entry)) ⌝ }
+{
+    if a <= s.len() {
+        return &s[a..];
+    }
+    &s[..0]
+}
+
+// What stands at the front of the bytes.
+fn decode(s: &[u8]) -> Command
+    ensures { λ r. ⌜ r ≡ decoded (now (s .entry)) ⌝ }
+{
+    if s.len() < 1 {
+        return Command::End;
+    }
+    let b = s[0];
+    let o = after(s, 1);
+    let opens = b == 1;
+    if opens {
+        if o.len() < 37 {
+            return Command::Short;
+        }
+        let p = settings_of(o);
+        return Command::Open(p);
+    }
+    let begins = b == 2;
+    if begins {
+        if o.len() < 60 {
+            return Command::Short;
+        }
+        let p = begin_args(o);
+        return Command::Begin(p);
+    }
+    let steps = b == 3;
+    if steps {
+        if o.len() < 24 {
+            return Command::Short;
+        }
+        let p = step_args(o);
+        return Command::Step(p);
+    }
+    Command::Unknown
+}
+
+// What stands at a place of the bytes.
+pub fn decode_at(s: &[u8], at: usize) -> Command
+    ensures { λ r. ⌜ r ≡ decoded (drop at (now (s .entry))) ⌝ }
+{
+    decode(after(s, at))
+}
+
+// How many bytes a command takes.
+pub fn size_of(k: Command) -> usize
+    ensures { λ r. ⌜ r ≡ sizeOf k ⌝ }
+{
+    match k {
+        Command::End => 0,
+        Command::Open(_) => 38,
+        Command::Begin(_) => 61,
+        Command::Step(_) => 25,
+        Command::Unknown => 0,
+        Command::Short => 0,
+    }
+}

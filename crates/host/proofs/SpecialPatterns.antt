@@ -1,0 +1,16 @@
+-- `laneSqrtOf` gives what document 01 asks of the special operands. Assumes nothing.
+use mathlib.Core.Path.{refl, ap, _∙_}
+use lib.Ieee.{binary32, ofBits, toBits}
+use Rattle.arith.specs.Root.{sqrtOf}
+use Rattle.arith.proofs.Nan.{nan-read, nan-written32}
+use Rattle.arith.proofs.RootSpecial.{nan-root, negative-root}
+use Rattle.host.specs.SquareRoot.{laneSqrtOf, SpecialPatterns}
+
+pub special-patterns : SpecialPatterns laneSqrtOf
+unfolding sqrtOf ofBits toBits
+special-patterns = record {
+  minus-zero = refl;
+  infinity = refl;
+  no-number = λ b h. ap (toBits binary32) (ap sqrtOf (nan-read binary32 b h) ∙ nan-root) ∙ nan-written32;
+  negative = λ b h k. ap (toBits binary32) (negative-root b h k) ∙ nan-written32;
+}

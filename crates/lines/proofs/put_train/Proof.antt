@@ -1,0 +1,35 @@
+use Prim.Native.Nat.{ℕ, _+_, _*_}
+use mathlib.Core.Path.{ap}
+use mathlib.Core.List.{_++_}
+use native.Mathlib.Omega.{arith}
+use lib.ListN.{length}
+use Rattle.lines.specs.Line.{trainHead, trainTail, trainLine}
+use Rattle.lines.specs.Laws.{then, within, same}
+use borrow.Author.Needs.{needs}
+use Rattle.lines.proofs.put_train.Statement.{statement}
+use Rattle.lines.proofs.put_train.Tie as tie
+
+span-of-requires : tie.Need-span-of-requires
+span-of-requires c κs = search needs
+
+put-head-requires : tie.Need-put-head-requires
+put-head-requires c κs = search needs
+
+put-tail-requires : tie.Need-put-tail-requires
+put-tail-requires c κs = search needs
+
+same-length : tie.Need-same-length
+same-length c = search needs
+
+returns : tie.Need-returns
+unfolding trainLine
+returns c =
+    let a = c .before .before .before .before .before .before .before .before .before .before .before .args in
+    within (160 + 21 * length (a .part .now)) (omega arith)
+    (same (ap (λ (s : ℕ). trainHead (a .o) s ++ trainTail (a .o) (a .part .now)) (c .before .before .before .before .before .before .before .before .span-of .ensures))
+    (then (c .before .before .before .before .before .before .put-head .ensures)
+    (c .before .before .put-tail .ensures)))
+
+pub put-train-spec : {M : Type 1} → statement M
+put-train-spec =
+    tie.close (tie.spec span-of-requires put-head-requires put-tail-requires same-length returns)

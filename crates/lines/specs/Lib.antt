@@ -1,0 +1,4 @@
+pub mod Line
+pub mod Laws
+pub mod Room
+pub mod Worked

@@ -1,0 +1,187 @@
+// The turns of the listing program: the command at a place of the bytes is decoded, the lane called
+// with both buffers lent, and the call's lines written; and the turns of a whole block of bytes.
+ghost use mathlib.Core.Path.{_≡_};
+ghost use mathlib.Core.Bool.{true};
+ghost use mathlib.Core.List.{List};
+ghost use Prim.Native.Nat.{ℕ, _≤_, _<_};
+ghost use lib.ListN.{length};
+ghost use Rattle.lines.specs.Line.{hasRoom, put};
+ghost use Rattle.turns.specs.Turn.{Called, called, indexOf, answerText, Turn, placeOf, leastOf};
+ghost use Rattle.turns.specs.Stream.{Streamed};
+use commands::Command;
+use lane::Answer;
+use lane::Lane;
+use lane::Reply;
+use lines::Written;
+use ook::Out;
+
+// ---- one command
+
+// The index that a call's phase line has.
+fn index_of(k: Command) -> u64
+    ensures { λ r. ⌜ r ≡ indexOf k ⌝ }
+{
+    match k {
+        Command::End => 0,
+        Command::Open(_) => 0,
+        Command::Begin(b) => b.index,
+        Command::Step(s) => s.index,
+        Command::Unknown => 0,
+        Command::Short => 0,
+    }
+}
+
+// The lane's answer to a command, or refusal 1 or 2.
+fn call(l: Lane, k: Command, ook: &mut [u32], fsk: &mut [u32]) -> Answer
+    ensures { λ r. ⌜ _≡_ {A = Called} (r, now (ook .exit), now (fsk .exit)) (called (l, now (ook .entry), now (fsk .entry)) k) ⌝ }
+{
+    match k {
+        Command::End => Answer {
+            reply: Reply::Stay,
+            lane: l,
+        },
+        Command::Open(p) => lane::open(l, p),
+        Command::Begin(b) => lane::begin(l, b, ook, fsk),
+        Command::Step(s) => lane::step(l, s, ook, fsk),
+        Command::Unknown => Answer {
+            reply: Reply::Refused(1),
+            lane: l,
+        },
+        Command::Short => Answer {
+            reply: Reply::Refused(2),
+            lane: l,
+        },
+    }
+}
+
+fn place_of(w: Written, at: usize) -> usize
+    ensures { λ r. ⌜ r ≡ placeOf w at ⌝ }
+{
+    match w {
+        Written::At(e) => e,
+        Written::NoRoom => at,
+    }
+}
+
+// Writes the lines of a call: its reply, and its two records with their parts of the buffers, none
+// of which has more than `most` slots.
+fn put_answer<'a>(
+    r: Reply,
+    f: Out,
+    o: Out,
+    index: u64,
+    ook: &'a [u32],
+    fsk: &'a [u32],
+    most: usize,
+    text: &mut [u8],
+    at: usize,
+) -> usize
+    requires { ⌜ (length (now ook) ≤ most) × (length (now fsk) ≤ most) × (hasRoom most (length (now text)) at ≡ true) ⌝ }
+    ensures { λ e. ⌜ _≡_ {A = ℕ × List ℕ} (e, now (text .exit)) (put (answerText r f o (now (ook .entry)) (now (fsk .entry)) index) (at, now (text .entry))) ⌝ }
+{
+    let fs = lane::part(f, ook, fsk);
+    let os = lane::part(o, ook, fsk);
+    let w = lines::call_lines(r, f, fs, o, os, index, text, at);
+    place_of(w, at)
+}
+
+pub struct Turned {
+    pub lane: Lane,
+    // The bytes that the command took; none where the stream ends.
+    pub size: usize,
+    // The place after the lines.
+    pub at: usize,
+}
+
+// The command at a place of the bytes.
+fn turn(
+    l: Lane,
+    s: &[u8],
+    from: usize,
+    ook: &mut [u32],
+    fsk: &mut [u32],
+    most: usize,
+    text: &mut [u8],
+    at: usize,
+) -> Turned
+    requires { ⌜ (from < length (now s)) × (length (now ook) ≤ most) × (length (now fsk) ≤ most) × (hasRoom most (length (now text)) at ≡ true) ⌝ }
+    ensures { λ r. ⌜ Turn (l, now (ook .entry), now (fsk .entry)) (now (s .entry)) from at (now (text .entry)) (r, now (ook .exit), now (fsk .exit), now (text .exit)) ⌝ }
+{
+    let k = commands::decode_at(s, from);
+    let size = commands::size_of(k);
+    let index = index_of(k);
+    let a = call(l, k, ook, fsk);
+    let n = a.lane;
+    let r = a.reply;
+    let f = n.burst.out_fsk;
+    let o = n.burst.out_ook;
+    let e = put_answer(r, f, o, index, ook, fsk, most, text, at);
+    Turned {
+        lane: n,
+        size,
+        at: e,
+    }
+}
+
+// ---- a block of bytes
+
+pub struct Ran {
+    pub lane: Lane,
+    // The bytes that the block's commands took.
+    pub used: usize,
+    // The place after the lines.
+    pub at: usize,
+    // Whether the stream has ended, by refusal 1 or 2.
+    pub ended: bool,
+}
+
+// How many bytes have to be there before a command is decoded: the longest command's, or one where
+// no more will come.
+fn least_of(last: bool) -> usize
+    ensures { λ r. ⌜ r ≡ leastOf last ⌝ }
+{
+    if last {
+        return 1;
+    }
+    61
+}
+
+// The turns of a block of bytes, until too few are left for a command, the text has no room, or the
+// stream ends. `last` says that no byte will come after the block.
+pub fn block(
+    lane: Lane,
+    s: &[u8],
+    last: bool,
+    ook: &mut [u32],
+    fsk: &mut [u32],
+    text: &mut [u8],
+) -> Ran
+    ensures { λ r. ⌜ Streamed (lane, now (ook .entry), now (fsk .entry)) (now (s .entry)) last r (r .lane, now (ook .exit), now (fsk .exit)) (now (text .exit)) ⌝ }
+{
+    let least = least_of(last);
+    let most = lines::larger(ook.len(), fsk.len());
+    let mut l = lane;
+    let mut used = 0;
+    let mut at = 0;
+    let mut ended = false;
+    while s.len() - used >= least {
+        let room = lines::has_room(most, text.len(), at);
+        if !room {
+            break;
+        }
+        let t = turn(l, s, used, ook, fsk, most, text, at);
+        l = t.lane;
+        at = t.at;
+        if t.size == 0 {
+            ended = true;
+            break;
+        }
+        used += t.size;
+    }
+    Ran {
+        lane: l,
+        used,
+        at,
+        ended,
+    }
+}

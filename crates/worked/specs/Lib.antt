@@ -1,0 +1,2 @@
+-- The worked examples of document 01.
+pub mod Worked

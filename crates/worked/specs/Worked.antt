@@ -1,0 +1,76 @@
+-- Document 01, "Worked bursts": the examples M1 to M5 and M9 as one table. A row has a question and the numbers that the paper gives for it.
+-- A question of a further kind is a constructor of `Asked` and a clause of `answer`.
+use Prim.Native.Nat.{ℕ}
+use mathlib.Core.Path.{_≡_}
+use mathlib.Core.List.{List, [], _∷_, map}
+use lib.Ieee.{binary32, binary64, ofBits, toBits, ofInt, isNan, sub, mul, div, lt}
+use Rattle.arith.specs.Rounding.{roundOf}
+use Rattle.arith.specs.Root.{sqrtOf}
+use Rattle.arith.specs.Leaves.{crossOf, gainOf, leadLenOf, nearestIn}
+use Rattle.grid.specs.Slots.{timeOf, lastRiseBelow, lastRise, times, upTo, transitionsOf, fold}
+use Rattle.grid.specs.Widths.{shorterOf, runsStep, runsOf, addedOf, meanAfter, meanStep, meanOf, gridOf, measuredOf, widthsOn, fskWidthsOf}
+
+-- a float is its bit pattern
+pub data Asked : Type 0 where
+  round : ℕ → Asked
+  sqrt : ℕ → Asked
+  cross : ℕ → ℕ → ℕ → Asked
+  a-gain : ℕ → Asked
+  lead-len : ℕ → Asked
+  fsk-widths : List ℕ → Asked
+
+abbrev one : ℕ → List ℕ
+one n = n ∷ []
+
+-- the answer that the definition has
+unfoldable pub answer : Asked → List ℕ
+unfolding roundOf sqrtOf crossOf gainOf ofBits toBits ofInt isNan sub mul div lt nearestIn timeOf lastRiseBelow lastRise times upTo transitionsOf fold shorterOf runsStep runsOf addedOf meanAfter meanStep meanOf gridOf measuredOf widthsOn fskWidthsOf
+answer (round x) = one (toBits binary64 (roundOf (ofBits binary64 x)))
+answer (sqrt x) = one (toBits binary32 (sqrtOf (ofBits binary32 x)))
+answer (cross prev cur thr) = one (toBits binary64 (crossOf (ofBits binary32 prev) (ofBits binary32 cur) (ofBits binary32 thr)))
+answer (a-gain e) = one (toBits binary32 (gainOf (ofBits binary32 e)))
+answer (lead-len m) = one (leadLenOf m)
+answer (fsk-widths slots) = fskWidthsOf slots
+
+pub data Row : Type 0 where
+  row : Asked → List ℕ → Row
+
+abbrev pub answered : Row → List ℕ
+answered (row q n) = answer q
+
+abbrev pub given : Row → List ℕ
+given (row q n) = n
+
+-- the statement: each row's answer is what the paper gives
+abbrev pub Right : List Row → Type 0
+Right rows = map answered rows ≡ map given rows
+
+abbrev pub table : List Row
+table =
+    -- M1: 2.5 gives 3, -2.5 gives -3, 0.5 gives 1
+    row (round 0x4004_0000_0000_0000) (0x4008_0000_0000_0000 ∷ [])
+    ∷ row (round 0xc004_0000_0000_0000) (0xc008_0000_0000_0000 ∷ [])
+    ∷ row (round 0x3fe0_0000_0000_0000) (0x3ff0_0000_0000_0000 ∷ [])
+    -- M2: 16 gives 4; 2 gives 3fb504f3; bits 00000001 give 1a3504f3; 0 gives 0
+    ∷ row (sqrt 0x4180_0000) (0x4080_0000 ∷ [])
+    ∷ row (sqrt 0x4000_0000) (0x3fb5_04f3 ∷ [])
+    ∷ row (sqrt 0x0000_0001) (0x1a35_04f3 ∷ [])
+    ∷ row (sqrt 0) (0 ∷ [])
+    -- M3: (0, 8, 4) 0.5; (3, 3, 3) 1; (0, 8, 9) 1
+    ∷ row (cross 0 0x4100_0000 0x4080_0000) (0x3fe0_0000_0000_0000 ∷ [])
+    ∷ row (cross 0x4040_0000 0x4040_0000 0x4040_0000) (0x3ff0_0000_0000_0000 ∷ [])
+    ∷ row (cross 0 0x4100_0000 0x4110_0000) (0x3ff0_0000_0000_0000 ∷ [])
+    -- M4: 1 gives 1, 2 gives 0.25, 0 gives 0
+    ∷ row (a-gain 0x3f80_0000) (0x3f80_0000 ∷ [])
+    ∷ row (a-gain 0x4000_0000) (0x3e80_0000 ∷ [])
+    ∷ row (a-gain 0) (0 ∷ [])
+    -- M5: 1 gives 3, 2 gives 7, 4 gives 15, 5 gives 16
+    ∷ row (lead-len 1) (3 ∷ [])
+    ∷ row (lead-len 2) (7 ∷ [])
+    ∷ row (lead-len 4) (15 ∷ [])
+    ∷ row (lead-len 5) (16 ∷ [])
+    -- M9: slots 64, 0 give 1, 0; slots 128, 192 give 2, 1; the empty list stays empty
+    ∷ row (fsk-widths (64 ∷ 0 ∷ [])) (1 ∷ 0 ∷ [])
+    ∷ row (fsk-widths (128 ∷ 192 ∷ [])) (2 ∷ 1 ∷ [])
+    ∷ row (fsk-widths []) []
+    ∷ []

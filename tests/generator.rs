@@ -1,0 +1,251 @@
+//! Command streams from a seed: openings, bursts of every kind of signal, refused commands in between, damaged ones. A reference
+//! receiver follows the stream, so that a burst is begun where the lane is idle and stepped until it is idle again.
+
+use std::collections::BTreeMap;
+
+use crate::random::Random;
+use crate::receiver::{Receiver, Reply};
+use crate::signal::{
+    AT_EDGES, Generator, KINDS, Kind, OUTSIDE, Tick, WORKED, begin_command, part, step_command, value,
+};
+
+const INDEX_MOST: u64 = 1 << 40;
+
+/// The bytes of the command that starts with this one; of another byte or none, more than there are.
+fn size(command: Option<&u8>) -> usize {
+    match command {
+        Some(1) => 38,
+        Some(2) => 61,
+        Some(3) => 25,
+        Some(_) => 1,
+        None => usize::MAX,
+    }
+}
+
+/// A stream under way: its bytes, those that made calls, and the receiver that follows them.
+pub struct Stream {
+    pub bytes: Vec<u8>,
+    taken: usize,
+    receiver: Receiver,
+    pub calls: u64,
+    ended: bool,
+    /// How often each kind of call and reply came.
+    pub census: BTreeMap<String, u64>,
+}
+
+impl Stream {
+    fn new() -> Self {
+        Self { bytes: Vec::new(), taken: 0, receiver: Receiver::new(), calls: 0, ended: false, census: BTreeMap::new() }
+    }
+
+    fn count(&mut self, what: &str) {
+        *self.census.entry(what.to_string()).or_default() += 1;
+    }
+
+    /// Sends bytes; the receiver makes every call that is whole by now. True if the last one was accepted.
+    fn send(&mut self, bytes: &[u8]) -> bool {
+        let mut accepted = false;
+        self.bytes.extend(bytes);
+        while !self.ended && self.bytes.len() - self.taken >= size(self.bytes[self.taken..].first()) {
+            accepted = self.call();
+        }
+        accepted
+    }
+
+    fn call(&mut self) -> bool {
+        self.calls += 1;
+        let mut rest = &self.bytes[self.taken..];
+        let reply = self.receiver.call(&mut rest);
+        self.taken = self.bytes.len() - rest.len();
+        self.ended = reply.ends();
+        let mut lines = Vec::new();
+        self.receiver.lines(&reply, &mut lines).unwrap();
+        self.counted(&String::from_utf8(lines).unwrap(), &reply);
+        !matches!(reply, Reply::Refused(_))
+    }
+
+    /// Bytes of a command that is not whole end the stream by refusal 2.
+    fn finish(&mut self) {
+        if !self.ended && self.taken < self.bytes.len() {
+            self.call();
+        }
+    }
+
+    fn counted(&mut self, lines: &str, reply: &Reply) {
+        match reply {
+            Reply::Opened => self.count("opening"),
+            Reply::Begun => self.count("begin"),
+            Reply::Refused(_) => {}
+            _ => self.count("step"),
+        }
+        for line in lines.lines() {
+            let words: Vec<&str> = line.split(' ').collect();
+            match words[0] {
+                "refused" => self.count(line),
+                "ook" | "fsk" => {
+                    let cut = if words[3] == "1" { ", cut" } else { "" };
+                    let pairs = words[words.len().min(if words[6] == "angle" { 8 } else { 9 })];
+                    let size = match pairs.parse::<u64>().unwrap() {
+                        0 => "no pair",
+                        1 => "1 pair",
+                        2..=9 => "2 to 9 pairs",
+                        _ => "10 pairs or more",
+                    };
+                    self.count(&format!("{} {}, {size}{cut}", words[0], words[6]));
+                }
+                word => self.count(word),
+            }
+        }
+    }
+}
+
+fn burst(g: &mut Generator, s: &mut Stream) {
+    let plan = g.plan();
+    let (factor, ticks) = g.samples(&plan);
+    let last = s.receiver.last();
+    let mut index = match g.r.below(40) {
+        0..3 => g.r.below(10),
+        3..5 => INDEX_MOST - g.r.below(400),
+        5..8 => g.r.below(INDEX_MOST),
+        8 => INDEX_MOST + g.r.below(3),
+        _ if last + 1000 > INDEX_MOST => g.r.below(1 << 20),
+        _ => last + g.r.from_to(1, 200),
+    };
+    let before = [value(g.r.unit()), part(-g.r.unit())];
+    let mut earlier = [0.0; 7];
+    for e in &mut earlier {
+        *e = match g.r.below(3) {
+            0 => 0.0,
+            1 => ticks[0].envelope,
+            _ => value(f64::from(ticks[0].envelope) * g.r.between(0.0, 2.0)),
+        };
+    }
+    let command = begin_command(index, factor, &ticks[0], before, &earlier);
+    send_disturbed(g, s, &command);
+    if s.receiver.idle() {
+        // The begin was refused or damaged.
+        return;
+    }
+    let broken_off = g.r.once_in(25).then(|| g.r.below(ticks.len() as u64));
+    for (i, t) in ticks[1..].iter().enumerate() {
+        if s.ended || s.receiver.idle() || broken_off == Some(i as u64) {
+            break;
+        }
+        index = s.receiver.last() + 1;
+        if index > INDEX_MOST {
+            s.send(&step_command(index, t));
+            break;
+        }
+        send_disturbed(g, s, &step_command(index, t));
+    }
+}
+
+/// Sends the command; before it now and then another, and in a damaged stream changed bytes.
+fn send_disturbed(g: &mut Generator, s: &mut Stream, command: &[u8]) {
+    let often = match g.kind {
+        Kind::Damaged => 12,
+        Kind::Edges => 60,
+        _ => 400,
+    };
+    if g.r.once_in(often) {
+        let other = disturbance(g, s, command);
+        s.send(&other);
+    }
+    if g.kind == Kind::Damaged && g.r.once_in(3000) {
+        let cut = g.r.below(command.len() as u64) as usize;
+        s.send(&command[..cut]);
+        return;
+    }
+    if s.receiver.idle() == (command[0] == 2) {
+        s.send(command);
+    }
+}
+
+/// A command that mostly is refused, by one fault or several: out of turn, with another index, with a float outside its range,
+/// with settings outside the domain, or damaged.
+fn disturbance(g: &mut Generator, s: &mut Stream, command: &[u8]) -> Vec<u8> {
+    let index = s.receiver.last();
+    match g.r.below(8) {
+        0 => {
+            let mut bad = g.edge_settings();
+            if g.kind != Kind::Damaged {
+                bad.mode = 3;
+            }
+            return bad.command();
+        }
+        n @ 1..4 if g.kind == Kind::Damaged => return damaged(&mut g.r, command, n),
+        _ => {}
+    }
+    let mut other = command.to_vec();
+    let faults = g.r.pick(&[1, 2, 4, 4, 4, 3, 5, 6, 7]);
+    if faults & 1 != 0 {
+        let t = Tick { noise: 0.0, envelope: 1.0, sample: [1.0, 0.0] };
+        let again = index.wrapping_add(g.r.below(2));
+        other = match command[0] {
+            3 => begin_command(again, 1.0, &t, [1.0, 0.0], &[0.0; 7]),
+            _ => step_command(again, &t),
+        };
+    }
+    if faults & 2 != 0 {
+        let wrong = g.r.pick(&[index, index + 2, index + 32, index.wrapping_sub(1), INDEX_MOST + 1, u64::MAX]);
+        other[1..9].copy_from_slice(&wrong.to_le_bytes());
+    }
+    if faults & 4 != 0 {
+        put_odd_float(&mut g.r, &mut other);
+    }
+    other
+}
+
+fn put_odd_float(r: &mut Random, command: &mut [u8]) {
+    let floats = (command.len() - 9) / 4;
+    let at = 9 + 4 * r.below(floats as u64) as usize;
+    let x = if r.once_in(3) { r.pick(&AT_EDGES) } else { r.pick(&OUTSIDE) };
+    command[at..at + 4].copy_from_slice(&x.to_bits().to_le_bytes());
+}
+
+/// The command with one bit of its operands changed, with any operands, seldom with another command byte, or twice.
+fn damaged(r: &mut Random, command: &[u8], how: u64) -> Vec<u8> {
+    let mut other = command.to_vec();
+    match how {
+        1 => {
+            let bit = 8 + r.below(8 * (other.len() as u64 - 1));
+            other[bit as usize / 8] ^= 1 << (bit % 8);
+        }
+        2 => other[1..].fill_with(|| r.u32() as u8),
+        _ if r.once_in(300) => other[0] = r.pick(&[0, 4, 5, 16, 17, 255]),
+        _ => other.extend(command),
+    }
+    other
+}
+
+/// The stream of a seed, of about `calls` calls; its kind by the seed where none is given.
+pub fn stream(seed: u64, calls: u64, kind: Option<Kind>) -> Stream {
+    let mut r = Random::new(seed);
+    let by_seed = KINDS[r.below(KINDS.len() as u64) as usize].1;
+    let kind = kind.unwrap_or(by_seed);
+    let mut g = Generator { r, kind, settings: WORKED };
+    let mut s = Stream::new();
+    if g.r.once_in(4) {
+        // Before any settings.
+        burst(&mut g, &mut s);
+        s.send(&step_command(1, &Tick { noise: 0.0, envelope: 0.0, sample: [0.0; 2] }));
+    }
+    while !s.ended && s.calls < calls {
+        let next = g.settings();
+        if s.send(&next.command()) {
+            g.settings = next;
+        }
+        for _ in 0..g.r.from_to(1, 8) {
+            if s.ended || !s.receiver.idle() {
+                break;
+            }
+            burst(&mut g, &mut s);
+        }
+    }
+    if !s.ended && g.r.once_in(3) {
+        let command = g.settings.command();
+        s.send(&command[..g.r.from_to(1, 37) as usize]);
+    }
+    s.finish();
+    s
+}

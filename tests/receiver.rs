@@ -1,0 +1,442 @@
+//! The reference receiver: the published lane, as tests/cut gives it, with what document 01 adds around it ("Added around
+//! the lane", "Commands", "Replies other than an answer"). The latter is written here from that text alone and reads no
+//! Rattle source.
+
+include!("../target/tests/published.rs");
+
+use std::io::{self, Write};
+
+/// Slots of each pulse buffer: 2,048 pairs.
+const BUFFER_SLOTS: usize = 2 * 2048;
+
+// Document 01, "Domain".
+const STEPS_MOST: u32 = 1 << 24;
+const PULSES_MOST: u32 = 65_536;
+const RATIO_MOST: f32 = 1e6;
+const VALUE_MOST: f32 = 1e18;
+const INDEX_MOST: u64 = 1 << 40;
+
+// Operand bytes of commands 01, 02 and 03.
+const OPENING_BYTES: usize = 37;
+const BEGIN_BYTES: usize = 60;
+const STEP_BYTES: usize = 24;
+
+/// A refusal's number.
+pub type Refused = u32;
+
+struct Opening {
+    mode: u8,
+    min_steps: u32,
+    gap_steps: u32,
+    pre_timeout: u32,
+    long_steps: u32,
+    max_pulses: u32,
+    alpha: f32,
+    gap_ratio: f32,
+    fsk_delta: f32,
+    fsk_split: f32,
+}
+
+struct Begin {
+    index: u64,
+    factor: f32,
+    envelope: f32,
+    sample: C32,
+    before: C32,
+    /// Seven earlier envelopes, nearest first.
+    earlier: [f32; 7],
+}
+
+struct Step {
+    index: u64,
+    noise: f32,
+    envelope: f32,
+    sample: C32,
+}
+
+/// Operand bytes, taken from the front.
+struct Operands<'a>(&'a [u8]);
+
+impl Operands<'_> {
+    fn bytes<const N: usize>(&mut self) -> [u8; N] {
+        let (front, rest) = self.0.split_at(N);
+        self.0 = rest;
+        front.try_into().unwrap()
+    }
+
+    fn u8(&mut self) -> u8 {
+        self.bytes::<1>()[0]
+    }
+
+    fn u32(&mut self) -> u32 {
+        u32::from_le_bytes(self.bytes())
+    }
+
+    fn u64(&mut self) -> u64 {
+        u64::from_le_bytes(self.bytes())
+    }
+
+    fn f32(&mut self) -> f32 {
+        f32::from_bits(self.u32())
+    }
+
+    fn c32(&mut self) -> C32 {
+        C32 { re: self.f32(), im: self.f32() }
+    }
+
+    fn opening(mut self) -> Opening {
+        Opening {
+            mode: self.u8(),
+            min_steps: self.u32(),
+            gap_steps: self.u32(),
+            pre_timeout: self.u32(),
+            long_steps: self.u32(),
+            max_pulses: self.u32(),
+            alpha: self.f32(),
+            gap_ratio: self.f32(),
+            fsk_delta: self.f32(),
+            fsk_split: self.f32(),
+        }
+    }
+
+    fn begin(mut self) -> Begin {
+        Begin {
+            index: self.u64(),
+            factor: self.f32(),
+            envelope: self.f32(),
+            sample: self.c32(),
+            before: self.c32(),
+            earlier: [(); 7].map(|()| self.f32()),
+        }
+    }
+
+    fn step(mut self) -> Step {
+        Step { index: self.u64(), noise: self.f32(), envelope: self.f32(), sample: self.c32() }
+    }
+}
+
+/// From 0 to `most`; no NaN. -0 lies in the range.
+fn within(x: f32, most: f32) -> bool {
+    x >= 0.0 && x <= most
+}
+
+fn sample_within(x: C32) -> bool {
+    within(x.re.abs(), VALUE_MOST) && within(x.im.abs(), VALUE_MOST)
+}
+
+/// The settings of an opening where they lie in the domain.
+fn settings(o: &Opening) -> Option<Params> {
+    let modulation = match o.mode {
+        0 => PulseModulation::Ook,
+        1 => PulseModulation::Fsk,
+        2 => PulseModulation::Auto,
+        _ => return None,
+    };
+    let steps = |n: u32| (1..=STEPS_MOST).contains(&n);
+    let good = steps(o.min_steps)
+        && steps(o.gap_steps)
+        && steps(o.long_steps)
+        && (1..=o.gap_steps).contains(&o.pre_timeout)
+        && (1..=PULSES_MOST).contains(&o.max_pulses)
+        && within(o.alpha, 1.0)
+        && within(o.gap_ratio, RATIO_MOST)
+        && within(o.fsk_delta, RATIO_MOST)
+        && within(o.fsk_split, RATIO_MOST);
+    let Derived { fsk_min, lead_len, refine_at } = derived(o.min_steps);
+    good.then_some(Params {
+        modulation,
+        alpha: o.alpha,
+        min_steps: o.min_steps,
+        gap_steps: o.gap_steps,
+        gap_ratio: o.gap_ratio,
+        pre_timeout: o.pre_timeout,
+        long_steps: o.long_steps,
+        fsk_min,
+        max_pulses: o.max_pulses,
+        fsk_delta: o.fsk_delta,
+        fsk_split: o.fsk_split,
+        lead_len,
+        refine_at,
+    })
+}
+
+/// The lane with what document 01 adds around it, and its two buffers.
+pub struct Receiver {
+    /// None before the first accepted opening.
+    settings: Option<Params>,
+    lane: Lane,
+    /// The index and the sample of the last accepted call.
+    last: u64,
+    before: C32,
+    ook: Vec<u32>,
+    fsk: Vec<u32>,
+    record: Vec<Sample>,
+}
+
+/// A sample of a burst's record (document 01, "Lists, burst records and pulses"): its level, and the edge of the run under way
+/// as it stands after the sample.
+#[derive(Clone, Copy)]
+pub struct Sample {
+    pub high: bool,
+    pub edge: f64,
+}
+
+impl Receiver {
+    pub fn new() -> Self {
+        Self {
+            settings: None,
+            lane: Lane::default(),
+            last: 0,
+            before: C32::default(),
+            ook: vec![0; BUFFER_SLOTS],
+            fsk: vec![0; BUFFER_SLOTS],
+            record: Vec::new(),
+        }
+    }
+
+    pub fn idle(&self) -> bool {
+        self.lane.mode == IDLE
+    }
+
+    /// The index of the last accepted call.
+    pub fn last(&self) -> u64 {
+        self.last
+    }
+
+    /// Refusal 8.
+    fn room(&self, p: &Params) -> bool {
+        let slots = 2 * p.max_pulses as usize;
+        self.ook.len() >= slots && (p.modulation == PulseModulation::Ook || self.fsk.len() >= slots)
+    }
+
+    /// Clears both records and writes the envelope to its place of the ring.
+    fn enter(&mut self, index: u64, envelope: f32) {
+        self.lane.out = [Out::default(); 2];
+        self.lane.ring[(index % RING as u64) as usize] = envelope;
+        self.last = index;
+    }
+
+    fn open(&mut self, o: &Opening) -> Result<(), Refused> {
+        let p = settings(o).ok_or(3u32)?;
+        self.settings = Some(p);
+        self.lane = Lane::default();
+        self.last = 0;
+        self.before = C32::default();
+        Ok(())
+    }
+
+    fn begin(&mut self, b: &Begin) -> Result<(), Refused> {
+        let p = self.settings.ok_or(3u32)?;
+        if self.lane.mode != IDLE {
+            return Err(5);
+        }
+        if b.index > INDEX_MOST {
+            return Err(6);
+        }
+        let values = within(b.factor, RATIO_MOST)
+            && within(b.envelope, VALUE_MOST)
+            && sample_within(b.sample)
+            && sample_within(b.before)
+            && b.earlier.iter().all(|&e| within(e, VALUE_MOST));
+        if !values {
+            return Err(7);
+        }
+        if !self.room(&p) {
+            return Err(8);
+        }
+        self.enter(b.index, b.envelope);
+        self.record.clear();
+        self.before = b.sample;
+        self.lane.begin_lead(b.index, b.factor, b.envelope, b.sample, b.before);
+        // `history` reads the envelopes in the order of time, with begin's own last.
+        let mut env = [0.0; HIST];
+        env[HIST - 1] = b.envelope;
+        for (back, &e) in b.earlier.iter().enumerate() {
+            env[HIST - 2 - back] = e;
+        }
+        history(&mut self.lane, &env, HIST - 1, 1, b.index);
+        Ok(())
+    }
+
+    fn step(&mut self, s: &Step) -> Result<Next, Refused> {
+        let Some(p) = self.settings.filter(|_| self.lane.mode != IDLE) else {
+            return Err(5);
+        };
+        if s.index > INDEX_MOST || s.index != self.last + 1 {
+            return Err(6);
+        }
+        let values = within(s.noise, VALUE_MOST) && within(s.envelope, VALUE_MOST) && sample_within(s.sample);
+        if !values {
+            return Err(7);
+        }
+        if !self.room(&p) {
+            return Err(8);
+        }
+        self.enter(s.index, s.envelope);
+        let before = std::mem::replace(&mut self.before, s.sample);
+        let mut pairs = LanePairs { ook: &mut self.ook, fsk: &mut self.fsk };
+        let next = if self.lane.mode == LEAD {
+            let filling = self.lane;
+            let next = self.lane.lead(&p, s.noise, &mut pairs, s.envelope, s.sample);
+            if self.lane.mode == BURST {
+                self.record = replayed(filling, &p, s);
+            }
+            next
+        } else {
+            let next = self.lane.sample(&p, s.noise, &mut pairs, s.envelope, s.sample, before, s.index);
+            self.record.push(sample_of(&self.lane));
+            next
+        };
+        if next != Next::Stay {
+            self.lane.mode = IDLE;
+        }
+        Ok(next)
+    }
+}
+
+fn sample_of(lane: &Lane) -> Sample {
+    Sample { high: lane.level == 1, edge: lane.t_run }
+}
+
+/// The samples of the lead that the step fills, as `lead` replays them: up to the first answer that is not stay.
+fn replayed(mut lane: Lane, p: &Params, s: &Step) -> Vec<Sample> {
+    let len = p.lead_len as usize;
+    lane.lead_e[len - 1] = s.envelope;
+    lane.lead_x[len] = s.sample;
+    lane.high = lane.lead_e[..len].iter().fold(0.0, |m, &v| if v > m { v } else { m });
+    lane.begin_burst(lane.lead_at as f64, lane.lead_e[0]);
+    let mut pairs = LanePairs { ook: &mut [], fsk: &mut [] };
+    let mut samples = Vec::new();
+    for i in 0..len {
+        let (e, x, xp) = (lane.lead_e[i], lane.lead_x[i + 1], lane.lead_x[i]);
+        let next = lane.sample(p, s.noise, &mut pairs, e, x, xp, lane.lead_at + i as u64);
+        samples.push(sample_of(&lane));
+        if next != Next::Stay {
+            break;
+        }
+    }
+    samples
+}
+
+/// A decided OOK train: its cut mark and its pulses' widths.
+pub struct Train {
+    pub cut: bool,
+    pub widths: Vec<u32>,
+}
+
+/// What demand 3 speaks of.
+impl Receiver {
+    /// min_steps and max_pulses of a lane in OOK mode.
+    pub fn in_ook_mode(&self) -> Option<(usize, usize)> {
+        let p = self.settings.filter(|p| p.modulation == PulseModulation::Ook)?;
+        Some((p.min_steps as usize, p.max_pulses as usize))
+    }
+
+    /// The samples of the burst so far; none before its lead is full.
+    pub fn record(&self) -> &[Sample] {
+        &self.record
+    }
+
+    /// The OOK train that the last accepted call decided.
+    pub fn decided(&self) -> Option<Train> {
+        let r = &self.lane.out[0];
+        (r.state == OUT_DECIDE).then(|| Train {
+            cut: r.flags == 1,
+            widths: self.ook[..2 * r.pairs as usize].iter().step_by(2).copied().collect(),
+        })
+    }
+}
+
+/// The width between two edges.
+pub fn width_between(a: f64, b: f64) -> u32 {
+    width(a, b)
+}
+
+/// The bits of a float; every NaN as one.
+fn bits(x: f32) -> u32 {
+    if x.is_nan() { 0x7fc0_0000 } else { x.to_bits() }
+}
+
+/// The line of a record that decides a train or frame.
+fn train(out: &mut impl Write, kind: &str, r: &Out, buffer: &[u32]) -> io::Result<()> {
+    if r.state != OUT_DECIDE {
+        return Ok(());
+    }
+    let widths = buffer.get(..2 * r.pairs as usize).unwrap_or_default();
+    let span: u64 = widths.iter().map(|&w| u64::from(w)).sum();
+    write!(out, "{kind} {} {} {} {span} {:08x} ", r.index, r.end, r.flags, bits(r.level))?;
+    match r.freq {
+        Carrier::Angle(a) => write!(out, "angle {:08x}", bits(a))?,
+        Carrier::Vector(re, im) => write!(out, "vector {:08x} {:08x}", bits(re), bits(im))?,
+    }
+    write!(out, " {}", r.pairs)?;
+    for w in widths {
+        write!(out, " {w}")?;
+    }
+    writeln!(out)
+}
+
+/// What a call gives.
+pub enum Reply {
+    Opened,
+    Begun,
+    Stayed,
+    Idle { index: u64 },
+    Carrier { index: u64, envelope: f32 },
+    Refused(Refused),
+}
+
+impl Reply {
+    /// Refusals 1 and 2 end the stream.
+    pub fn ends(&self) -> bool {
+        matches!(self, Reply::Refused(1 | 2))
+    }
+}
+
+impl Receiver {
+    /// Makes the call at the front of `input` and leaves what follows it there; `input` is not empty.
+    pub fn call(&mut self, input: &mut &[u8]) -> Reply {
+        let (command, size) = match input[0] {
+            n @ 1 => (n, OPENING_BYTES),
+            n @ 2 => (n, BEGIN_BYTES),
+            n @ 3 => (n, STEP_BYTES),
+            _ => return Reply::Refused(1),
+        };
+        let Some((operands, rest)) = input[1..].split_at_checked(size) else {
+            return Reply::Refused(2);
+        };
+        *input = rest;
+        let operands = Operands(operands);
+        let reply = match command {
+            1 => self.open(&operands.opening()).map(|()| Reply::Opened),
+            2 => self.begin(&operands.begin()).map(|()| Reply::Begun),
+            _ => self.stepped(&operands.step()),
+        };
+        reply.unwrap_or_else(Reply::Refused)
+    }
+
+    fn stepped(&mut self, s: &Step) -> Result<Reply, Refused> {
+        let index = s.index;
+        Ok(match self.step(s)? {
+            Next::Stay => Reply::Stayed,
+            Next::Idle => Reply::Idle { index },
+            Next::IdleAt(envelope) => Reply::Carrier { index, envelope },
+        })
+    }
+
+    /// The lines of a call: the frame, the train, the phase.
+    pub fn lines(&self, reply: &Reply, out: &mut impl Write) -> io::Result<()> {
+        if let Reply::Refused(number) = reply {
+            return writeln!(out, "refused {number}");
+        }
+        train(out, "fsk", &self.lane.out[1], &self.fsk)?;
+        train(out, "ook", &self.lane.out[0], &self.ook)?;
+        match reply {
+            Reply::Idle { index } => writeln!(out, "idle {index}"),
+            Reply::Carrier { index, envelope } => {
+                writeln!(out, "carrier {index} {:08x}", bits(*envelope))
+            }
+            _ => Ok(()),
+        }
+    }
+}

@@ -1,0 +1,49 @@
+//! Writes a command stream for the listing program (document 01, "Commands") to standard output.
+//!
+//!     streams [--seed N] [--calls N] [--kind KIND] [--census]
+//!
+//! Kinds: ook, fsk, auto (settings of that mode), exact (values that meet thresholds and ties exactly), edges (values and
+//! settings at and past the ends of the domain), damaged (commands with changed, lost or repeated bytes; such a stream may end
+//! early) and any (one of them, by the seed). With --census the kinds of calls and replies are counted on standard error.
+
+use std::io::{self, Write};
+
+mod generator;
+mod random;
+#[allow(dead_code)]
+mod receiver;
+mod signal;
+
+use generator::stream;
+use signal::KINDS;
+
+fn main() -> io::Result<()> {
+    let (mut seed, mut calls, mut kind, mut census) = (1u64, 10_000u64, None, false);
+    let mut args = std::env::args().skip(1);
+    while let Some(a) = args.next() {
+        let mut value = || args.next().unwrap_or_else(|| usage());
+        match a.as_str() {
+            "--seed" => seed = value().parse().unwrap_or_else(|_| usage()),
+            "--calls" => calls = value().parse().unwrap_or_else(|_| usage()),
+            "--kind" => kind = Some(value()),
+            "--census" => census = true,
+            _ => usage(),
+        }
+    }
+    let kind = kind.filter(|k| k != "any").map(|name| {
+        let found = KINDS.iter().find(|(n, _)| *n == name);
+        found.unwrap_or_else(|| usage()).1
+    });
+    let s = stream(seed, calls, kind);
+    if census {
+        for (what, n) in &s.census {
+            eprintln!("{n:9} {what}");
+        }
+    }
+    io::stdout().lock().write_all(&s.bytes)
+}
+
+fn usage() -> ! {
+    eprintln!("streams [--seed N] [--calls N] [--kind ook|fsk|auto|exact|edges|damaged|any] [--census]");
+    std::process::exit(2)
+}
