@@ -326,7 +326,15 @@ fn lead_at(noise: f32, l: Lead, i: usize) -> At
 }
 
 // The samples of the lead-in in their order, up to the first whose answer is not stay.
-pub fn replay(p: Settings, noise: f32, ring: &[f32; 32], l: Lead, b: Burst, ook: &mut [u32], fsk: &mut [u32]) -> Sampled
+pub fn replay(
+    p: Settings,
+    noise: f32,
+    ring: &[f32; 32],
+    l: Lead,
+    b: Burst,
+    ook: &mut [u32],
+    fsk: &mut [u32],
+) -> Sampled
     ensures { λ r. ⌜ (r, now (ook .exit), now (fsk .exit)) ≡ replayOf p noise (now (ring .entry)) l b (now (ook .entry)) (now (fsk .entry)) ⌝ }
 {
     let len = arith::lead_len(p.min_steps) as usize;
@@ -352,7 +360,15 @@ pub fn replay(p: Settings, noise: f32, ring: &[f32; 32], l: Lead, b: Burst, ook:
 }
 
 // The lead-in is full: the burst begins, and its samples are replayed.
-pub fn lead_full(p: Settings, noise: f32, ring: &[f32; 32], l: Lead, b: Burst, ook: &mut [u32], fsk: &mut [u32]) -> Sampled
+pub fn lead_full(
+    p: Settings,
+    noise: f32,
+    ring: &[f32; 32],
+    l: Lead,
+    b: Burst,
+    ook: &mut [u32],
+    fsk: &mut [u32],
+) -> Sampled
     ensures { λ r. ⌜ (r, now (ook .exit), now (fsk .exit)) ≡ leadFullOf p noise (now (ring .entry)) l b (now (ook .entry)) (now (fsk .entry)) ⌝ }
 {
     let es = l.lead_e;

@@ -3,8 +3,10 @@ use Prim.Native.Nat.{ℕ}
 use mathlib.Core.Bool.{true, false, cond, _&&_}
 use mathlib.Core.List.{List}
 use mathlib.Core.Path.{_≡_, sym, ap, _∙_}
-use lib.Dec.{ltb}
-use lib.Ieee.{Float, binary64, add, sub, mul, div, lt, le}
+use lib.Dec.{T, ltb, eqb}
+use lib.Ieee.Bits.{ofBits-toBits}
+use borrow.Author.Tests.{eqb-true}
+use lib.Ieee.{Float, binary64, fits, ofBits, toBits, add, sub, mul, div, lt, le}
 use Rattle.arith.specs.Leaves.{absOf, zero64}
 use Rattle.grid.specs.Slots.{lastRise, upTo, transitionsOf, fold}
 use Rattle.grid.specs.Fit.{symbolsOf, kAfter, runTol, runNear, runAfter, fitOf, checkOf, checkLine, secondOf, gridFitOf}
@@ -45,6 +47,24 @@ module _ (ts : List Float) (first : Line) where
   unfolding secondOf checkLine
   both-fits a t a′ t′ second g e es e′ eg = eg ∙ sym (ap (secondOf ts) e ∙ ap (checkLine ts) (sym es ∙ e′))
 
+-- ---- the grid of a guess, where what the mean's symbol gave is known
+pub same-bits : (t u : Float) (m n : ℕ) → T (fits binary64 t) → T (fits binary64 u) → m ≡ toBits binary64 t → n ≡ toBits binary64 u → eqb m n ≡ true → t ≡ u
+same-bits t u m n ft fu em en e = sym (ofBits-toBits binary64 t ft) ∙ ap (ofBits binary64) (sym em ∙ eqb-true m n e ∙ en) ∙ ofBits-toBits binary64 u fu
+
+module _ (ts : List Float) (guess : Float) (first : Line) (ef : first ≡ fitOf ts guess) where
+  pub fit-none : first ≡ NoLine → NoGrid ≡ gridFitOf ts guess
+  unfolding gridFitOf secondOf
+  fit-none e = sym (ap (secondOf ts) (sym ef ∙ e))
+
+  pub fit-second : (line : Line) (g : Grid) → first ≡ line → g ≡ secondOf ts line → g ≡ gridFitOf ts guess
+  unfolding gridFitOf
+  fit-second line g e eg = eg ∙ ap (secondOf ts) (sym e ∙ ef)
+
+  pub fit-known : (a t b u : Float) (known : Line) (g : Grid) → first ≡ Rising a t → known ≡ Rising b u → t ≡ u → g ≡ secondOf ts known → g ≡ gridFitOf ts guess
+  unfolding gridFitOf secondOf
+  fit-known a t b u known g e ek et eg =
+      eg ∙ ap (secondOf ts) ek ∙ ap (λ (z : Float). checkLine ts (fitOf ts z)) (sym et) ∙ sym (ap (secondOf ts) (sym ef ∙ e))
+
 -- ---- the guesses
 module _ (q : Prev) (shortest x : Float) where
   pub mean-at : (tp : Float) (s r : Mean) → q ≡ At tp → r ≡ addedOf (oneSymbol shortest (sub binary64 x tp)) s (sub binary64 x tp) x → r ≡ meanAfter q shortest s x
@@ -76,10 +96,11 @@ module _ (grid g : Grid) where
   unfolding betterOf
   better-on r a t c a′ t′ c′ e e′ er = rw (e, e′) er
 
-pub searched : (ts : List Float) (shortest : Float) (m : Mean) (g r : Grid) → g ≡ gridFitOf ts (div binary64 (m .sum) (m .n))
+pub searched : (ts : List Float) (shortest : Float) (m : Mean) (line : Line) (g r : Grid) → line ≡ fitOf ts (div binary64 (m .sum) (m .n)) → g ≡ secondOf ts line
     → r ≡ fold (tryStep ts shortest) (firstTry g) ts .grid → r ≡ searchOf ts shortest m
-unfolding searchOf
-searched ts shortest m g r eg er = er ∙ ap (λ (z : Grid). fold (tryStep ts shortest) (firstTry z) ts .grid) eg
+unfolding searchOf gridFitOf
+searched ts shortest m line g r el eg er =
+    er ∙ ap (λ (z : Grid). fold (tryStep ts shortest) (firstTry z) ts .grid) (eg ∙ ap (secondOf ts) el)
 
 -- ---- the whole
 module _ (slots out : List ℕ) (last : ℕ) (runs : Runs) (grid : Grid) (el : last ≡ lastRise slots) (er : runs ≡ runsOf (upTo last slots)) (eg : grid ≡ gridOf (upTo last slots) runs) where

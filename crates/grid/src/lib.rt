@@ -2,14 +2,15 @@
 // frame's symbol clock where its transitions lie on one. A slot holds 64ths of a step at entry (`arith::Fix64`) and whole
 // steps at exit (`arith::Steps`).
 ghost use mathlib.Core.Path.{_≡_};
-ghost use mathlib.Core.Bool.{cond, _&&_};
+ghost use mathlib.Core.Bool.{true, cond, _&&_};
 ghost use Prim.Native.Nat.{_+_, _<_, _≤_};
 ghost use lib.ListN.{length, getD};
-ghost use lib.Dec.{ltb};
+ghost use lib.Dec.{ltb, eqb};
+ghost use lib.Ieee.{binary64, toBits};
 ghost use Rattle.arith.specs.Leaves.{zero64};
 ghost use Rattle.grid.specs.Slots.{timeOf, slotBefore, lastRise, upTo, fold, turned};
 ghost use Rattle.grid.specs.Fit.{symbolsOf, kAfter, fitStep, noSums, sumsOf, lineWith, lineOf, fitOf, runAfter, checkStep, checkOf, secondOf, gridFitOf};
-ghost use Rattle.grid.specs.Widths.{shorterOf, runsStep, noRuns, runsOf, addedOf, meanAfter, meanStep, meanOf, betterOf, triedOf, tryAfter, tryStep, searchOf, gridOf, endOf, clockOf, placeOf, atStart, onGridOf, measuredOf, fskWidthsOf};
+ghost use Rattle.grid.specs.Widths.{gridCand, shorterOf, runsStep, noRuns, runsOf, addedOf, meanAfter, meanStep, meanOf, betterOf, triedOf, tryAfter, tryStep, searchOf, gridOf, endOf, clockOf, placeOf, atStart, onGridOf, measuredOf, fskWidthsOf};
 
 // The resolution of the run ends kept during an FSK frame: 1 / RUN_FIX steps.
 const RUN_FIX: f64 = 64.0;
@@ -302,15 +303,6 @@ fn second_fit(slots: &[u32], last: usize, first: Line) -> Grid
     grid_check(slots, last, a, t)
 }
 
-// The least-squares grid of the transitions for the symbol length guess: every run between two transitions is a whole
-// number of symbols, rounded with guess, then once more with the fitted symbol.
-fn grid_fit(slots: &[u32], last: usize, guess: f64) -> Grid
-    requires { ⌜ last ≤ length (now slots) ⌝ }
-    ensures { λ r. ⌜ r ≡ gridFitOf (upTo last (now (slots .entry))) guess ⌝ }
-{
-    second_fit(slots, last, fit_with(slots, last, guess))
-}
-
 // ---- the guesses of the symbol
 
 // How many transitions there are, and the shortest run between two.
@@ -465,16 +457,60 @@ pub struct Tries {
     pub prev: Prev,
 }
 
-fn tried_with(slots: &[u32], last: usize, one: bool, s: Tries, d: f64, x: f64) -> Tries
-    requires { ⌜ last ≤ length (now slots) ⌝ }
-    ensures { λ r. ⌜ r ≡ triedOf (one && ltb (s .tried) 8) (upTo last (now (slots .entry))) s d x ⌝ }
+// The first fit of the mean, and the grid that its second fit gave.
+pub struct Fitted {
+    pub line: Line,
+    pub grid: Grid,
+}
+
+// Whether two numbers have one pattern.
+fn same(t: f64, u: f64) -> bool
+    ensures { λ r. ⌜ (r ≡ eqb (toBits binary64 t) (toBits binary64 u)) × (r ≡ true → t ≡ u) ⌝ }
+{
+    arith::bits_of_f64(t) == arith::bits_of_f64(u)
+}
+
+// The least-squares grid of the transitions for the symbol length guess: every run between two transitions is a whole
+// number of symbols, rounded with guess, then once more with the fitted symbol. Where the first fit has the symbol of
+// the mean's first fit, the second is the mean's too, and its grid is known.
+fn grid_fit(slots: &[u32], last: usize, mean: Fitted, guess: f64) -> Grid
+    requires { ⌜ (last ≤ length (now slots)) × (mean .grid ≡ secondOf (upTo last (now slots)) (mean .line)) ⌝ }
+    ensures { λ r. ⌜ r ≡ gridFitOf (upTo last (now (slots .entry))) guess ⌝ }
+{
+    let first = fit_with(slots, last, guess);
+    let known = mean.line;
+    let Line::Rising(_, t) = first else {
+        return Grid::NoGrid;
+    };
+    let Line::Rising(_, u) = known else {
+        return second_fit(slots, last, first);
+    };
+    let alike = same(t, u);
+    if alike {
+        let g = mean.grid;
+        return g;
+    }
+    second_fit(slots, last, first)
+}
+
+fn tried_with(
+    slots: &[u32],
+    last: usize,
+    mean: Fitted,
+    one: bool,
+    s: Tries,
+    d: f64,
+    x: f64,
+) -> Tries
+    requires { ⌜ (last ≤ length (now slots)) × (mean .grid ≡ secondOf (upTo last (now slots)) (mean .line)) ⌝ }
+    ensures { λ r. ⌜ r ≡ triedOf (one && ltb (s .tried) gridCand) (upTo last (now (slots .entry))) s d x ⌝ }
 {
     let here = Prev::At(x);
     let grid = s.grid;
     let tried = s.tried;
     if one {
         if tried < GRID_CAND {
-            let f = grid_fit(slots, last, d);
+            let f = grid_fit(slots, last, mean, d);
             let g = better(grid, f);
             let next = tried + 1;
             return Tries {
@@ -496,24 +532,48 @@ fn tried_with(slots: &[u32], last: usize, one: bool, s: Tries, d: f64, x: f64) -
     }
 }
 
-fn try_after(slots: &[u32], last: usize, prev: Prev, s: Tries, x: f64, shortest: f64) -> Tries
-    requires { ⌜ last ≤ length (now slots) ⌝ }
+fn try_after(
+    slots: &[u32],
+    last: usize,
+    mean: Fitted,
+    prev: Prev,
+    s: Tries,
+    x: f64,
+    shortest: f64,
+) -> Tries
+    requires { ⌜ (last ≤ length (now slots)) × (mean .grid ≡ secondOf (upTo last (now slots)) (mean .line)) ⌝ }
     ensures { λ r. ⌜ r ≡ tryAfter prev (upTo last (now (slots .entry))) shortest s x ⌝ }
 {
     match prev {
-        Prev::At(tp) => tried_with(slots, last, x - tp < 1.5 * shortest, s, x - tp, x),
-        Prev::Unset => tried_with(slots, last, false, s, 0.0, x),
+        Prev::At(tp) => tried_with(slots, last, mean, x - tp < 1.5 * shortest, s, x - tp, x),
+        Prev::Unset => tried_with(slots, last, mean, false, s, 0.0, x),
     }
 }
 
-fn try_turn(slots: &[u32], last: usize, s: Tries, before: u32, v: u32, shortest: f64) -> Tries
-    requires { ⌜ last ≤ length (now slots) ⌝ }
+fn try_turn(
+    slots: &[u32],
+    last: usize,
+    mean: Fitted,
+    s: Tries,
+    before: u32,
+    v: u32,
+    shortest: f64,
+) -> Tries
+    requires { ⌜ (last ≤ length (now slots)) × (mean .grid ≡ secondOf (upTo last (now slots)) (mean .line)) ⌝ }
     ensures { λ r. ⌜ r ≡ turned (tryStep (upTo last (now (slots .entry))) shortest) before v s ⌝ }
 {
     let up = before < v;
     if up {
         let prev = s.prev;
-        return try_after(slots, last, prev, s, time_of(arith::Fix64(v)), shortest);
+        return try_after(
+            slots,
+            last,
+            mean,
+            prev,
+            s,
+            time_of(arith::Fix64(v)),
+            shortest,
+        );
     }
     s
 }
@@ -525,17 +585,19 @@ fn search(slots: &[u32], last: usize, shortest: f64, m: Mean) -> Grid
     ensures { λ r. ⌜ r ≡ searchOf (upTo last (now (slots .entry))) shortest m ⌝ }
 {
     let unset = Prev::Unset;
-    let g = grid_fit(slots, last, m.sum / m.n);
+    let line = fit_with(slots, last, m.sum / m.n);
+    let grid = second_fit(slots, last, line);
+    let mean = Fitted { line, grid };
     let mut s = Tries {
         tried: 0,
-        grid: g,
+        grid,
         prev: unset,
     };
     let mut before: u32 = 0;
     let mut i = 0;
     while i < last {
         let v = slots[i];
-        s = try_turn(slots, last, s, before, v, shortest);
+        s = try_turn(slots, last, mean, s, before, v, shortest);
         before = v;
         i += 1;
     }

@@ -1,3 +1,4 @@
+-- `grid::added` meets its contract: at each branch the definition gives what the calls ensure. Assumes nothing.
 use Rattle.grid.specs.Widths.{addedOf}
 use Rattle.grid.proofs.added.Statement.{statement}
 use Rattle.grid.proofs.added.Tie as tie

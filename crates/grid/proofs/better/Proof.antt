@@ -1,3 +1,4 @@
+-- `grid::better` meets its contract: at each branch the definition gives what the calls ensure. Assumes nothing.
 use Rattle.grid.proofs.Cases.{better-none, better-first, better-on}
 use borrow.Author.Needs.{needs}
 use Rattle.grid.proofs.better.Statement.{statement}

@@ -1,3 +1,4 @@
+-- `grid::check_step` meets its contract: at each branch the definition gives what the calls ensure. Assumes nothing.
 use Rattle.grid.specs.Fit.{checkStep}
 use borrow.Author.Needs.{needs}
 use Rattle.grid.proofs.check_step.Statement.{statement}

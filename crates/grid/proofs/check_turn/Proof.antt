@@ -1,3 +1,4 @@
+-- `grid::check_turn` meets its contract: at each branch the definition gives what the calls ensure. Assumes nothing.
 use Rattle.grid.specs.Fit.{checkStep}
 use Rattle.grid.specs.Slots.{turned}
 use borrow.Author.Needs.{needs}

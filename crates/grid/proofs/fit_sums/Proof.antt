@@ -1,3 +1,4 @@
+-- `grid::fit_sums` meets its contract: what is left of the fold from a slot on is the whole fold. Assumes nothing.
 use Rattle.grid.proofs.Passes.{rest, rest-start, rest-turn, rest-end}
 use Prim.Native.Nat.{_-_, _≤_}
 use borrow.Author.Needs.{needs}

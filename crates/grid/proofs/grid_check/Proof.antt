@@ -1,3 +1,4 @@
+-- `grid::grid_check` meets its contract: what is left of the fold from a slot on is the whole fold, and a check that failed stays failed. Assumes nothing.
 use Rattle.grid.proofs.Passes.{rest, rest-start, rest-turn, check-fails, check-passes}
 use mathlib.Core.Bool.{true}
 use Prim.Native.Nat.{_-_, _≤_}

@@ -1,3 +1,4 @@
+-- `grid::k_after` meets its contract: at each branch the definition gives what the calls ensure. Assumes nothing.
 use Rattle.grid.specs.Fit.{kAfter}
 use borrow.Author.Needs.{needs}
 use Rattle.grid.proofs.k_after.Statement.{statement}

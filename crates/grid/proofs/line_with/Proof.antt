@@ -1,3 +1,4 @@
+-- `grid::line_with` meets its contract: at each branch the definition gives what the calls ensure. Assumes nothing.
 use Rattle.grid.specs.Fit.{lineWith}
 use Rattle.grid.proofs.line_with.Statement.{statement}
 use Rattle.grid.proofs.line_with.Tie as tie

@@ -1,3 +1,4 @@
+-- `grid::mean_after` meets its contract: at each branch the definition gives what the calls ensure. Assumes nothing.
 use Rattle.grid.proofs.Cases.{mean-at, mean-unset}
 use borrow.Author.Needs.{needs}
 use Rattle.grid.proofs.mean_after.Statement.{statement}

@@ -1,3 +1,4 @@
+-- `grid::measured` meets its contract: the widths written so far and those of the rest are the whole list's. Assumes nothing.
 use Rattle.grid.proofs.Writes.{measured-turn, measured-end}
 use Rattle.arith.specs.declared.Steps.{Steps}
 use Rattle.arith.specs.Leaves.{zero64}

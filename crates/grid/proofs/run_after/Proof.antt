@@ -1,3 +1,4 @@
+-- `grid::run_after` meets its contract: at each branch the definition gives what the calls ensure. Assumes nothing.
 use Rattle.grid.proofs.Cases.{run-at, run-unset}
 use borrow.Author.Needs.{needs}
 use Rattle.grid.proofs.run_after.Statement.{statement}

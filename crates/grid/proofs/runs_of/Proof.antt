@@ -1,3 +1,4 @@
+-- `grid::runs_of` meets its contract: what is left of the fold from a slot on is the whole fold. Assumes nothing.
 use lib.Ieee.{nanBits}
 use Rattle.grid.proofs.Passes.{rest, rest-start, rest-turn, rest-end, count-kept}
 use Prim.Native.Nat.{_-_, _≤_}

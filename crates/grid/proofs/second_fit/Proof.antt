@@ -1,3 +1,4 @@
+-- `grid::second_fit` meets its contract: at each branch the definition gives what the calls ensure. Assumes nothing.
 use Rattle.grid.proofs.Cases.{no-first, no-second, both-fits}
 use borrow.Author.Needs.{needs}
 use Rattle.grid.proofs.second_fit.Statement.{statement}

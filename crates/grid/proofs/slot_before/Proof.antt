@@ -1,3 +1,4 @@
+-- `grid::slot_before` meets its contract: at each branch the definition gives what the calls ensure. Assumes nothing.
 use Rattle.grid.proofs.Passes.{slot-at}
 use borrow.Author.Needs.{needs}
 use Rattle.grid.proofs.slot_before.Statement.{statement}

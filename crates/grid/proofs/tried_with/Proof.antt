@@ -1,3 +1,4 @@
+-- `grid::tried_with` meets its contract: at each branch the definition gives what the calls ensure. Assumes nothing.
 use borrow.Author.Tests.{lt-ltb, le-ltb}
 use Rattle.grid.specs.Widths.{triedOf}
 use borrow.Author.Needs.{needs}

@@ -1,3 +1,4 @@
+-- `grid::try_after` meets its contract: at each branch the definition gives what the calls ensure. Assumes nothing.
 use Rattle.grid.proofs.Cases.{try-at, try-unset}
 use borrow.Author.Needs.{needs}
 use Rattle.grid.proofs.try_after.Statement.{statement}

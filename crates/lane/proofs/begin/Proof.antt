@@ -1,0 +1,21 @@
+use Rattle.lane.specs.Step.{begun}
+use borrow.Author.Needs.{needs}
+use Rattle.lane.proofs.begin.Statement.{statement}
+use Rattle.lane.proofs.begin.Tie as tie
+
+begin-refusal-requires : tie.Need-begin-refusal-requires
+begin-refusal-requires c κs = search needs
+
+lead-lane-requires : tie.Need-lead-lane-requires
+lead-lane-requires c κs = search needs
+
+returns : tie.Need-returns
+unfolding begun
+returns c = simp (← c .before .before .begin-refusal .ensures, c .before .if1 .taken, ← c .lead-lane .ensures)
+
+returns-2 : tie.Need-returns-2
+unfolding begun
+returns-2 c = simp (← c .before .begin-refusal .ensures, c .if1 .left)
+
+pub begin-spec : {M : Type 1} → statement M
+begin-spec = tie.close (tie.spec begin-refusal-requires lead-lane-requires returns returns-2)

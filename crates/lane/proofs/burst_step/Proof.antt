@@ -1,0 +1,34 @@
+use Rattle.lane.specs.Advance.{burstStep}
+use borrow.Author.Needs.{needs}
+use Rattle.lane.proofs.burst_step.Statement.{statement}
+use Rattle.lane.proofs.burst_step.Tie as tie
+
+clear-records-requires : tie.Need-clear-records-requires
+clear-records-requires c κs = search needs
+
+sample-requires : tie.Need-sample-requires
+sample-requires c κs = search needs
+
+settle-requires : tie.Need-settle-requires
+settle-requires c κs = search needs
+
+same-length : tie.Need-same-length
+same-length c = search needs
+
+same-length-2 : tie.Need-same-length-2
+same-length-2 c = search needs
+
+returns : tie.Need-returns
+unfolding burstStep
+returns c = simp (← c .before .before .before .before .before .before .before .before .before .before .clear-records .ensures, ← c .before .before .before .before .before .sample .ensures, ← c .settle .ensures)
+
+pub burst-step-spec : {M : Type 1} → statement M
+burst-step-spec =
+    tie.close
+    (tie.spec
+    clear-records-requires
+    sample-requires
+    settle-requires
+    same-length
+    same-length-2
+    returns)

@@ -1,0 +1,29 @@
+use Rattle.lane.specs.Step.{stepped}
+use borrow.Author.Needs.{needs}
+use Rattle.lane.proofs.step.Statement.{statement}
+use Rattle.lane.proofs.step.Tie as tie
+
+step-refusal-requires : tie.Need-step-refusal-requires
+step-refusal-requires c κs = search needs
+
+advance-requires : tie.Need-advance-requires
+advance-requires c κs = search needs
+
+same-length : tie.Need-same-length
+same-length c = search needs
+
+same-length-2 : tie.Need-same-length-2
+same-length-2 c = search needs
+
+returns : tie.Need-returns
+unfolding stepped
+returns c = simp (← c .before .before .before .before .before .before .before .before .step-refusal .ensures, c .before .before .before .before .before .before .before .if1 .taken, ← c .before .before .before .before .advance .ensures)
+
+returns-2 : tie.Need-returns-2
+unfolding stepped
+returns-2 c = simp (← c .before .step-refusal .ensures, c .if1 .left)
+
+pub step-spec : {M : Type 1} → statement M
+step-spec =
+    tie.close
+    (tie.spec step-refusal-requires advance-requires same-length same-length-2 returns returns-2)

@@ -1,0 +1,82 @@
+-- Document 01, "Replies other than an answer, in checking order", for begin and step.
+use Prim.Native.Nat.{ℕ, _+_, _-_}
+use mathlib.Core.Bool.{Bool, true, false, not, _&&_, _||_}
+use mathlib.Core.Path.{_≡_, refl, sym}
+use native.Mathlib.Omega.{arith}
+use borrow.Author.Tests.{eqb-true, eqb-false, eq-eqb, ne-eqb}
+use lib.Dec.{leb, eqb}
+use Rattle.ook.specs.declared.Settings.{Settings}
+use Rattle.refusals.specs.Domain.{settingsOk, factorOk, envelopeOk, sampleOk, indexOk, roomOk}
+use Rattle.refusals.specs.State.{burstOk, leadOk, candOk}
+use Rattle.refusals.specs.Order.{firstFailed}
+use Rattle.refusals.specs.Parts.{six-true}
+use Rattle.lane.specs.declared.History.{History}
+use Rattle.lane.specs.declared.BeginArgs.{BeginArgs}
+use Rattle.lane.specs.declared.StepArgs.{StepArgs}
+use Rattle.lane.specs.declared.Lane.{Lane}
+
+-- a lane that never had settings is idle; one that had has them in the domain
+unfoldable pub openedOk : ℕ → ℕ → Settings → Bool
+openedOk had phase p = (eqb had 0 && eqb phase 0) || (eqb had 1 && settingsOk p)
+
+-- refusal 4
+unfoldable pub laneOk : Lane → Bool
+laneOk l =
+    openedOk (l .opened) (l .phase) (l .settings)
+    && leb (l .phase) 2
+    && burstOk (l .settings .«max_pulses») (l .burst)
+    && leadOk (l .phase) (l .settings .«min_steps») (l .lead)
+    && candOk (l .phase) (l .settings .«min_steps») (l .burst .frame)
+    && indexOk (l .last)
+
+-- refusal 7
+unfoldable pub historyOk : History → Bool
+historyOk h = envelopeOk (h .e1) && envelopeOk (h .e2) && envelopeOk (h .e3) && envelopeOk (h .e4) && envelopeOk (h .e5) && envelopeOk (h .e6) && envelopeOk (h .e7)
+
+unfoldable pub beginFloatsOk : BeginArgs → Bool
+beginFloatsOk b = factorOk (b .factor) && envelopeOk (b .envelope) && sampleOk (b .x) && sampleOk (b .before) && historyOk (b .history)
+
+unfoldable pub stepFloatsOk : StepArgs → Bool
+stepFloatsOk s = envelopeOk (s .noise) && envelopeOk (s .envelope) && sampleOk (s .x)
+
+-- refusal 6 of a step: the last index plus 1
+unfoldable pub followsOf : ℕ → ℕ → Bool
+followsOf last index = eqb index (last + 1)
+
+-- as the code asks it, without the sum
+pub follows-back : (last index : ℕ) → (index ≡ 0 → ⊥) → eqb (index - 1) last ≡ followsOf last index
+unfolding followsOf
+follows-back last index h = go (eqb (index - 1) last) refl where
+  go : (b : Bool) → eqb (index - 1) last ≡ b → b ≡ eqb index (last + 1)
+  go true q = sym (eq-eqb index (last + 1) (omega (arith, eqb-true (index - 1) last q, h)))
+  go false q = sym (ne-eqb index (last + 1) (λ e. eqb-false (index - 1) last q (omega arith)))
+
+pub follows-none : (last index : ℕ) → index ≡ 0 → false ≡ followsOf last index
+unfolding followsOf
+follows-none last index e = sym (ne-eqb index (last + 1) (λ q. omega arith))
+
+-- the number of the refusal, 0 for an accepted call; ook and fsk are the buffers' lengths
+unfoldable pub beginRefusal : Lane → BeginArgs → ℕ → ℕ → ℕ
+beginRefusal l b ook fsk = firstFailed (not (eqb (l .opened) 0)) (laneOk l) (eqb (l .phase) 0) (indexOk (b .index)) (beginFloatsOk b) (roomOk (l .settings) ook fsk)
+
+unfoldable pub stepRefusal : Lane → StepArgs → ℕ → ℕ → ℕ
+stepRefusal l s ook fsk = firstFailed true (laneOk l) (not (eqb (l .phase) 0)) (indexOk (s .index) && followsOf (l .last) (s .index)) (stepFloatsOk s) (roomOk (l .settings) ook fsk)
+
+-- the six checks of refusal 4, one by one
+pub record Passes (l : Lane) : Type 0 where
+  pub had : openedOk (l .opened) (l .phase) (l .settings) ≡ true
+  pub named : leb (l .phase) 2 ≡ true
+  pub within : burstOk (l .settings .«max_pulses») (l .burst) ≡ true
+  pub filled : leadOk (l .phase) (l .settings .«min_steps») (l .lead) ≡ true
+  pub waits : candOk (l .phase) (l .settings .«min_steps») (l .burst .frame) ≡ true
+  pub near : indexOk (l .last) ≡ true
+
+pub lane-passes : (l : Lane) → laneOk l ≡ true → Passes l
+unfolding laneOk
+lane-passes l h =
+    let t = six-true (openedOk (l .opened) (l .phase) (l .settings)) (leb (l .phase) 2) (burstOk (l .settings .«max_pulses») (l .burst)) (leadOk (l .phase) (l .settings .«min_steps») (l .lead)) (candOk (l .phase) (l .settings .«min_steps») (l .burst .frame)) (indexOk (l .last)) h in
+    record { had = t .0; named = t .1; within = t .2; filled = t .3; waits = t .4; near = t .5 }
+
+pub passes-lane : (l : Lane) → Passes l → laneOk l ≡ true
+unfolding laneOk
+passes-lane l p = simp (p .had, p .named, p .within, p .filled, p .waits, p .near)

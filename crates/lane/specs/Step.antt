@@ -1,0 +1,44 @@
+-- The calls of document 01: the lane that never had settings, opening, begin and step. A refusal returns its number alone and changes nothing.
+use Prim.Native.Nat.{ℕ}
+use mathlib.Core.Bool.{Bool, cond}
+use mathlib.Core.List.{List}
+use lib.ListN.{length}
+use lib.Dec.{eqb}
+use Rattle.ook.specs.declared.Settings.{Settings}
+use Rattle.refusals.specs.Domain.{settingsOk}
+use Rattle.lane.specs.declared.BeginArgs.{BeginArgs}
+use Rattle.lane.specs.declared.StepArgs.{StepArgs}
+use Rattle.lane.specs.declared.Lane.{Lane}
+use Rattle.lane.specs.declared.Answer.{Answer}
+use Rattle.lane.specs.declared.Reply.the-variants as reply
+use Rattle.lane.specs.Refusals.{beginRefusal, stepRefusal}
+use Rattle.lane.specs.Idle.{idleLane, noSettings}
+use Rattle.lane.specs.Begin.{leadLane}
+use Rattle.lane.specs.Advance.{advanceOf}
+
+abbrev pub refuse : ℕ → Lane → Answer
+refuse k l = record { reply = reply.Refused k; lane = l }
+
+abbrev pub stay : Lane → Answer
+stay l = record { reply = reply.Stay; lane = l }
+
+unfoldable pub newLane : Lane
+newLane = idleLane 0 noSettings
+
+-- opening puts a new lane in place of any other, and does not look at it
+unfoldable pub opened : Lane → Settings → Answer
+opened l p = cond (settingsOk p) (stay (idleLane 1 p)) (refuse 3 l)
+
+-- begin writes to neither buffer
+abbrev pub begunBy : ℕ → Lane → BeginArgs → Answer
+begunBy k l b = cond (eqb k 0) (stay (leadLane l b)) (refuse k l)
+
+unfoldable pub begun : Lane → BeginArgs → List ℕ → List ℕ → Answer
+begun l b ook fsk = begunBy (beginRefusal l b (length ook) (length fsk)) l b
+
+-- the answer, the OOK buffer and the FSK buffer
+abbrev pub steppedBy : ℕ → Lane → StepArgs → List ℕ → List ℕ → Answer × List ℕ × List ℕ
+steppedBy k l s ook fsk = cond (eqb k 0) (advanceOf l s ook fsk) (refuse k l, ook, fsk)
+
+unfoldable pub stepped : Lane → StepArgs → List ℕ → List ℕ → Answer × List ℕ × List ℕ
+stepped l s ook fsk = steppedBy (stepRefusal l s (length ook) (length fsk)) l s ook fsk

@@ -1,0 +1,272 @@
+-- Presence stays within refusal 4's limits. The counts of a frame are bounded by the length of its presence, which ends at long_steps:
+-- while the carrier is present, and in a short absence, a frame has at most one counted sample and two committed runs for each sample of its presence.
+use Prim.Native.Nat.{ℕ, zero, suc, min, _+_, _*_, _-_, _^_, _<_, _≤_}
+use mathlib.Core.Bool.{Bool, true, false, cond}
+use mathlib.Core.Path.{_≡_, refl, _∙_, sym}
+use mathlib.Core.List.{List}
+use native.Mathlib.Omega.{arith}
+use lib.Dec.{ltb, leb, eqb}
+use lib.IntN.{pos}
+use lib.Ieee.{Float, add, sub, binary64, ofInt}
+use borrow.Author.Tests.{eqb-true, eqb-false, ltb-false}
+use Rattle.arith.specs.declared.C32.{C32}
+use Rattle.arith.specs.Leaves.{one64, edgeOf, crossOf}
+use Rattle.ook.specs.Counts.{satAddOf, bit}
+use Rattle.ook.specs.Answers.{nextNumberOf, isStayOf}
+use Rattle.ook.specs.Params.{fskMinOf}
+use Rattle.ook.specs.Limits.{either}
+use Rattle.ook.specs.Train.{endTrainOf}
+use Rattle.ook.specs.declared.Settings.{Settings}
+use Rattle.ook.specs.declared.Next.the-variants.{Stay, IdleAt}
+use Rattle.fsk.specs.Resolve.{beginFrameOf}
+use Rattle.fsk.specs.Makers.{withStart, withRuns}
+use Rattle.fsk.specs.declared.Frame.{Frame}
+use Rattle.slicer.specs.Tone.{upperOf}
+use Rattle.frame.specs.Done.{withFrame, frameDoneOf}
+use Rattle.frame.specs.declared.Body.{Body}
+use Rattle.presence.specs.Move as move
+use Rattle.presence.specs.Move.{presThrOf, lengthenOf, rejoinOf, beginRunOf, movePresOf, extendOf, moveFrameOf}
+use Rattle.presence.specs.Presence.{listenOf, hearAt, hearOf, dueOf, sureIfOf, endsOf, endOf, endIfOf, longOf, fullBody, endTrainBy, cutOffOf, carryOf, carryBy, confirmBy, afterHear, presenceOf, nearStartOf, snapOf}
+use Rattle.presence.specs.declared.Pres.{Pres}
+use Rattle.presence.specs.declared.Look.{Look}
+use Rattle.presence.specs.declared.Looked.{Looked}
+use Rattle.presence.specs.declared.Present.{Present}
+use Rattle.presence.specs.declared.Snapped.{Snapped}
+use Rattle.limits.specs.Fsk.{by-test, CommittedWithin, FrameWithin, SampleWithin, begin-frame-within, full-within}
+use Rattle.limits.specs.Slicer.{fsk-min-above, sample-within}
+use Rattle.limits.specs.Frame.{BodyWithin, DoneWithin, ended-within, frame-done-within}
+
+-- larger bounds hold too
+pub frame-up : (max least k m k′ m′ : ℕ) (fr : Frame) → k ≤ k′ → m ≤ m′ → FrameWithin max least k m fr → FrameWithin max least k′ m′ fr
+frame-up max least k m k′ m′ fr i j h =
+    record {
+      phase-flag = h .phase-flag;
+      early-flag = h .early-flag;
+      candidates = h .candidates;
+      count = omega (arith, h .count);
+      runs-within = h .runs-within;
+      done-within = record { open-flag = h .done-within .open-flag; full-flag = h .done-within .full-flag; pairs = h .done-within .pairs; runs-most = omega (arith, h .done-within .runs-most) };
+    }
+
+pub record PresWithin (s : Pres) : Type 0 where
+  pub level-flag : s .«p_level» ≤ 1
+  pub confirmed-flag : s .«p_confirmed» ≤ 1
+
+-- what holds of presence and frame while a burst runs, for bounds max on the pairs, least on the candidates and long on the presence
+pub record Running (max least long : ℕ) (s : Pres) (fr : Frame) : Type 0 where
+  pub flags : PresWithin s
+  pub most : FrameWithin max least (long + 1) (2 * long + 3) fr
+  pub present : s .«p_level» ≡ 1 → (s .«p_run» ≤ long) × FrameWithin max least (s .«p_run») (2 * s .«p_run») fr
+  pub absent : s .«p_level» ≡ 0 → s .«p_confirmed» ≡ 0 → (s .«p_prev» ≤ long) × FrameWithin max least (s .«p_prev») (2 * s .«p_prev») fr
+
+-- a flag is 0 or 1
+not-one : (n : ℕ) → n ≤ 1 → eqb 1 n ≡ false → n ≡ 0
+not-one n h q = let z : 1 ≡ n → ⊥ = eqb-false 1 n q in omega (arith, z)
+
+not-zero : (n : ℕ) → n ≤ 1 → eqb 0 n ≡ false → n ≡ 1
+not-zero n h q = let z : 0 ≡ n → ⊥ = eqb-false 0 n q in omega (arith, z)
+
+-- ---- the move of the presence, and what it does to the frame
+
+-- the carrier is on: k counts the samples of the presence before this one
+record OnMoved (max least long : ℕ) (s : Pres) (fr : Frame) : Type 0 where
+  k : ℕ
+  is-on : s .«p_level» ≡ 1
+  sure-flag : s .«p_confirmed» ≤ 1
+  low : k ≤ long
+  longer : k + 1 ≤ s .«p_run»
+  frame-within : FrameWithin max least k (2 * k) fr
+
+record OffMoved (max least long : ℕ) (s : Pres) (fr : Frame) : Type 0 where
+  is-off : s .«p_level» ≡ 0
+  sure-flag : s .«p_confirmed» ≤ 1
+  most : FrameWithin max least (long + 1) (2 * long + 3) fr
+  absent : s .«p_confirmed» ≡ 0 → (s .«p_prev» ≤ long) × FrameWithin max least (s .«p_prev») (2 * s .«p_prev») fr
+
+module _ (max least long : ℕ) (small : long ≤ 2 ^ 24) (some : 0 < least) (s : Pres) (fr : Frame) (tc : Float) (h : Running max least long s fr) where
+  on-moved : (same short : Bool) → eqb 1 (s .«p_level») ≡ same → eqb (s .«p_confirmed») 0 ≡ short → OnMoved max least long (movePresOf s 1 tc) (moveFrameOf s true 1 tc fr)
+  unfolding movePresOf moveFrameOf lengthenOf rejoinOf beginRunOf extendOf satAddOf
+  on-moved true short q r =
+      let one : s .«p_level» ≡ 1 = sym (eqb-true 1 (s .«p_level») q) in
+      let now = h .present one in
+      let b : s .«p_run» ≤ long = now .0 in
+      rw q (record { k = s .«p_run»; is-on = one; sure-flag = h .flags .confirmed-flag; low = b; longer = omega arith; frame-within = now .1 })
+  on-moved false true q r =
+      let zero′ : s .«p_level» ≡ 0 = not-one (s .«p_level») (h .flags .level-flag) q in
+      let now = h .absent zero′ (eqb-true (s .«p_confirmed») 0 r) in
+      let b : s .«p_prev» ≤ long = now .0 in
+      let f = now .1 in
+      rw (q, r) (record { k = s .«p_prev»; is-on = refl; sure-flag = omega arith; low = b; longer = omega arith; frame-within = record { phase-flag = f .phase-flag; early-flag = f .early-flag; candidates = f .candidates; count = f .count; runs-within = record { level-flag = f .runs-within .level-flag; confirmed-flag = f .runs-within .confirmed-flag; has-prev-flag = f .runs-within .has-prev-flag }; done-within = f .done-within } })
+  on-moved false false q r = rw (q, r) (record { k = 0; is-on = refl; sure-flag = omega arith; low = omega arith; longer = omega arith; frame-within = begin-frame-within max least fr tc some })
+
+  off-moved : (same short : Bool) → eqb 0 (s .«p_level») ≡ same → eqb (s .«p_confirmed») 0 ≡ short → OffMoved max least long (movePresOf s 0 tc) (moveFrameOf s false 0 tc fr)
+  unfolding movePresOf moveFrameOf lengthenOf rejoinOf beginRunOf
+  off-moved true short q r =
+      let none : s .«p_level» ≡ 0 = sym (eqb-true 0 (s .«p_level») q) in
+      rw q (record { is-off = none; sure-flag = h .flags .confirmed-flag; most = h .most; absent = h .absent none })
+  off-moved false true q r = rw (q, r) (record { is-off = refl; sure-flag = omega arith; most = h .most; absent = λ z. let no : ⊥ = omega (arith, z) in elim no [ ] })
+  off-moved false false q r = rw (q, r) (record { is-off = refl; sure-flag = omega arith; most = h .most; absent = λ z. h .present (not-zero (s .«p_level») (h .flags .level-flag) q) })
+
+-- ---- what the sample answers
+
+pub record PresentWithin (max least long : ℕ) (r : Present) : Type 0 where
+  pub flags : PresWithin (r .pres)
+  pub body-within : BodyWithin max least (long + 1) (2 * long + 3) (r .body)
+  pub running : isStayOf (r .next) ≡ true → Running max least long (r .pres) (r .body .frame)
+
+abbrev pub AnswerWithin : ℕ → ℕ → ℕ → Present × List ℕ × List ℕ → Type 0
+AnswerWithin max least long q = PresentWithin max least long (q .0)
+
+body-up : (max least k m k′ m′ : ℕ) (b : Body) → k ≤ k′ → m ≤ m′ → BodyWithin max least k m b → BodyWithin max least k′ m′ b
+body-up max least k m k′ m′ b i j h = record { frame-within = frame-up max least k m k′ m′ (b .frame) i j (h .frame-within); train-within = h .train-within; ook-within = h .ook-within; fsk-within = h .fsk-within }
+
+due-open : (s : Pres) (n : ℕ) → dueOf s n ≡ true → s .«p_confirmed» ≡ 0
+unfolding dueOf
+due-open s n q = go (eqb (s .«p_confirmed») 0) refl q
+  where
+    go : (b : Bool) → eqb (s .«p_confirmed») 0 ≡ b → cond b (leb n (s .«p_run»)) false ≡ true → s .«p_confirmed» ≡ 0
+    go true r z = eqb-true (s .«p_confirmed») 0 r
+    go false r z = let no : _≡_ {A = ℕ} 0 1 = cc in let no′ : ⊥ = omega arith in elim no′ [ ]
+
+-- the carrier is off: nothing more is counted, and a confirmed absence may end the frame
+off-answer : (p : Settings) (a : Look) (least : ℕ) (s : Pres) (b : Body) (ook fsk : List ℕ) → s .«p_level» ≡ 0 → s .«p_confirmed» ≤ 1 → BodyWithin (p .«max_pulses») least (p .«long_steps» + 1) (2 * p .«long_steps» + 3) b → (s .«p_confirmed» ≡ 0 → (s .«p_prev» ≤ p .«long_steps») × FrameWithin (p .«max_pulses») least (s .«p_prev») (2 * s .«p_prev») (b .frame)) → AnswerWithin (p .«max_pulses») least (p .«long_steps») (carryOf p a false s b ook fsk)
+unfolding carryOf longOf
+off-answer p a least s b ook fsk none sure h f =
+    record {
+      flags = record { level-flag = omega arith; confirmed-flag = sure };
+      body-within = h;
+      running = λ z. record {
+        flags = record { level-flag = omega arith; confirmed-flag = sure };
+        most = h .frame-within;
+        present = λ o. let no : ⊥ = omega arith in elim no [ ];
+        absent = λ o. f;
+      };
+    }
+
+module _ (p : Settings) (fits : p .«max_pulses» < 2 ^ 32) (a : Look) (ook : List ℕ) where
+  cut-off-within : (least k m : ℕ) (t : Float) (b : Body) (fsk : List ℕ) → BodyWithin (p .«max_pulses») least k m b → DoneWithin (p .«max_pulses») least k (m + 1) (cutOffOf p a t b ook fsk)
+  unfolding cutOffOf
+  cut-off-within least k m t b fsk h =
+      let f = h .frame-within in
+      let full : BodyWithin (p .«max_pulses») least k m (fullBody b) = record {
+        frame-within = record { phase-flag = f .phase-flag; early-flag = f .early-flag; candidates = f .candidates; count = f .count; runs-within = f .runs-within; done-within = full-within (p .«max_pulses») m (b .frame .done) (f .done-within) };
+        train-within = h .train-within;
+        ook-within = h .ook-within;
+        fsk-within = h .fsk-within;
+      } in
+      let e : Float = add binary64 (ofInt binary64 (pos (a .idx))) one64 in
+      let d : DoneWithin (p .«max_pulses») least k (m + 1) (frameDoneOf p (fullBody b) (a .high) (a .pac) t e ook fsk) = frame-done-within p fits least k m (fullBody b) (a .high) (a .pac) t e ook fsk full in
+      let q : Body × List ℕ × List ℕ = frameDoneOf p (fullBody b) (a .high) (a .pac) t e ook fsk in
+      let n = ended-within (p .«max_pulses») fits (q .0 .train) (a .high) (q .0 .«out_ook») (q .1) (d .train-within) (d .ook-within) in
+      record { frame-within = d .frame-within; train-within = n .train-within; ook-within = n .out-within; fsk-within = d .fsk-within }
+
+  -- the carrier is on
+  carry-on : (least : ℕ) (s : Pres) (b : Body) (fsk : List ℕ) → s .«p_level» ≡ 1 → s .«p_confirmed» ≤ 1 → BodyWithin (p .«max_pulses») least (p .«long_steps» + 1) (2 * p .«long_steps» + 2) b → FrameWithin (p .«max_pulses») least (s .«p_run») (2 * s .«p_run») (b .frame) → AnswerWithin (p .«max_pulses») least (p .«long_steps») (carryOf p a true s b ook fsk)
+  unfolding carryOf longOf
+  carry-on least s b fsk one sure h f =
+      by-test (AnswerWithin (p .«max_pulses») least (p .«long_steps»)) (ltb (p .«long_steps») (s .«p_run»))
+      (λ q. record {
+        flags = record { level-flag = omega arith; confirmed-flag = sure };
+        body-within = body-up (p .«max_pulses») least (p .«long_steps» + 1) (2 * p .«long_steps» + 2 + 1) (p .«long_steps» + 1) (2 * p .«long_steps» + 3) _ (omega arith) (omega arith) (cut-off-within least (p .«long_steps» + 1) (2 * p .«long_steps» + 2) (s .«p_t_run») b fsk h);
+        running = λ z. let no : _≡_ {A = ℕ} 0 1 = cc in let no′ : ⊥ = omega arith in elim no′ [ ];
+      })
+      (λ q. record {
+        flags = record { level-flag = omega arith; confirmed-flag = sure };
+        body-within = body-up (p .«max_pulses») least (p .«long_steps» + 1) (2 * p .«long_steps» + 2) (p .«long_steps» + 1) (2 * p .«long_steps» + 3) b (omega arith) (omega arith) h;
+        running = λ z. record {
+          flags = record { level-flag = omega arith; confirmed-flag = sure };
+          most = frame-up (p .«max_pulses») least (p .«long_steps» + 1) (2 * p .«long_steps» + 2) (p .«long_steps» + 1) (2 * p .«long_steps» + 3) (b .frame) (omega arith) (omega arith) (h .frame-within);
+          present = λ o. (ltb-false (p .«long_steps») (s .«p_run») q, f);
+          absent = λ o. let no : ⊥ = omega arith in elim no [ ];
+        };
+      })
+
+  after-on : (least : ℕ) (s : Pres) (b : Body) (fsk : List ℕ) (due : Bool) → s .«p_level» ≡ 1 → s .«p_confirmed» ≤ 1 → BodyWithin (p .«max_pulses») least (p .«long_steps» + 1) (2 * p .«long_steps» + 2) b → FrameWithin (p .«max_pulses») least (s .«p_run») (2 * s .«p_run») (b .frame) → AnswerWithin (p .«max_pulses») least (p .«long_steps») (confirmBy p a true s b due ook fsk)
+  unfolding endsOf endIfOf sureIfOf
+  after-on least s b fsk true one sure h f = carry-on least _ b fsk one (omega arith) h f
+  after-on least s b fsk false one sure h f = carry-on least s b fsk one sure h f
+
+  -- the absence is confirmed
+  off-sure : (least : ℕ) (s : Pres) (b : Body) (fsk : List ℕ) → s .«p_level» ≡ 0 → BodyWithin (p .«max_pulses») least (p .«long_steps» + 1) (2 * p .«long_steps» + 3) b → s .«p_prev» ≤ p .«long_steps» → FrameWithin (p .«max_pulses») least (s .«p_prev») (2 * s .«p_prev») (b .frame) → AnswerWithin (p .«max_pulses») least (p .«long_steps») (confirmBy p a false s b true ook fsk)
+  unfolding endsOf endIfOf sureIfOf
+  off-sure least s b fsk none h low f = go (leb (p .«min_steps») (s .«p_prev»))
+    where
+      never : {A : Type 0} → _≡_ {A = ℕ} 1 0 → A
+      never q = let no : ⊥ = omega arith in elim no [ ]
+
+      end : Float
+      end = endOf (a .level) (a .«c_run») (s .«p_t_run»)
+
+      done : DoneWithin (p .«max_pulses») least (p .«long_steps» + 1) (2 * p .«long_steps» + 3) (frameDoneOf p b (a .high) (a .pac) (s .«p_t_prev») end ook fsk)
+      done =
+          body-up (p .«max_pulses») least (s .«p_prev») (2 * s .«p_prev» + 1) (p .«long_steps» + 1) (2 * p .«long_steps» + 3) _ (omega arith) (omega arith)
+          (frame-done-within p fits least (s .«p_prev») (2 * s .«p_prev») b (a .high) (a .pac) (s .«p_t_prev») end ook fsk (record { frame-within = f; train-within = h .train-within; ook-within = h .ook-within; fsk-within = h .fsk-within }))
+
+      go : (ends : Bool) → AnswerWithin (p .«max_pulses») least (p .«long_steps») (carryBy p a false (sureIfOf true s) (endIfOf ends p a s b ook fsk))
+      go true = off-answer p a least _ _ _ _ none (omega arith) done (λ z. never z)
+      go false = off-answer p a least _ _ _ _ none (omega arith) h (λ z. never z)
+
+  after-off : (least : ℕ) (s : Pres) (b : Body) (fsk : List ℕ) (due : Bool) → dueOf s (p .«min_steps») ≡ due → s .«p_level» ≡ 0 → s .«p_confirmed» ≤ 1 → BodyWithin (p .«max_pulses») least (p .«long_steps» + 1) (2 * p .«long_steps» + 3) b → (s .«p_confirmed» ≡ 0 → (s .«p_prev» ≤ p .«long_steps») × FrameWithin (p .«max_pulses») least (s .«p_prev») (2 * s .«p_prev») (b .frame)) → AnswerWithin (p .«max_pulses») least (p .«long_steps») (confirmBy p a false s b due ook fsk)
+  unfolding endsOf endIfOf sureIfOf
+  after-off least s b fsk true q none sure h f =
+      let now = f (due-open s (p .«min_steps») q) in
+      off-sure least s b fsk none h (now .0) (now .1)
+  after-off least s b fsk false q none sure h f = off-answer p a least s b ook fsk none sure h f
+
+  -- one sample of the presence machine, from a burst under way
+  pub presence-within : p .«long_steps» ≤ 2 ^ 24 → (s : Pres) (b : Body) (fsk : List ℕ) → Running (p .«max_pulses») (fskMinOf (p .«min_steps»)) (p .«long_steps») s (b .frame) → BodyWithin (p .«max_pulses») (fskMinOf (p .«min_steps»)) (p .«long_steps» + 1) (2 * p .«long_steps» + 3) b → AnswerWithin (p .«max_pulses») (fskMinOf (p .«min_steps»)) (p .«long_steps») (presenceOf p a s b ook fsk)
+  unfolding presenceOf hearOf listenOf
+  presence-within small s b fsk h v = go (upperOf (eqb (s .«p_level») 1) (a .e) thr) (edgeOf (a .idx) (crossOf (a .ep) (a .e) thr))
+    where
+      thr : Float
+      thr = presThrOf (eqb (s .«p_level») 1) (a .noise) (s .«p_factor»)
+
+      go : (on : Bool) (tc : Float) → AnswerWithin (p .«max_pulses») (fskMinOf (p .«min_steps»)) (p .«long_steps») (afterHear p a b ook (hearAt p a s (b .frame) on tc fsk))
+      go true tc =
+          let o = on-moved (p .«max_pulses») (fskMinOf (p .«min_steps»)) (p .«long_steps») small (fsk-min-above (p .«min_steps»)) s (b .frame) tc h (eqb 1 (s .«p_level»)) (eqb (s .«p_confirmed») 0) refl refl in
+          let f = sample-within (o .k) (2 * o .k) p (moveFrameOf s true 1 tc (b .frame)) (a .high) (a .d) (a .e) (a .idx) fsk (o .frame-within) in
+          let low : o .k ≤ p .«long_steps» = o .low in
+          let longer : o .k + 1 ≤ movePresOf s 1 tc .«p_run» = o .longer in
+          after-on (fskMinOf (p .«min_steps»)) (movePresOf s 1 tc) _ _ (dueOf (movePresOf s 1 tc) (p .«min_steps»)) (o .is-on) (o .sure-flag)
+          (record {
+            frame-within = frame-up (p .«max_pulses») (fskMinOf (p .«min_steps»)) (o .k + 1) (2 * o .k + 1 + 1) (p .«long_steps» + 1) (2 * p .«long_steps» + 2) _ (omega arith) (omega arith) f;
+            train-within = v .train-within;
+            ook-within = v .ook-within;
+            fsk-within = v .fsk-within;
+          })
+          (frame-up (p .«max_pulses») (fskMinOf (p .«min_steps»)) (o .k + 1) (2 * o .k + 1 + 1) (movePresOf s 1 tc .«p_run») (2 * movePresOf s 1 tc .«p_run») _ (omega arith) (omega arith) f)
+      go false tc =
+          let o = off-moved (p .«max_pulses») (fskMinOf (p .«min_steps»)) (p .«long_steps») small (fsk-min-above (p .«min_steps»)) s (b .frame) tc h (eqb 0 (s .«p_level»)) (eqb (s .«p_confirmed») 0) refl refl in
+          after-off (fskMinOf (p .«min_steps»)) (movePresOf s 0 tc) _ _ (dueOf (movePresOf s 0 tc) (p .«min_steps»)) refl (o .is-off) (o .sure-flag)
+          (record { frame-within = o .most; train-within = v .train-within; ook-within = v .ook-within; fsk-within = v .fsk-within })
+          (o .absent)
+
+-- begin_run of the envelope changes times only
+pub snap-within : (max least long : ℕ) (s : Pres) (fr : Frame) (tc : Float) → Running max least long s fr → Running max least long (snapOf s fr tc .pres) (snapOf s fr tc .frame)
+unfolding snapOf
+snap-within max least long s fr tc h = go (nearStartOf (s .«p_level») (fr .«fsk_phase») (fr .done .«fsk_runs») (sub binary64 tc (s .«p_t_run»)))
+  where
+    moved : (k m : ℕ) → FrameWithin max least k m fr → FrameWithin max least k m (withRuns (withStart tc (fr .runs)) fr)
+    moved k m f =
+        record {
+          phase-flag = f .phase-flag;
+          early-flag = f .early-flag;
+          candidates = f .candidates;
+          count = f .count;
+          runs-within = record { level-flag = f .runs-within .level-flag; confirmed-flag = f .runs-within .confirmed-flag; has-prev-flag = f .runs-within .has-prev-flag };
+          done-within = f .done-within;
+        }
+
+    go : (near : Bool) → Running max least long (cond {A = Snapped} near (record { pres = move.withStart tc s; frame = withRuns (withStart tc (fr .runs)) fr }) (record { pres = s; frame = fr }) .pres) (cond {A = Snapped} near (record { pres = move.withStart tc s; frame = withRuns (withStart tc (fr .runs)) fr }) (record { pres = s; frame = fr }) .frame)
+    go true =
+        record {
+          flags = record { level-flag = h .flags .level-flag; confirmed-flag = h .flags .confirmed-flag };
+          most = moved (long + 1) (2 * long + 3) (h .most);
+          present = λ q. (h .present q .0, moved (s .«p_run») (2 * s .«p_run») (h .present q .1));
+          absent = λ q z. (h .absent q z .0, moved (s .«p_prev») (2 * s .«p_prev») (h .absent q z .1));
+        }
+    go false = h
+
+-- the bounds are below 2 ^ 27, the limit of refusal 4
+pub below-limit : (long : ℕ) → long ≤ 2 ^ 24 → (long + 1 ≤ 2 ^ 27) × (2 * long + 3 ≤ 2 ^ 27)
+below-limit long h = (omega arith, omega arith)

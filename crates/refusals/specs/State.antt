@@ -1,0 +1,59 @@
+-- Refusal 4 of document 01, for the parts of a lane. A flag is a number that the Rust keeps at 0 or 1; a record's state (none or
+-- to be decided), cut mark and kind are flags too.
+use Prim.Native.Nat.{ℕ, _+_, _^_}
+use mathlib.Core.Bool.{Bool, not, _&&_, _||_}
+use lib.Dec.{leb, ltb, eqb}
+use Rattle.arith.specs.Leaves.{leadLenOf}
+use Rattle.ook.specs.Params.{fskMinOf}
+use Rattle.ook.specs.declared.Env.{Env}
+use Rattle.ook.specs.declared.Train.{Train}
+use Rattle.ook.specs.declared.Out.{Out}
+use Rattle.ook.specs.declared.Settings.{Settings}
+use Rattle.fsk.specs.declared.Runs.{Runs}
+use Rattle.fsk.specs.declared.Committed.{Committed}
+use Rattle.fsk.specs.declared.Frame.{Frame}
+use Rattle.presence.specs.declared.Pres.{Pres}
+use Rattle.burst.specs.declared.Burst.{Burst}
+use Rattle.burst.specs.declared.Lead.{Lead}
+
+abbrev pub flag : ℕ → Bool
+flag n = leb n 1
+
+abbrev pub envOk : Env → Bool
+envOk v = flag (v .run .level) && flag (v .run .confirmed) && flag (v .«ref_pending»)
+
+-- pulses plus open at most max_pulses
+abbrev pub trainOk : ℕ → Train → Bool
+trainOk max t = flag (t .started) && flag (t .«open») && flag (t .truncated) && leb (t .«ook_n» + t .«open») max
+
+abbrev pub presOk : Pres → Bool
+presOk q = flag (q .«p_level») && flag (q .«p_confirmed»)
+
+abbrev pub runsOk : Runs → Bool
+runsOk r = flag (r .«fsk_level») && flag (r .«fsk_confirmed») && flag (r .«fsk_has_prev»)
+
+-- frame pairs plus open at most max_pulses, and fsk_runs at most 2^27
+abbrev pub committedOk : ℕ → Committed → Bool
+committedOk max c =
+    flag (c .«fsk_open») && flag (c .«fsk_full») && leb (c .«fsk_n» + c .«fsk_open») max && leb (c .«fsk_runs») (2 ^ 27)
+
+unfoldable pub frameOk : ℕ → Frame → Bool
+frameOk max f =
+    flag (f .«fsk_phase») && leb (f .mean .«fsk_cnt») (2 ^ 27) && flag (f .early .early)
+    && runsOk (f .runs) && committedOk max (f .done)
+
+abbrev pub outOk : Out → Bool
+outOk o = flag (o .state) && flag (o .cut) && flag (o .fsk)
+
+unfoldable pub burstOk : ℕ → Burst → Bool
+burstOk max b =
+    envOk (b .env) && trainOk max (b .train) && outOk (b .«out_ook»)
+    && presOk (b .pres) && frameOk max (b .frame) && outOk (b .«out_fsk»)
+
+-- in lead, phase 1, the count is below lead_len; the lead's index is at most 2^40 in every phase
+unfoldable pub leadOk : ℕ → ℕ → Lead → Bool
+leadOk phase m l = leb (l .«lead_at») (2 ^ 40) && (not (eqb phase 1) || ltb (l .«lead_n») (leadLenOf m))
+
+-- in burst, phase 2, while fsk_phase is 0 the candidates are below fsk_min
+unfoldable pub candOk : ℕ → ℕ → Frame → Bool
+candOk phase m f = not (eqb phase 2) || not (eqb (f .«fsk_phase») 0) || ltb (f .cand .«fsk_cand») (fskMinOf m)
