@@ -1,3 +1,4 @@
+use native.Mathlib.Omega.{arith}
 use Prim.Native.Nat.{_≤_}
 use mathlib.Core.Path.{_≡_, refl}
 use lib.ListN.{length}
@@ -28,7 +29,15 @@ loop-less : tie.Need-loop-less Inv-loop μ-loop
 loop-less c = search needs
 
 loop-again : tie.Need-loop-again Inv-loop μ-loop
-loop-again c = (search needs, search needs, search needs, search needs, search needs)
+loop-again c =
+    let v = c .before .before .before .before .before .before .before .before .before .before .before .before .before .before .before .before .before .loop in
+    let p = c .before .before .before .before .before .before .before .before .before .before .before .pass in (
+      search needs,
+      omega (arith, p .kept .1 .0, v .inv .1),
+      omega (arith, p .kept .1 .1 .1 .1 .0, v .inv .2),
+      omega (arith, p .kept .1 .1 .1 .1 .1 .0, v .inv .3),
+      omega (arith, p .kept .1 .1 .1 .1 .1 .1 .0, v .inv .4),
+    )
 
 same-length : tie.Need-same-length Inv-loop μ-loop
 same-length c = search needs
@@ -46,16 +55,16 @@ returns : tie.Need-returns Inv-loop μ-loop
 returns c = search needs
 
 same-length-5 : tie.Need-same-length-5 Inv-loop μ-loop
-same-length-5 c = search needs
+same-length-5 c = omega (arith, c .before .before .before .before .before .before .before .before .before .before .before .pass .kept .1 .0, c .before .before .before .before .before .before .before .before .before .before .before .before .before .before .before .before .before .loop .inv .1)
 
 same-length-6 : tie.Need-same-length-6 Inv-loop μ-loop
-same-length-6 c = search needs
+same-length-6 c = omega (arith, c .before .before .before .before .before .before .before .before .before .before .before .pass .kept .1 .1 .1 .1 .0, c .before .before .before .before .before .before .before .before .before .before .before .before .before .before .before .before .before .loop .inv .2)
 
 same-length-7 : tie.Need-same-length-7 Inv-loop μ-loop
-same-length-7 c = search needs
+same-length-7 c = omega (arith, c .before .before .before .before .before .before .before .before .before .before .before .pass .kept .1 .1 .1 .1 .1 .0, c .before .before .before .before .before .before .before .before .before .before .before .before .before .before .before .before .before .loop .inv .3)
 
 same-length-8 : tie.Need-same-length-8 Inv-loop μ-loop
-same-length-8 c = search needs
+same-length-8 c = omega (arith, c .before .before .before .before .before .before .before .before .before .before .before .pass .kept .1 .1 .1 .1 .1 .1 .0, c .before .before .before .before .before .before .before .before .before .before .before .before .before .before .before .before .before .loop .inv .4)
 
 returns-2 : tie.Need-returns-2 Inv-loop μ-loop
 returns-2 c = search needs

@@ -32,7 +32,8 @@ same-length-3 c = search needs
 returns : tie.Need-returns
 returns c =
     let s = c .before .before .before .before .before .before .before .before .before .before .before .before .before .before .before .before .before .before .before .before .before .before .before in
-    turn-in _ (s .args .s .now) _ (s .args .from) (s .args .most) _ _ (search needs) (s .pre .3) (search needs) (search needs)
+    turn-in _ (s .args .s .now) _ (s .args .from) (s .args .most) _ _ (omega (arith, s .pre .0)) (s .pre .3)
+    (omega (arith, s .pre .1, c .before .before .before .before .before .before .before .before .before .before .before .before .before .call .kept .1 .1 .0)) (omega (arith, s .pre .2, c .before .before .before .before .before .before .before .before .before .before .before .before .before .call .kept .1 .1 .1 .0))
     (turn-meets _ (drop (s .args .from) (s .args .s .now)) _ _ _ _ _ _ _ _ (omega (arith, length-drop (s .args .from) (s .args .s .now)))
     (c .before .before .before .before .before .before .before .before .before .before .before .before .before .before .before .before .before .before .decode-at .ensures) (c .before .before .before .before .before .before .before .before .before .before .before .before .before .before .before .before .before .size-of .ensures) (c .before .before .before .before .before .before .before .before .before .before .before .before .before .before .before .before .index-of .ensures) (c .before .before .before .before .before .before .before .before .before .before .before .before .before .call .ensures)
     (c .before .before .put-answer .ensures))
