@@ -8,7 +8,7 @@ use Rattle.ook.specs.declared.Settings.{Settings}
 use Rattle.ook.specs.declared.Out.{Out}
 use Rattle.ook.specs.declared.Env.{Env}
 use Rattle.ook.specs.declared.Train.{Train}
-use Rattle.ook.specs.declared.Carrier.the-variants.{Angle, Vector}
+use Rattle.ook.specs.declared.Carrier.the-variants.{Angle}
 use Rattle.fsk.specs.declared.Frame.{Frame}
 use Rattle.presence.specs.declared.Pres.{Pres}
 use Rattle.burst.specs.declared.Burst.{Burst}

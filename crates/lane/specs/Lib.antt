@@ -5,5 +5,4 @@ pub mod Idle
 pub mod Begin
 pub mod Advance
 pub mod Step
-pub mod Reached
 pub mod Part

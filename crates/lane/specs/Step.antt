@@ -1,6 +1,6 @@
 -- The calls of document 01: the lane that never had settings, opening, begin and step. A refusal returns its number alone and changes nothing.
 use Prim.Native.Nat.{ℕ}
-use mathlib.Core.Bool.{Bool, cond}
+use mathlib.Core.Bool.{cond}
 use mathlib.Core.List.{List}
 use lib.ListN.{length}
 use lib.Dec.{eqb}

@@ -8,7 +8,6 @@ use Rattle.ook.specs.Params.{fskMinOf}
 use Rattle.ook.specs.declared.Env.{Env}
 use Rattle.ook.specs.declared.Train.{Train}
 use Rattle.ook.specs.declared.Out.{Out}
-use Rattle.ook.specs.declared.Settings.{Settings}
 use Rattle.fsk.specs.declared.Runs.{Runs}
 use Rattle.fsk.specs.declared.Committed.{Committed}
 use Rattle.fsk.specs.declared.Frame.{Frame}

@@ -1,4 +1,4 @@
--- Document 01, "Worked bursts": the examples M1 to M5 and M9 as one table. A row has a question and the numbers that the paper gives for it.
+-- Document 01, "Worked bursts": the examples M1 to M10 as one table. A row has a question and the numbers that the paper gives for it.
 -- A question of a further kind is a constructor of `Asked` and a clause of `answer`.
 use Prim.Native.Nat.{ℕ}
 use mathlib.Core.Path.{_≡_}
@@ -9,6 +9,7 @@ use Rattle.arith.specs.Root.{sqrtOf}
 use Rattle.arith.specs.Leaves.{crossOf, gainOf, leadLenOf, nearestIn}
 use Rattle.grid.specs.Slots.{timeOf, lastRiseBelow, lastRise, times, upTo, transitionsOf, fold}
 use Rattle.grid.specs.Widths.{shorterOf, runsStep, runsOf, addedOf, meanAfter, meanStep, meanOf, gridOf, measuredOf, widthsOn, fskWidthsOf}
+use Rattle.worked.specs.Bursts.{linesOf, openingOf}
 
 -- a float is its bit pattern
 pub data Asked : Type 0 where
@@ -18,19 +19,24 @@ pub data Asked : Type 0 where
   a-gain : ℕ → Asked
   lead-len : ℕ → Asked
   fsk-widths : List ℕ → Asked
+  -- a burst of samples with these envelopes (M6 to M8), and an opening with this max_pulses (M10)
+  burst : List ℕ → Asked
+  opening : ℕ → Asked
 
 abbrev one : ℕ → List ℕ
 one n = n ∷ []
 
 -- the answer that the definition has
 unfoldable pub answer : Asked → List ℕ
-unfolding roundOf sqrtOf crossOf gainOf ofBits toBits ofInt isNan sub mul div lt nearestIn timeOf lastRiseBelow lastRise times upTo transitionsOf fold shorterOf runsStep runsOf addedOf meanAfter meanStep meanOf gridOf measuredOf widthsOn fskWidthsOf
+unfolding roundOf sqrtOf crossOf gainOf ofBits toBits ofInt isNan sub mul div lt nearestIn timeOf lastRiseBelow lastRise times upTo transitionsOf fold shorterOf runsStep runsOf addedOf meanAfter meanStep meanOf gridOf measuredOf widthsOn fskWidthsOf linesOf openingOf
 answer (round x) = one (toBits binary64 (roundOf (ofBits binary64 x)))
 answer (sqrt x) = one (toBits binary32 (sqrtOf (ofBits binary32 x)))
 answer (cross prev cur thr) = one (toBits binary64 (crossOf (ofBits binary32 prev) (ofBits binary32 cur) (ofBits binary32 thr)))
 answer (a-gain e) = one (toBits binary32 (gainOf (ofBits binary32 e)))
 answer (lead-len m) = one (leadLenOf m)
 answer (fsk-widths slots) = fskWidthsOf slots
+answer (burst envelopes) = linesOf envelopes
+answer (opening max) = one (openingOf max)
 
 pub data Row : Type 0 where
   row : Asked → List ℕ → Row
@@ -44,6 +50,9 @@ given (row q n) = n
 -- the statement: each row's answer is what the paper gives
 abbrev pub Right : List Row → Type 0
 Right rows = map answered rows ≡ map given rows
+
+abbrev eight : ℕ
+eight = 0x4100_0000
 
 abbrev pub table : List Row
 table =
@@ -69,8 +78,19 @@ table =
     ∷ row (lead-len 2) (7 ∷ [])
     ∷ row (lead-len 4) (15 ∷ [])
     ∷ row (lead-len 5) (16 ∷ [])
+    -- M6: 0, 8, 8, 8, 8, then 0: `ook 11 15 0 4 41000000 vector 40800000 00000000 1 4 0` and `idle 19`
+    ∷ row (burst (0 ∷ eight ∷ eight ∷ eight ∷ eight ∷ 0 ∷ 0 ∷ 0 ∷ 0 ∷ 0 ∷ [])) (11 ∷ 15 ∷ 0 ∷ 4 ∷ 0x4100_0000 ∷ 0 ∷ 0x4080_0000 ∷ 0 ∷ 1 ∷ 4 ∷ 0 ∷ 19 ∷ [])
+    -- M7: 0, four 8s, 0, three 8s, then 0: one pulse of 8, index 11, end 19, idle at 23
+    ∷ row (burst (0 ∷ eight ∷ eight ∷ eight ∷ eight ∷ 0 ∷ eight ∷ eight ∷ eight ∷ 0 ∷ 0 ∷ 0 ∷ 0 ∷ 0 ∷ [])) (11 ∷ 19 ∷ 0 ∷ 8 ∷ 0x4100_0000 ∷ 0 ∷ 0x40e0_0000 ∷ 0 ∷ 1 ∷ 8 ∷ 0 ∷ 23 ∷ [])
+    -- M8: all 0: only `idle 16`
+    ∷ row (burst (0 ∷ 0 ∷ 0 ∷ 0 ∷ 0 ∷ 0 ∷ 0 ∷ [])) (16 ∷ [])
     -- M9: slots 64, 0 give 1, 0; slots 128, 192 give 2, 1; the empty list stays empty
     ∷ row (fsk-widths (64 ∷ 0 ∷ [])) (1 ∷ 0 ∷ [])
     ∷ row (fsk-widths (128 ∷ 192 ∷ [])) (2 ∷ 1 ∷ [])
     ∷ row (fsk-widths []) []
+    -- M10: max_pulses 0 and 65,537 meet refusal 3; 1 and 65,536 do not
+    ∷ row (opening 0) (3 ∷ [])
+    ∷ row (opening 65537) (3 ∷ [])
+    ∷ row (opening 1) (0 ∷ [])
+    ∷ row (opening 65536) (0 ∷ [])
     ∷ []

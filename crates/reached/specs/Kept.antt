@@ -1,0 +1,125 @@
+-- What begin and step keep of a burst (crate limits) passes refusal 4's check.
+use Prim.Native.Nat.{ℕ, _+_, _*_, _^_, _≤_}
+use mathlib.Core.Bool.{Bool, true, false, not, _||_}
+use mathlib.Core.Path.{_≡_, refl}
+use native.Mathlib.Omega.{arith}
+use lib.Dec.{ltb, eqb}
+use lib.Ieee.{Float}
+use borrow.Author.Tests.{le-leb, lt-ltb, eqb-true}
+use Rattle.ook.specs.Params.{fskMinOf}
+use Rattle.ook.specs.Limits.{EnvWithin, TrainWithin, OutWithin}
+use Rattle.ook.specs.declared.Env.{Env}
+use Rattle.ook.specs.declared.Train.{Train}
+use Rattle.ook.specs.declared.Out.{Out}
+use Rattle.ook.specs.declared.Settings.{Settings}
+use Rattle.fsk.specs.declared.Frame.{Frame}
+use Rattle.presence.specs.declared.Pres.{Pres}
+use Rattle.burst.specs.declared.Burst.{Burst}
+use Rattle.limits.specs.Fsk.{FrameWithin}
+use Rattle.limits.specs.Slicer.{fsk-min-above}
+use Rattle.limits.specs.Presence.{PresWithin}
+use Rattle.limits.specs.Burst.{BurstWithin, Runs}
+use Rattle.refusals.specs.Domain.{InDomain}
+use Rattle.refusals.specs.State.{envOk, trainOk, presOk, frameOk, outOk, burstOk, candOk}
+use Rattle.lane.specs.Idle.{noOut, noBurst}
+use Rattle.lane.specs.Begin.{withFactor, clearedOf}
+
+env-ok : (v : Env) → EnvWithin v → envOk v ≡ true
+env-ok v h = simp (le-leb (v .run .level) 1 (h .level-flag), le-leb (v .run .confirmed) 1 (h .confirmed-flag), le-leb (v .«ref_pending») 1 (h .pending-flag))
+
+train-ok : (max : ℕ) (t : Train) → TrainWithin max t → trainOk max t ≡ true
+train-ok max t h = simp (le-leb (t .started) 1 (h .started-flag), le-leb (t .«open») 1 (h .open-flag), le-leb (t .truncated) 1 (h .truncated-flag), le-leb (t .«ook_n» + t .«open») max (h .pulses))
+
+out-ok : (max : ℕ) (o : Out) → OutWithin max o → outOk o ≡ true
+out-ok max o h = simp (le-leb (o .state) 1 (h .state-flag), le-leb (o .cut) 1 (h .cut-flag), le-leb (o .fsk) 1 (h .kind-flag))
+
+pres-ok : (q : Pres) → PresWithin q → presOk q ≡ true
+pres-ok q h = simp (le-leb (q .«p_level») 1 (h .level-flag), le-leb (q .«p_confirmed») 1 (h .confirmed-flag))
+
+frame-ok : (max least k m : ℕ) (f : Frame) → k ≤ 2 ^ 27 → m ≤ 2 ^ 27 → FrameWithin max least k m f → frameOk max f ≡ true
+unfolding frameOk
+frame-ok max least k m f i j h =
+    simp (
+      le-leb (f .«fsk_phase») 1 (h .phase-flag),
+      le-leb (f .mean .«fsk_cnt») (2 ^ 27) (omega (arith, h .count)),
+      le-leb (f .early .early) 1 (h .early-flag),
+      le-leb (f .runs .«fsk_level») 1 (h .runs-within .level-flag),
+      le-leb (f .runs .«fsk_confirmed») 1 (h .runs-within .confirmed-flag),
+      le-leb (f .runs .«fsk_has_prev») 1 (h .runs-within .has-prev-flag),
+      le-leb (f .done .«fsk_open») 1 (h .done-within .open-flag),
+      le-leb (f .done .«fsk_full») 1 (h .done-within .full-flag),
+      le-leb (f .done .«fsk_n» + f .done .«fsk_open») max (h .done-within .pairs),
+      le-leb (f .done .«fsk_runs») (2 ^ 27) (omega (arith, h .done-within .runs-most)),
+    )
+
+-- the counts are bounded by long_steps, which the domain ends at 2^24
+pub burst-ok : {p : Settings} {b : Burst} → InDomain p → BurstWithin p b → burstOk (p .«max_pulses») b ≡ true
+unfolding burstOk
+burst-ok {p} {b} d h =
+    simp (
+      env-ok (b .env) (h .env-within),
+      train-ok (p .«max_pulses») (b .train) (h .train-within),
+      out-ok (p .«max_pulses») (b .«out_ook») (h .ook-within),
+      pres-ok (b .pres) (h .pres-within),
+      frame-ok (p .«max_pulses») (fskMinOf (p .«min_steps»)) (p .«long_steps» + 1) (2 * p .«long_steps» + 3) (b .frame) (omega (arith, d .long-steps .1)) (omega (arith, d .long-steps .1)) (h .frame-within),
+      out-ok (p .«max_pulses») (b .«out_fsk») (h .fsk-within),
+    )
+
+-- outside the burst, phase 2, the candidates are not asked for
+pub cand-ok : (phase : ℕ) {p : Settings} {b : Burst} → BurstWithin p b → candOk phase (p .«min_steps») (b .frame) ≡ true
+unfolding candOk
+cand-ok phase {p} {b} h = go (eqb phase 2) (eqb (b .frame .«fsk_phase») 0) refl
+  where
+    go : (c f : Bool) → eqb (b .frame .«fsk_phase») 0 ≡ f → (not c || not f || ltb (b .frame .cand .«fsk_cand») (fskMinOf (p .«min_steps»))) ≡ true
+    go true true q = lt-ltb (b .frame .cand .«fsk_cand») (fskMinOf (p .«min_steps»)) (h .frame-within .candidates (eqb-true (b .frame .«fsk_phase») 0 q))
+    go true false q = refl
+    go false f q = refl
+
+no-out : (max : ℕ) → OutWithin max noOut
+no-out max = record { state-flag = omega arith; cut-flag = omega arith; kind-flag = omega arith; room = omega arith }
+
+pub none-within : (p : Settings) → BurstWithin p noBurst
+unfolding noBurst
+none-within p =
+    record {
+      env-within = record { level-flag = omega arith; confirmed-flag = omega arith; pending-flag = omega arith };
+      train-within = record { started-flag = omega arith; open-flag = omega arith; truncated-flag = omega arith; pulses = omega arith };
+      ook-within = no-out (p .«max_pulses»);
+      fsk-within = no-out (p .«max_pulses»);
+      pres-within = record { level-flag = omega arith; confirmed-flag = omega arith };
+      frame-within = record {
+        phase-flag = omega arith;
+        early-flag = omega arith;
+        candidates = λ q. fsk-min-above (p .«min_steps»);
+        count = omega arith;
+        runs-within = record { level-flag = omega arith; confirmed-flag = omega arith; has-prev-flag = omega arith };
+        done-within = record { open-flag = omega arith; full-flag = omega arith; pairs = omega arith; runs-most = omega arith };
+      };
+    }
+
+pub cleared-within : {p : Settings} {b : Burst} → BurstWithin p b → BurstWithin p (clearedOf b)
+unfolding clearedOf
+cleared-within {p} h =
+    record {
+      env-within = h .env-within;
+      train-within = h .train-within;
+      ook-within = no-out (p .«max_pulses»);
+      fsk-within = no-out (p .«max_pulses»);
+      pres-within = h .pres-within;
+      frame-within = h .frame-within;
+    }
+
+pub cleared-runs : (p : Settings) (b : Burst) → Runs p b → Runs p (clearedOf b)
+unfolding clearedOf
+cleared-runs p b r = r
+
+pub factor-within : {p : Settings} {b : Burst} (f : Float) → BurstWithin p b → BurstWithin p (withFactor f b)
+factor-within f h =
+    record {
+      env-within = h .env-within;
+      train-within = h .train-within;
+      ook-within = h .ook-within;
+      fsk-within = h .fsk-within;
+      pres-within = record { level-flag = h .pres-within .level-flag; confirmed-flag = h .pres-within .confirmed-flag };
+      frame-within = h .frame-within;
+    }

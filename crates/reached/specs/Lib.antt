@@ -1,0 +1,3 @@
+-- Calls keep every lane within refusal 4's limits.
+pub mod Kept
+pub mod Reached
