@@ -1,3 +1,4 @@
+-- `burst::present` meets its contract: at each branch the definition gives what the calls ensure. Assumes nothing.
 use Rattle.burst.specs.Sample.{presentOf}
 use native.Mathlib.Omega.{arith}
 use borrow.Author.Needs.{needs}

@@ -1,3 +1,4 @@
+-- `presence::advance` meets its contract: the definition over what the calls ensure. Assumes nothing.
 use Rattle.presence.specs.Presence.{advanceOf}
 use borrow.Author.Needs.{needs}
 use Rattle.presence.proofs.advance.Statement.{statement}

@@ -1,3 +1,4 @@
+-- `presence::carrier_if` meets its contract: at each branch the definition gives what the calls ensure. Assumes nothing.
 use Rattle.presence.specs.Presence.{carrierIfOf}
 use borrow.Author.Needs.{needs}
 use Rattle.presence.proofs.carrier_if.Statement.{statement}

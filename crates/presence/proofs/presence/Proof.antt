@@ -1,3 +1,4 @@
+-- `presence::presence` meets its contract: the definition over what the calls ensure. Assumes nothing.
 use native.Mathlib.Omega.{arith}
 use Rattle.presence.specs.Presence.{presenceOf}
 use borrow.Author.Needs.{needs}

@@ -1,3 +1,4 @@
+-- `presence::slice_if` meets its contract: at each branch the definition gives what the calls ensure. Assumes nothing.
 use Rattle.presence.specs.Presence.{sliceIfOf}
 use borrow.Author.Needs.{needs}
 use Rattle.presence.proofs.slice_if.Statement.{statement}
