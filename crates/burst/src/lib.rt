@@ -18,7 +18,7 @@ use ook::Run;
 use ook::Settings;
 use ook::Times;
 use ook::Train;
-use presence::Look;
+use presence::Inputs;
 use presence::Pres;
 use presence::Present;
 use presence::Snapped;
@@ -113,7 +113,7 @@ fn present(
 {
     let d = s.d;
     let pac = s.pac;
-    let look = Look {
+    let inputs = Inputs {
         idx: a.idx,
         noise: a.noise,
         e: a.e,
@@ -136,7 +136,7 @@ fn present(
         out_fsk,
     };
     let pres = b.pres;
-    let r = presence::presence(p, look, pres, body, ook, fsk);
+    let r = presence::presence(p, inputs, pres, body, ook, fsk);
     let next = r.next;
     let q = r.body;
     let rp = r.pres;
