@@ -92,6 +92,16 @@ impl Stream {
                         _ => "10 pairs or more",
                     };
                     self.count(&format!("{} {}, {size}{cut}", words[0], words[6]));
+                    let floats = &words[5..words.len().min(9)];
+                    for (what, found) in [
+                        ("cut train", words[3] == "1"),
+                        ("NaN in a record", floats.contains(&"7fc00000")),
+                        ("infinity in a record", floats.contains(&"7f800000") || floats.contains(&"ff800000")),
+                    ] {
+                        if found {
+                            self.count(what);
+                        }
+                    }
                 }
                 word => self.count(word),
             }

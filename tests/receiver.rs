@@ -183,15 +183,17 @@ pub struct Sample {
 
 impl Receiver {
     pub fn new() -> Self {
-        Self {
-            settings: None,
-            lane: Lane::default(),
-            last: 0,
-            before: C32::default(),
-            ook: vec![0; BUFFER_SLOTS],
-            fsk: vec![0; BUFFER_SLOTS],
-            record: Vec::new(),
-        }
+        Self::with_buffers(vec![0; BUFFER_SLOTS], vec![0; BUFFER_SLOTS])
+    }
+
+    pub fn with_buffers(ook: Vec<u32>, fsk: Vec<u32>) -> Self {
+        let before = C32::default();
+        Self { settings: None, lane: Lane::default(), last: 0, before, ook, fsk, record: Vec::new() }
+    }
+
+    /// The OOK and the FSK buffer, whole.
+    pub fn buffers(&self) -> [&[u32]; 2] {
+        [&self.ook, &self.fsk]
     }
 
     pub fn idle(&self) -> bool {

@@ -1,0 +1,139 @@
+//! The kept stream, crates/listing/stdin, and its listing, crates/listing/stdout: counts the kinds of lines and fails where
+//! one that must be there is missing; then each program named must print that listing.
+//!
+//!     kept [PROGRAM...]
+
+use std::collections::BTreeMap;
+use std::fs::{File, read, read_to_string};
+use std::process::{Command, ExitCode};
+
+const STREAM: &str = "crates/listing/stdin";
+const LISTING: &str = "crates/listing/stdout";
+
+/// M6, M7 and M8 come first (document 01, "Worked bursts").
+const FRONT: &str = "ook 11 15 0 4 41000000 vector 40800000 00000000 1 4 0\nidle 19\n\
+                     ook 11 19 0 8 41000000 vector 40e00000 00000000 1 8 0\nidle 23\nidle 16\n";
+
+/// What the stream and its listing must have, with the least number of each. No list of calls meets refusal 4, refusals 1 and 2
+/// end a stream, and refusal 9 is not a command's.
+const LEAST: [(&str, u64); 22] = [
+    ("opening, mode 0", 2),
+    ("opening, mode 1", 2),
+    ("opening, mode 2", 2),
+    ("begin", 300),
+    ("train", 300),
+    ("ook vector", 50),
+    ("fsk angle", 20),
+    ("fsk vector", 50),
+    ("ook cut", 1),
+    ("fsk cut", 1),
+    ("train of 10 pairs or more", 10),
+    ("frame of no pair", 1),
+    ("NaN in a record", 1),
+    ("infinity in a record", 1),
+    ("idle", 100),
+    ("carrier", 10),
+    ("refused 2", 1),
+    ("refused 3", 1),
+    ("refused 5", 1),
+    ("refused 6", 1),
+    ("refused 7", 1),
+    ("refused 8", 1),
+];
+
+/// The kinds of a train line, by its words: kind, index, end, cut mark, span, level, carrier, pairs, widths.
+fn train(words: &[&str]) -> Vec<String> {
+    let pairs_at = if words[6] == "angle" { 8 } else { 9 };
+    let pairs: u64 = words[pairs_at].parse().unwrap();
+    let floats = &words[5..pairs_at];
+    let named = [
+        ("train", true),
+        ("train of 10 pairs or more", pairs >= 10),
+        ("frame of no pair", pairs == 0),
+        ("NaN in a record", floats.contains(&"7fc00000")),
+        ("infinity in a record", floats.contains(&"7f800000") || floats.contains(&"ff800000")),
+    ];
+    let mut kinds: Vec<String> = named.iter().filter(|n| n.1).map(|n| n.0.to_string()).collect();
+    kinds.push(format!("{} {}", words[0], words[6]));
+    if words[3] == "1" {
+        kinds.push(format!("{} cut", words[0]));
+    }
+    kinds
+}
+
+fn line(line: &str) -> Vec<String> {
+    let words: Vec<&str> = line.split(' ').collect();
+    match words[0] {
+        "ook" | "fsk" => train(&words),
+        "refused" => vec![line.to_string()],
+        word => vec![word.to_string()],
+    }
+}
+
+/// The commands of the stream, accepted or not, and the number of bytes after the last whole one.
+fn commands(mut rest: &[u8]) -> (Vec<String>, usize) {
+    let mut kinds = Vec::new();
+    loop {
+        let size = match rest.first() {
+            Some(1) => 38,
+            Some(2) => 61,
+            Some(3) => 25,
+            _ => return (kinds, rest.len()),
+        };
+        if rest.len() < size {
+            return (kinds, rest.len());
+        }
+        kinds.push(match rest[0] {
+            1 => format!("opening, mode {}", rest[1]),
+            2 => "begin".to_string(),
+            _ => "step".to_string(),
+        });
+        rest = &rest[size..];
+    }
+}
+
+fn counted(stream: &[u8], listing: &str) -> Result<BTreeMap<String, u64>, String> {
+    let (kinds, left) = commands(stream);
+    if left > 60 {
+        return Err(format!("{STREAM}: {left} bytes after the last command"));
+    }
+    if !listing.starts_with(FRONT) {
+        return Err(format!("{LISTING}: M6, M7 and M8 are not first"));
+    }
+    let mut census = BTreeMap::new();
+    for kind in kinds.into_iter().chain(listing.lines().flat_map(line)) {
+        *census.entry(kind).or_default() += 1;
+    }
+    for (kind, least) in LEAST {
+        let n = census.get(kind).copied().unwrap_or(0);
+        if n < least {
+            return Err(format!("{STREAM} has {n} of `{kind}`, and {least} are wanted"));
+        }
+    }
+    Ok(census)
+}
+
+fn run() -> Result<String, String> {
+    let stream = read(STREAM).map_err(|e| format!("{STREAM}: {e}"))?;
+    let listing = read_to_string(LISTING).map_err(|e| format!("{LISTING}: {e}"))?;
+    let census = counted(&stream, &listing)?;
+    let programs: Vec<String> = std::env::args().skip(1).collect();
+    for program in &programs {
+        let input = File::open(STREAM).map_err(|e| e.to_string())?;
+        let output = Command::new(program).stdin(input).output().map_err(|e| format!("{program}: {e}"))?;
+        if output.stdout != listing.as_bytes() {
+            return Err(format!("{program} prints other lines than {LISTING}"));
+        }
+    }
+    let words: Vec<String> = census.iter().map(|(kind, n)| format!("{kind}: {n}")).collect();
+    Ok(format!("{} of {} programs print it: {}", LISTING, programs.len(), words.join(", ")))
+}
+
+fn main() -> ExitCode {
+    let (figures, code) = match run() {
+        Ok(figures) => (figures, ExitCode::SUCCESS),
+        Err(e) => (e, ExitCode::FAILURE),
+    };
+    println!("{figures}");
+    code
+}
