@@ -10,7 +10,7 @@ use Rattle.ook.specs.declared.Done.{Done}
 use Rattle.fsk.specs.declared.Frame.{Frame}
 use Rattle.presence.specs.Presence.{snapOf, presenceOf}
 use Rattle.presence.specs.declared.Pres.{Pres}
-use Rattle.presence.specs.declared.Look.{Look}
+use Rattle.presence.specs.declared.Inputs.{Inputs}
 use Rattle.presence.specs.declared.Snapped.{Snapped}
 use Rattle.presence.specs.declared.Present.{Present}
 use Rattle.stages.specs.See.{seeOf}
@@ -39,8 +39,8 @@ unfoldable pub lastOf : Settings → Bool → Float → Burst → List ℕ → L
 lastOf p on e b ook fsk = sampledBy b fsk (tailOf p on e (b .env .run) (absenceOf b) (b .high) (b .train) (b .«out_ook») ook)
 
 -- presence between the confirmation and the end; ep is the envelope before this sample
-abbrev pub lookOf : At → Float → Seen → Burst → Look
-lookOf a ep s b =
+abbrev pub inputsOf : At → Float → Seen → Burst → Inputs
+inputsOf a ep s b =
     record {
       idx = a .idx;
       noise = a .noise;
@@ -60,7 +60,7 @@ presentBy p a s b r =
     (record { next = r .0 .next; burst = withBody (r .0 .pres) (r .0 .body) b }, r .1, r .2)
 
 unfoldable pub presentOf : Settings → At → Float → Seen → Burst → List ℕ → List ℕ → Sampled × List ℕ × List ℕ
-presentOf p a ep s b ook fsk = presentBy p a s b (presenceOf p (lookOf a ep s b) (b .pres) (bodyIn b) ook fsk)
+presentOf p a ep s b ook fsk = presentBy p a s b (presenceOf p (inputsOf a ep s b) (b .pres) (bodyIn b) ook fsk)
 
 -- in OOK mode (0) there is no presence
 unfoldable pub restOf : Settings → At → Float → Seen → Burst → List ℕ → List ℕ → Sampled × List ℕ × List ℕ

@@ -1,8 +1,8 @@
 // One sample of a burst in all three modes: `sample` of the Rust, and the replay of the lead-in.
 ghost use mathlib.Core.Path.{_≡_};
 ghost use Prim.Native.Nat.{_+_, _*_, _-_, _%_, _^_, _<_, _≤_};
-ghost use Rattle.burst.specs.Makers.{withActed, withBody};
-ghost use Rattle.burst.specs.Sample.{snapIfOf, lastOf, presentOf, restOf, sampleOf};
+ghost use Rattle.burst.specs.Makers.{bodyIn, withActed, withBody};
+ghost use Rattle.burst.specs.Sample.{snapIfOf, inputsOf, lastOf, presentOf, restOf, sampleOf};
 ghost use Rattle.burst.specs.Lead.{leadAddOf, largestOf, beginBurstOf, leadAtOf, replayOf, leadFullOf};
 ghost use mathlib.Core.Bool.{cond};
 ghost use lib.ListN.{set, length};
@@ -18,7 +18,7 @@ use ook::Run;
 use ook::Settings;
 use ook::Times;
 use ook::Train;
-use presence::Look;
+use presence::Inputs;
 use presence::Pres;
 use presence::Present;
 use presence::Snapped;
@@ -99,6 +99,42 @@ fn with_present(b: Burst, pres: Pres, q: Body) -> Burst
     n
 }
 
+// What presence reads: this sample, and the burst after the confirmation.
+fn inputs_of(a: At, ep: f32, s: Seen, b: Burst) -> Inputs
+    ensures { λ r. ⌜ r ≡ inputsOf a ep s b ⌝ }
+{
+    let d = s.d;
+    let pac = s.pac;
+    Inputs {
+        idx: a.idx,
+        noise: a.noise,
+        e: a.e,
+        ep,
+        d,
+        high: s.high,
+        pac,
+        level: b.env.run.level,
+        c_run: b.env.times.c_run,
+    }
+}
+
+// What the end of a frame may change.
+fn body_in(b: Burst) -> Body
+    ensures { λ r. ⌜ r ≡ bodyIn b ⌝ }
+{
+    let frame = b.frame;
+    let train = b.train;
+    let out_ook = b.out_ook;
+    let out_fsk = b.out_fsk;
+    Body {
+        frame,
+        train,
+        frames: b.frames,
+        out_ook,
+        out_fsk,
+    }
+}
+
 // Presence, and then the end; ep is the envelope before this sample.
 fn present(
     p: Settings,
@@ -111,32 +147,10 @@ fn present(
 ) -> Sampled
     ensures { λ r. ⌜ (r, now (ook .exit), now (fsk .exit)) ≡ presentOf p a ep s b (now (ook .entry)) (now (fsk .entry)) ⌝ }
 {
-    let d = s.d;
-    let pac = s.pac;
-    let look = Look {
-        idx: a.idx,
-        noise: a.noise,
-        e: a.e,
-        ep,
-        d,
-        high: s.high,
-        pac,
-        level: b.env.run.level,
-        c_run: b.env.times.c_run,
-    };
-    let frame = b.frame;
-    let train = b.train;
-    let out_ook = b.out_ook;
-    let out_fsk = b.out_fsk;
-    let body = Body {
-        frame,
-        train,
-        frames: b.frames,
-        out_ook,
-        out_fsk,
-    };
+    let inputs = inputs_of(a, ep, s, b);
+    let body = body_in(b);
     let pres = b.pres;
-    let r = presence::presence(p, look, pres, body, ook, fsk);
+    let r = presence::presence(p, inputs, pres, body, ook, fsk);
     let next = r.next;
     let q = r.body;
     let rp = r.pres;

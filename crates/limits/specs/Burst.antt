@@ -23,7 +23,7 @@ use Rattle.stages.specs.declared.At.{At}
 use Rattle.stages.specs.declared.Seen.{Seen}
 use Rattle.stages.specs.declared.Acted.{Acted}
 use Rattle.burst.specs.Makers.{withActed, bodyIn, withBody}
-use Rattle.burst.specs.Sample.{snapIfOf, absenceOf, lookOf, lastOf, presentBy, presentOf, restOf, actedBy, seenBy, sampleOf}
+use Rattle.burst.specs.Sample.{snapIfOf, absenceOf, inputsOf, lastOf, presentBy, presentOf, restOf, actedBy, seenBy, sampleOf}
 use Rattle.burst.specs.Lead.{beginBurstOf, leadAtOf, onward, replayFrom, staying}
 use Rattle.burst.specs.declared.Burst.{Burst}
 use Rattle.burst.specs.declared.Lead.{Lead}
@@ -86,8 +86,8 @@ module _ (p : Settings) (fits : p .«max_pulses» < 2 ^ 32) where
     rest-within a ep s b ook fsk h r =
         either (StepsWithin p) (eqb (p .mode) 0)
         (last-within (s .on) (a .e) b ook fsk h r)
-        (present-by-within a s b (presenceOf p (lookOf a ep s b) (b .pres) (bodyIn b) ook fsk) (h .env-within)
-        (presence-within p fits (lookOf a ep s b) ook small (b .pres) (bodyIn b) fsk r (record { frame-within = h .frame-within; train-within = h .train-within; ook-within = h .ook-within; fsk-within = h .fsk-within })))
+        (present-by-within a s b (presenceOf p (inputsOf a ep s b) (b .pres) (bodyIn b) ook fsk) (h .env-within)
+        (presence-within p fits (inputsOf a ep s b) ook small (b .pres) (bodyIn b) fsk r (record { frame-within = h .frame-within; train-within = h .train-within; ook-within = h .ook-within; fsk-within = h .fsk-within })))
 
     acted-within : (a : At) (b : Burst) (s : Seen) (n : Snapped) (fsk : List ℕ) (q : Acted × List ℕ) → BurstWithin p b → ActedWithin (p .«max_pulses») (q .0) → Running (p .«max_pulses») (fskMinOf (p .«min_steps»)) (p .«long_steps») (n .pres) (n .frame) → StepsWithin p (actedBy p a b s n fsk q)
     acted-within a b s n fsk q h d r = go (isStayOf (q .0 .next)) refl

@@ -26,10 +26,10 @@ use Rattle.frame.specs.Done.{withFrame, frameDoneOf}
 use Rattle.frame.specs.declared.Body.{Body}
 use Rattle.presence.specs.Move as move
 use Rattle.presence.specs.Move.{presThrOf, lengthenOf, rejoinOf, beginRunOf, movePresOf, extendOf, moveFrameOf}
-use Rattle.presence.specs.Presence.{listenOf, hearAt, hearOf, dueOf, sureIfOf, endsOf, endOf, endIfOf, longOf, fullBody, endTrainBy, cutOffOf, carryOf, carryBy, confirmBy, afterHear, presenceOf, nearStartOf, snapOf}
+use Rattle.presence.specs.Presence.{sliceIfOf, advanceAt, advanceOf, dueOf, sureIfOf, endsOf, endOf, endIfOf, longOf, fullBody, endTrainBy, endCarrierOf, carrierIfOf, carrierBy, confirmBy, afterAdvance, presenceOf, nearStartOf, snapOf}
 use Rattle.presence.specs.declared.Pres.{Pres}
-use Rattle.presence.specs.declared.Look.{Look}
-use Rattle.presence.specs.declared.Looked.{Looked}
+use Rattle.presence.specs.declared.Inputs.{Inputs}
+use Rattle.presence.specs.declared.Advanced.{Advanced}
 use Rattle.presence.specs.declared.Present.{Present}
 use Rattle.presence.specs.declared.Snapped.{Snapped}
 use Rattle.limits.specs.Fsk.{by-test, CommittedWithin, FrameWithin, SampleWithin, begin-frame-within, full-within}
@@ -129,8 +129,8 @@ due-open s n q = go (eqb (s .«p_confirmed») 0) refl q
     go false r z = let no : _≡_ {A = ℕ} 0 1 = cc in let no′ : ⊥ = omega arith in elim no′ [ ]
 
 -- the carrier is off: nothing more is counted, and a confirmed absence may end the frame
-off-answer : (p : Settings) (a : Look) (least : ℕ) (s : Pres) (b : Body) (ook fsk : List ℕ) → s .«p_level» ≡ 0 → s .«p_confirmed» ≤ 1 → BodyWithin (p .«max_pulses») least (p .«long_steps» + 1) (2 * p .«long_steps» + 3) b → (s .«p_confirmed» ≡ 0 → (s .«p_prev» ≤ p .«long_steps») × FrameWithin (p .«max_pulses») least (s .«p_prev») (2 * s .«p_prev») (b .frame)) → AnswerWithin (p .«max_pulses») least (p .«long_steps») (carryOf p a false s b ook fsk)
-unfolding carryOf longOf
+off-answer : (p : Settings) (a : Inputs) (least : ℕ) (s : Pres) (b : Body) (ook fsk : List ℕ) → s .«p_level» ≡ 0 → s .«p_confirmed» ≤ 1 → BodyWithin (p .«max_pulses») least (p .«long_steps» + 1) (2 * p .«long_steps» + 3) b → (s .«p_confirmed» ≡ 0 → (s .«p_prev» ≤ p .«long_steps») × FrameWithin (p .«max_pulses») least (s .«p_prev») (2 * s .«p_prev») (b .frame)) → AnswerWithin (p .«max_pulses») least (p .«long_steps») (carrierIfOf p a false s b ook fsk)
+unfolding carrierIfOf longOf
 off-answer p a least s b ook fsk none sure h f =
     record {
       flags = record { level-flag = omega arith; confirmed-flag = sure };
@@ -143,10 +143,10 @@ off-answer p a least s b ook fsk none sure h f =
       };
     }
 
-module _ (p : Settings) (fits : p .«max_pulses» < 2 ^ 32) (a : Look) (ook : List ℕ) where
-  cut-off-within : (least k m : ℕ) (t : Float) (b : Body) (fsk : List ℕ) → BodyWithin (p .«max_pulses») least k m b → DoneWithin (p .«max_pulses») least k (m + 1) (cutOffOf p a t b ook fsk)
-  unfolding cutOffOf
-  cut-off-within least k m t b fsk h =
+module _ (p : Settings) (fits : p .«max_pulses» < 2 ^ 32) (a : Inputs) (ook : List ℕ) where
+  end-carrier-within : (least k m : ℕ) (t : Float) (b : Body) (fsk : List ℕ) → BodyWithin (p .«max_pulses») least k m b → DoneWithin (p .«max_pulses») least k (m + 1) (endCarrierOf p a t b ook fsk)
+  unfolding endCarrierOf
+  end-carrier-within least k m t b fsk h =
       let f = h .frame-within in
       let full : BodyWithin (p .«max_pulses») least k m (fullBody b) = record {
         frame-within = record { phase-flag = f .phase-flag; early-flag = f .early-flag; candidates = f .candidates; count = f .count; runs-within = f .runs-within; done-within = full-within (p .«max_pulses») m (b .frame .done) (f .done-within) };
@@ -161,13 +161,13 @@ module _ (p : Settings) (fits : p .«max_pulses» < 2 ^ 32) (a : Look) (ook : Li
       record { frame-within = d .frame-within; train-within = n .train-within; ook-within = n .out-within; fsk-within = d .fsk-within }
 
   -- the carrier is on
-  carry-on : (least : ℕ) (s : Pres) (b : Body) (fsk : List ℕ) → s .«p_level» ≡ 1 → s .«p_confirmed» ≤ 1 → BodyWithin (p .«max_pulses») least (p .«long_steps» + 1) (2 * p .«long_steps» + 2) b → FrameWithin (p .«max_pulses») least (s .«p_run») (2 * s .«p_run») (b .frame) → AnswerWithin (p .«max_pulses») least (p .«long_steps») (carryOf p a true s b ook fsk)
-  unfolding carryOf longOf
-  carry-on least s b fsk one sure h f =
+  carrier-on : (least : ℕ) (s : Pres) (b : Body) (fsk : List ℕ) → s .«p_level» ≡ 1 → s .«p_confirmed» ≤ 1 → BodyWithin (p .«max_pulses») least (p .«long_steps» + 1) (2 * p .«long_steps» + 2) b → FrameWithin (p .«max_pulses») least (s .«p_run») (2 * s .«p_run») (b .frame) → AnswerWithin (p .«max_pulses») least (p .«long_steps») (carrierIfOf p a true s b ook fsk)
+  unfolding carrierIfOf longOf
+  carrier-on least s b fsk one sure h f =
       by-test (AnswerWithin (p .«max_pulses») least (p .«long_steps»)) (ltb (p .«long_steps») (s .«p_run»))
       (λ q. record {
         flags = record { level-flag = omega arith; confirmed-flag = sure };
-        body-within = body-up (p .«max_pulses») least (p .«long_steps» + 1) (2 * p .«long_steps» + 2 + 1) (p .«long_steps» + 1) (2 * p .«long_steps» + 3) _ (omega arith) (omega arith) (cut-off-within least (p .«long_steps» + 1) (2 * p .«long_steps» + 2) (s .«p_t_run») b fsk h);
+        body-within = body-up (p .«max_pulses») least (p .«long_steps» + 1) (2 * p .«long_steps» + 2 + 1) (p .«long_steps» + 1) (2 * p .«long_steps» + 3) _ (omega arith) (omega arith) (end-carrier-within least (p .«long_steps» + 1) (2 * p .«long_steps» + 2) (s .«p_t_run») b fsk h);
         running = λ z. let no : _≡_ {A = ℕ} 0 1 = cc in let no′ : ⊥ = omega arith in elim no′ [ ];
       })
       (λ q. record {
@@ -183,8 +183,8 @@ module _ (p : Settings) (fits : p .«max_pulses» < 2 ^ 32) (a : Look) (ook : Li
 
   after-on : (least : ℕ) (s : Pres) (b : Body) (fsk : List ℕ) (due : Bool) → s .«p_level» ≡ 1 → s .«p_confirmed» ≤ 1 → BodyWithin (p .«max_pulses») least (p .«long_steps» + 1) (2 * p .«long_steps» + 2) b → FrameWithin (p .«max_pulses») least (s .«p_run») (2 * s .«p_run») (b .frame) → AnswerWithin (p .«max_pulses») least (p .«long_steps») (confirmBy p a true s b due ook fsk)
   unfolding endsOf endIfOf sureIfOf
-  after-on least s b fsk true one sure h f = carry-on least _ b fsk one (omega arith) h f
-  after-on least s b fsk false one sure h f = carry-on least s b fsk one sure h f
+  after-on least s b fsk true one sure h f = carrier-on least _ b fsk one (omega arith) h f
+  after-on least s b fsk false one sure h f = carrier-on least s b fsk one sure h f
 
   -- the absence is confirmed
   off-sure : (least : ℕ) (s : Pres) (b : Body) (fsk : List ℕ) → s .«p_level» ≡ 0 → BodyWithin (p .«max_pulses») least (p .«long_steps» + 1) (2 * p .«long_steps» + 3) b → s .«p_prev» ≤ p .«long_steps» → FrameWithin (p .«max_pulses») least (s .«p_prev») (2 * s .«p_prev») (b .frame) → AnswerWithin (p .«max_pulses») least (p .«long_steps») (confirmBy p a false s b true ook fsk)
@@ -202,7 +202,7 @@ module _ (p : Settings) (fits : p .«max_pulses» < 2 ^ 32) (a : Look) (ook : Li
           body-up (p .«max_pulses») least (s .«p_prev») (2 * s .«p_prev» + 1) (p .«long_steps» + 1) (2 * p .«long_steps» + 3) _ (omega arith) (omega arith)
           (frame-done-within p fits least (s .«p_prev») (2 * s .«p_prev») b (a .high) (a .pac) (s .«p_t_prev») end ook fsk (record { frame-within = f; train-within = h .train-within; ook-within = h .ook-within; fsk-within = h .fsk-within }))
 
-      go : (ends : Bool) → AnswerWithin (p .«max_pulses») least (p .«long_steps») (carryBy p a false (sureIfOf true s) (endIfOf ends p a s b ook fsk))
+      go : (ends : Bool) → AnswerWithin (p .«max_pulses») least (p .«long_steps») (carrierBy p a false (sureIfOf true s) (endIfOf ends p a s b ook fsk))
       go true = off-answer p a least _ _ _ _ none (omega arith) done (λ z. never z)
       go false = off-answer p a least _ _ _ _ none (omega arith) h (λ z. never z)
 
@@ -215,13 +215,13 @@ module _ (p : Settings) (fits : p .«max_pulses» < 2 ^ 32) (a : Look) (ook : Li
 
   -- one sample of the presence machine, from a burst under way
   pub presence-within : p .«long_steps» ≤ 2 ^ 24 → (s : Pres) (b : Body) (fsk : List ℕ) → Running (p .«max_pulses») (fskMinOf (p .«min_steps»)) (p .«long_steps») s (b .frame) → BodyWithin (p .«max_pulses») (fskMinOf (p .«min_steps»)) (p .«long_steps» + 1) (2 * p .«long_steps» + 3) b → AnswerWithin (p .«max_pulses») (fskMinOf (p .«min_steps»)) (p .«long_steps») (presenceOf p a s b ook fsk)
-  unfolding presenceOf hearOf listenOf
+  unfolding presenceOf advanceOf sliceIfOf
   presence-within small s b fsk h v = go (upperOf (eqb (s .«p_level») 1) (a .e) thr) (edgeOf (a .idx) (crossOf (a .ep) (a .e) thr))
     where
       thr : Float
       thr = presThrOf (eqb (s .«p_level») 1) (a .noise) (s .«p_factor»)
 
-      go : (on : Bool) (tc : Float) → AnswerWithin (p .«max_pulses») (fskMinOf (p .«min_steps»)) (p .«long_steps») (afterHear p a b ook (hearAt p a s (b .frame) on tc fsk))
+      go : (on : Bool) (tc : Float) → AnswerWithin (p .«max_pulses») (fskMinOf (p .«min_steps»)) (p .«long_steps») (afterAdvance p a b ook (advanceAt p a s (b .frame) on tc fsk))
       go true tc =
           let o = on-moved (p .«max_pulses») (fskMinOf (p .«min_steps»)) (p .«long_steps») small (fsk-min-above (p .«min_steps»)) s (b .frame) tc h (eqb 1 (s .«p_level»)) (eqb (s .«p_confirmed») 0) refl refl in
           let f = sample-within (o .k) (2 * o .k) p (moveFrameOf s true 1 tc (b .frame)) (a .high) (a .d) (a .e) (a .idx) fsk (o .frame-within) in

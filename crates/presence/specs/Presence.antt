@@ -23,27 +23,27 @@ use Rattle.frame.specs.declared.Body.{Body}
 use Rattle.presence.specs.Move.{presThrOf, movePresOf, moveFrameOf, withConfirmed}
 use Rattle.presence.specs.Move as move
 use Rattle.presence.specs.declared.Pres.{Pres}
-use Rattle.presence.specs.declared.Look.{Look}
-use Rattle.presence.specs.declared.Looked.{Looked}
+use Rattle.presence.specs.declared.Inputs.{Inputs}
+use Rattle.presence.specs.declared.Advanced.{Advanced}
 use Rattle.presence.specs.declared.Present.{Present}
 use Rattle.presence.specs.declared.Snapped.{Snapped}
 
 -- ---- the level, the run of the presence, the frame, and the slicer's sample
 
-unfoldable pub listenOf : Settings → Look → Bool → Frame → List ℕ → Frame × List ℕ
-listenOf p a on fr fsk = cond on (fskSampleOf p fr (a .high) (a .d) (a .e) (a .idx) fsk) (fr, fsk)
+unfoldable pub sliceIfOf : Settings → Inputs → Bool → Frame → List ℕ → Frame × List ℕ
+sliceIfOf p a on fr fsk = cond on (fskSampleOf p fr (a .high) (a .d) (a .e) (a .idx) fsk) (fr, fsk)
 
-abbrev pub hearBy : Bool → Pres → Frame × List ℕ → Looked × List ℕ
-hearBy on s q = (record { on = on; pres = s; frame = q .0 }, q .1)
+abbrev pub advanceBy : Bool → Pres → Frame × List ℕ → Advanced × List ℕ
+advanceBy on s q = (record { on = on; pres = s; frame = q .0 }, q .1)
 
-abbrev pub hearAt : Settings → Look → Pres → Frame → Bool → Float → List ℕ → Looked × List ℕ
-hearAt p a s fr on tc fsk = hearBy on (movePresOf s (bit on) tc) (listenOf p a on (moveFrameOf s on (bit on) tc fr) fsk)
+abbrev pub advanceAt : Settings → Inputs → Pres → Frame → Bool → Float → List ℕ → Advanced × List ℕ
+advanceAt p a s fr on tc fsk = advanceBy on (movePresOf s (bit on) tc) (sliceIfOf p a on (moveFrameOf s on (bit on) tc fr) fsk)
 
-abbrev pub hearThr : Settings → Look → Pres → Frame → Float → List ℕ → Looked × List ℕ
-hearThr p a s fr thr fsk = hearAt p a s fr (upperOf (eqb (s .«p_level») 1) (a .e) thr) (edgeOf (a .idx) (crossOf (a .ep) (a .e) thr)) fsk
+abbrev pub advanceThr : Settings → Inputs → Pres → Frame → Float → List ℕ → Advanced × List ℕ
+advanceThr p a s fr thr fsk = advanceAt p a s fr (upperOf (eqb (s .«p_level») 1) (a .e) thr) (edgeOf (a .idx) (crossOf (a .ep) (a .e) thr)) fsk
 
-unfoldable pub hearOf : Settings → Look → Pres → Frame → List ℕ → Looked × List ℕ
-hearOf p a s fr fsk = hearThr p a s fr (presThrOf (eqb (s .«p_level») 1) (a .noise) (s .«p_factor»)) fsk
+unfoldable pub advanceOf : Settings → Inputs → Pres → Frame → List ℕ → Advanced × List ℕ
+advanceOf p a s fr fsk = advanceThr p a s fr (presThrOf (eqb (s .«p_level») 1) (a .noise) (s .«p_factor»)) fsk
 
 -- ---- a presence or an absence of at least min_steps is confirmed; an absence then ends the presence before it
 
@@ -64,7 +64,7 @@ inWindowOf x = cond (le zero64 x) (le x (ofBits binary64 0x4010_0000_0000_0000))
 unfoldable pub endOf : ℕ → Float → Float → Float
 endOf level «c_run» «p_t_run» = cond (eqb level 0) (cond (inWindowOf (sub binary64 «p_t_run» «c_run»)) «c_run» «p_t_run») «p_t_run»
 
-unfoldable pub endIfOf : Bool → Settings → Look → Pres → Body → List ℕ → List ℕ → Body × List ℕ × List ℕ
+unfoldable pub endIfOf : Bool → Settings → Inputs → Pres → Body → List ℕ → List ℕ → Body × List ℕ × List ℕ
 endIfOf ends p a s b ook fsk =
     cond ends
     (frameDoneOf p b (a .high) (a .pac) (s .«p_t_prev») (endOf (a .level) (a .«c_run») (s .«p_t_run»)) ook fsk)
@@ -84,33 +84,33 @@ endedBody b fsk q = (bodyOf (b .frame) (q .0 .train) (b .frames) (q .0 .out) (b 
 abbrev pub endTrainBy : Float → Body × List ℕ × List ℕ → Body × List ℕ × List ℕ
 endTrainBy high q = endedBody (q .0) (q .2) (endTrainOf (q .0 .train) high (q .0 .«out_ook») (q .1))
 
-unfoldable pub cutOffOf : Settings → Look → Float → Body → List ℕ → List ℕ → Body × List ℕ × List ℕ
-cutOffOf p a «p_t_run» b ook fsk =
+unfoldable pub endCarrierOf : Settings → Inputs → Float → Body → List ℕ → List ℕ → Body × List ℕ × List ℕ
+endCarrierOf p a «p_t_run» b ook fsk =
     endTrainBy (a .high) (frameDoneOf p (fullBody b) (a .high) (a .pac) «p_t_run» (add binary64 (ofInt binary64 (pos (a .idx))) one64) ook fsk)
 
 abbrev pub presentBy : Next → Pres → Body × List ℕ × List ℕ → Present × List ℕ × List ℕ
 presentBy next s q = (record { next = next; pres = s; body = q .0 }, q .1, q .2)
 
-unfoldable pub carryOf : Settings → Look → Bool → Pres → Body → List ℕ → List ℕ → Present × List ℕ × List ℕ
-carryOf p a on s b ook fsk =
+unfoldable pub carrierIfOf : Settings → Inputs → Bool → Pres → Body → List ℕ → List ℕ → Present × List ℕ × List ℕ
+carrierIfOf p a on s b ook fsk =
     cond (longOf on (s .«p_run») (p .«long_steps»))
-    (presentBy (IdleAt (a .e)) s (cutOffOf p a (s .«p_t_run») b ook fsk))
+    (presentBy (IdleAt (a .e)) s (endCarrierOf p a (s .«p_t_run») b ook fsk))
     (record { next = Stay; pres = s; body = b }, ook, fsk)
 
 -- ---- the whole
 
-abbrev pub carryBy : Settings → Look → Bool → Pres → Body × List ℕ × List ℕ → Present × List ℕ × List ℕ
-carryBy p a on s q = carryOf p a on s (q .0) (q .1) (q .2)
+abbrev pub carrierBy : Settings → Inputs → Bool → Pres → Body × List ℕ × List ℕ → Present × List ℕ × List ℕ
+carrierBy p a on s q = carrierIfOf p a on s (q .0) (q .1) (q .2)
 
-abbrev pub confirmBy : Settings → Look → Bool → Pres → Body → Bool → List ℕ → List ℕ → Present × List ℕ × List ℕ
-confirmBy p a on s b due ook fsk = carryBy p a on (sureIfOf due s) (endIfOf (endsOf due on (s .«p_prev») (p .«min_steps»)) p a s b ook fsk)
+abbrev pub confirmBy : Settings → Inputs → Bool → Pres → Body → Bool → List ℕ → List ℕ → Present × List ℕ × List ℕ
+confirmBy p a on s b due ook fsk = carrierBy p a on (sureIfOf due s) (endIfOf (endsOf due on (s .«p_prev») (p .«min_steps»)) p a s b ook fsk)
 
-abbrev pub afterHear : Settings → Look → Body → List ℕ → Looked × List ℕ → Present × List ℕ × List ℕ
-afterHear p a b ook q = confirmBy p a (q .0 .on) (q .0 .pres) (withFrame (q .0 .frame) b) (dueOf (q .0 .pres) (p .«min_steps»)) ook (q .1)
+abbrev pub afterAdvance : Settings → Inputs → Body → List ℕ → Advanced × List ℕ → Present × List ℕ × List ℕ
+afterAdvance p a b ook q = confirmBy p a (q .0 .on) (q .0 .pres) (withFrame (q .0 .frame) b) (dueOf (q .0 .pres) (p .«min_steps»)) ook (q .1)
 
 -- `Next::Stay` stands for the Rust's `None`
-unfoldable pub presenceOf : Settings → Look → Pres → Body → List ℕ → List ℕ → Present × List ℕ × List ℕ
-presenceOf p a s b ook fsk = afterHear p a b ook (hearOf p a s (b .frame) fsk)
+unfoldable pub presenceOf : Settings → Inputs → Pres → Body → List ℕ → List ℕ → Present × List ℕ × List ℕ
+presenceOf p a s b ook fsk = afterAdvance p a b ook (advanceOf p a s (b .frame) fsk)
 
 -- ---- `begin_run` of the envelope at a rise, whose edge is tc
 

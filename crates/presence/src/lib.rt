@@ -2,7 +2,7 @@
 ghost use mathlib.Core.Path.{_≡_};
 ghost use Prim.Native.Nat.{_+_, _*_, _-_, _%_, _^_, _<_, _≤_};
 ghost use Rattle.presence.specs.Move.{presThrOf, lengthenOf, rejoinOf, beginRunOf, movePresOf, extendOf, moveFrameOf};
-ghost use Rattle.presence.specs.Presence.{listenOf, dueOf, sureIfOf, endsOf, inWindowOf, endOf, endIfOf, longOf, cutOffOf, carryOf, hearOf, presenceOf, nearStartOf, snapOf};
+ghost use Rattle.presence.specs.Presence.{sliceIfOf, dueOf, sureIfOf, endsOf, inWindowOf, endOf, endIfOf, longOf, endCarrierOf, carrierIfOf, advanceOf, presenceOf, nearStartOf, snapOf};
 use arith::C32;
 use arith::Steps;
 use frame::Body;
@@ -26,7 +26,7 @@ pub struct Pres {
 }
 
 // What the presence machine reads beside its own state.
-pub struct Look {
+pub struct Inputs {
     pub idx: u64,
     pub noise: f32,
     pub e: f32,
@@ -39,7 +39,7 @@ pub struct Look {
 }
 
 // Whether the carrier is on, its presence, and the frame.
-pub struct Looked {
+pub struct Advanced {
     pub on: bool,
     pub pres: Pres,
     pub frame: Frame,
@@ -140,8 +140,8 @@ fn move_frame(s: Pres, on: bool, level: u32, tc: f64, fr: Frame) -> Frame
     fr
 }
 
-fn listen(p: Settings, a: Look, on: bool, fr: Frame, fsk: &mut [u32]) -> Frame
-    ensures { λ r. ⌜ (r, now (fsk .exit)) ≡ listenOf p a on fr (now (fsk .entry)) ⌝ }
+fn slice_if(p: Settings, a: Inputs, on: bool, fr: Frame, fsk: &mut [u32]) -> Frame
+    ensures { λ r. ⌜ (r, now (fsk .exit)) ≡ sliceIfOf p a on fr (now (fsk .entry)) ⌝ }
 {
     if on {
         let d = a.d;
@@ -151,8 +151,8 @@ fn listen(p: Settings, a: Look, on: bool, fr: Frame, fsk: &mut [u32]) -> Frame
 }
 
 // The first half: the level, the run of the presence, the frame, and the slicer's sample.
-fn hear(p: Settings, a: Look, s: Pres, fr: Frame, fsk: &mut [u32]) -> Looked
-    ensures { λ r. ⌜ (r, now (fsk .exit)) ≡ hearOf p a s fr (now (fsk .entry)) ⌝ }
+fn advance(p: Settings, a: Inputs, s: Pres, fr: Frame, fsk: &mut [u32]) -> Advanced
+    ensures { λ r. ⌜ (r, now (fsk .exit)) ≡ advanceOf p a s fr (now (fsk .entry)) ⌝ }
 {
     let up = s.p_level == 1;
     let thr = pres_thr(up, a.noise, s.p_factor);
@@ -161,8 +161,8 @@ fn hear(p: Settings, a: Look, s: Pres, fr: Frame, fsk: &mut [u32]) -> Looked
     let tc = arith::edge(a.idx, arith::cross(a.ep, a.e, thr));
     let q = move_pres(s, level, tc);
     let f = move_frame(s, on, level, tc, fr);
-    let g = listen(p, a, on, f, fsk);
-    Looked {
+    let g = slice_if(p, a, on, f, fsk);
+    Advanced {
         on,
         pres: q,
         frame: g,
@@ -230,7 +230,7 @@ fn end_of(level: u32, c_run: f64, end: f64) -> f64
 fn end_if(
     ends: bool,
     p: Settings,
-    a: Look,
+    a: Inputs,
     s: Pres,
     b: Body,
     ook: &mut [u32],
@@ -256,8 +256,15 @@ fn long_of(on: bool, run: u32, long_steps: u32) -> bool
 }
 
 // A carrier: the frame so far is kept, cut, and the train ends too.
-fn cut_off(p: Settings, a: Look, t_run: f64, b: Body, ook: &mut [u32], fsk: &mut [u32]) -> Body
-    ensures { λ r. ⌜ (r, now (ook .exit), now (fsk .exit)) ≡ cutOffOf p a «t_run» b (now (ook .entry)) (now (fsk .entry)) ⌝ }
+fn end_carrier(
+    p: Settings,
+    a: Inputs,
+    t_run: f64,
+    b: Body,
+    ook: &mut [u32],
+    fsk: &mut [u32],
+) -> Body
+    ensures { λ r. ⌜ (r, now (ook .exit), now (fsk .exit)) ≡ endCarrierOf p a «t_run» b (now (ook .entry)) (now (fsk .entry)) ⌝ }
 {
     let mut m = b;
     m.frame.done.fsk_full = 1;
@@ -275,20 +282,20 @@ fn cut_off(p: Settings, a: Look, t_run: f64, b: Body, ook: &mut [u32], fsk: &mut
     k
 }
 
-fn carry(
+fn carrier_if(
     p: Settings,
-    a: Look,
+    a: Inputs,
     on: bool,
     s: Pres,
     b: Body,
     ook: &mut [u32],
     fsk: &mut [u32],
 ) -> Present
-    ensures { λ r. ⌜ (r, now (ook .exit), now (fsk .exit)) ≡ carryOf p a on s b (now (ook .entry)) (now (fsk .entry)) ⌝ }
+    ensures { λ r. ⌜ (r, now (ook .exit), now (fsk .exit)) ≡ carrierIfOf p a on s b (now (ook .entry)) (now (fsk .entry)) ⌝ }
 {
     let long = long_of(on, s.p_run, p.long_steps);
     if long {
-        let k = cut_off(p, a, s.p_t_run, b, ook, fsk);
+        let k = end_carrier(p, a, s.p_t_run, b, ook, fsk);
         return Present {
             next: Next::IdleAt(a.e),
             pres: s,
@@ -302,11 +309,18 @@ fn carry(
     }
 }
 
-pub fn presence(p: Settings, a: Look, s: Pres, b: Body, ook: &mut [u32], fsk: &mut [u32]) -> Present
+pub fn presence(
+    p: Settings,
+    a: Inputs,
+    s: Pres,
+    b: Body,
+    ook: &mut [u32],
+    fsk: &mut [u32],
+) -> Present
     ensures { λ r. ⌜ (r, now (ook .exit), now (fsk .exit)) ≡ presenceOf p a s b (now (ook .entry)) (now (fsk .entry)) ⌝ }
 {
     let fr = b.frame;
-    let l = hear(p, a, s, fr, fsk);
+    let l = advance(p, a, s, fr, fsk);
     let s1 = l.pres;
     let f1 = l.frame;
     let mut b1 = b;
@@ -315,7 +329,7 @@ pub fn presence(p: Settings, a: Look, s: Pres, b: Body, ook: &mut [u32], fsk: &m
     let ends = ends_of(due, l.on, s1.p_prev, p.min_steps);
     let s2 = sure_if(due, s1);
     let b2 = end_if(ends, p, a, s1, b1, ook, fsk);
-    carry(p, a, l.on, s2, b2, ook, fsk)
+    carrier_if(p, a, l.on, s2, b2, ook, fsk)
 }
 
 // The presence and the frame with their start.

@@ -9,7 +9,7 @@ use Rattle.arith.specs.Root.{sqrtOf}
 use Rattle.arith.specs.Leaves.{crossOf, gainOf, leadLenOf, nearestIn}
 use Rattle.grid.specs.Slots.{timeOf, lastRiseBelow, lastRise, times, upTo, transitionsOf, fold}
 use Rattle.grid.specs.Widths.{shorterOf, runsStep, runsOf, addedOf, meanAfter, meanStep, meanOf, gridOf, measuredOf, widthsOn, fskWidthsOf}
-use Rattle.worked.specs.Bursts.{linesOf, openingOf}
+use Rattle.worked.specs.Bursts.{openWith, burstWith, printed}
 
 -- a float is its bit pattern
 pub data Asked : Type 0 where
@@ -19,24 +19,22 @@ pub data Asked : Type 0 where
   a-gain : ℕ → Asked
   lead-len : ℕ → Asked
   fsk-widths : List ℕ → Asked
-  -- a burst of samples with these envelopes (M6 to M8), and an opening with this max_pulses (M10)
-  burst : List ℕ → Asked
-  opening : ℕ → Asked
+  -- the bytes of commands (M6 to M8, M10): the answer is the text that the listing program prints
+  commands : List ℕ → Asked
 
 abbrev one : ℕ → List ℕ
 one n = n ∷ []
 
 -- the answer that the definition has
 unfoldable pub answer : Asked → List ℕ
-unfolding roundOf sqrtOf crossOf gainOf ofBits toBits ofInt isNan sub mul div lt nearestIn timeOf lastRiseBelow lastRise times upTo transitionsOf fold shorterOf runsStep runsOf addedOf meanAfter meanStep meanOf gridOf measuredOf widthsOn fskWidthsOf linesOf openingOf
+unfolding roundOf sqrtOf crossOf gainOf ofBits toBits ofInt isNan sub mul div lt nearestIn timeOf lastRiseBelow lastRise times upTo transitionsOf fold shorterOf runsStep runsOf addedOf meanAfter meanStep meanOf gridOf measuredOf widthsOn fskWidthsOf printed
 answer (round x) = one (toBits binary64 (roundOf (ofBits binary64 x)))
 answer (sqrt x) = one (toBits binary32 (sqrtOf (ofBits binary32 x)))
 answer (cross prev cur thr) = one (toBits binary64 (crossOf (ofBits binary32 prev) (ofBits binary32 cur) (ofBits binary32 thr)))
 answer (a-gain e) = one (toBits binary32 (gainOf (ofBits binary32 e)))
 answer (lead-len m) = one (leadLenOf m)
 answer (fsk-widths slots) = fskWidthsOf slots
-answer (burst envelopes) = linesOf envelopes
-answer (opening max) = one (openingOf max)
+answer (commands bytes) = printed bytes
 
 pub data Row : Type 0 where
   row : Asked → List ℕ → Row
@@ -78,19 +76,30 @@ table =
     ∷ row (lead-len 2) (7 ∷ [])
     ∷ row (lead-len 4) (15 ∷ [])
     ∷ row (lead-len 5) (16 ∷ [])
-    -- M6: 0, 8, 8, 8, 8, then 0: `ook 11 15 0 4 41000000 vector 40800000 00000000 1 4 0` and `idle 19`
-    ∷ row (burst (0 ∷ eight ∷ eight ∷ eight ∷ eight ∷ 0 ∷ 0 ∷ 0 ∷ 0 ∷ 0 ∷ [])) (11 ∷ 15 ∷ 0 ∷ 4 ∷ 0x4100_0000 ∷ 0 ∷ 0x4080_0000 ∷ 0 ∷ 1 ∷ 4 ∷ 0 ∷ 19 ∷ [])
-    -- M7: 0, four 8s, 0, three 8s, then 0: one pulse of 8, index 11, end 19, idle at 23
-    ∷ row (burst (0 ∷ eight ∷ eight ∷ eight ∷ eight ∷ 0 ∷ eight ∷ eight ∷ eight ∷ 0 ∷ 0 ∷ 0 ∷ 0 ∷ 0 ∷ [])) (11 ∷ 19 ∷ 0 ∷ 8 ∷ 0x4100_0000 ∷ 0 ∷ 0x40e0_0000 ∷ 0 ∷ 1 ∷ 8 ∷ 0 ∷ 23 ∷ [])
+    -- M6: 0, 8, 8, 8, 8, then 0:
+    --   ook 11 15 0 4 41000000 vector 40800000 00000000 1 4 0
+    --   idle 19
+    ∷ row (commands (burstWith 0 (eight ∷ eight ∷ eight ∷ eight ∷ 0 ∷ 0 ∷ 0 ∷ 0 ∷ 0 ∷ [])))
+    (111 ∷ 111 ∷ 107 ∷ 32 ∷ 49 ∷ 49 ∷ 32 ∷ 49 ∷ 53 ∷ 32 ∷ 48 ∷ 32 ∷ 52 ∷ 32 ∷ 52 ∷ 49 ∷ 48 ∷ 48 ∷ 48 ∷ 48 ∷ 48 ∷ 48
+    ∷ 32 ∷ 118 ∷ 101 ∷ 99 ∷ 116 ∷ 111 ∷ 114 ∷ 32 ∷ 52 ∷ 48 ∷ 56 ∷ 48 ∷ 48 ∷ 48 ∷ 48 ∷ 48 ∷ 32 ∷ 48 ∷ 48 ∷ 48 ∷ 48
+    ∷ 48 ∷ 48 ∷ 48 ∷ 48 ∷ 32 ∷ 49 ∷ 32 ∷ 52 ∷ 32 ∷ 48 ∷ 10 ∷ 105 ∷ 100 ∷ 108 ∷ 101 ∷ 32 ∷ 49 ∷ 57 ∷ 10 ∷ [])
+    -- M7: 0, four 8s, 0, three 8s, then 0: one pulse of 8, index 11, end 19, idle at 23:
+    --   ook 11 19 0 8 41000000 vector 40e00000 00000000 1 8 0
+    --   idle 23
+    ∷ row (commands (burstWith 0 (eight ∷ eight ∷ eight ∷ eight ∷ 0 ∷ eight ∷ eight ∷ eight ∷ 0 ∷ 0 ∷ 0 ∷ 0 ∷ 0 ∷ [])))
+    (111 ∷ 111 ∷ 107 ∷ 32 ∷ 49 ∷ 49 ∷ 32 ∷ 49 ∷ 57 ∷ 32 ∷ 48 ∷ 32 ∷ 56 ∷ 32 ∷ 52 ∷ 49 ∷ 48 ∷ 48 ∷ 48 ∷ 48 ∷ 48 ∷ 48
+    ∷ 32 ∷ 118 ∷ 101 ∷ 99 ∷ 116 ∷ 111 ∷ 114 ∷ 32 ∷ 52 ∷ 48 ∷ 101 ∷ 48 ∷ 48 ∷ 48 ∷ 48 ∷ 48 ∷ 32 ∷ 48 ∷ 48 ∷ 48 ∷ 48
+    ∷ 48 ∷ 48 ∷ 48 ∷ 48 ∷ 32 ∷ 49 ∷ 32 ∷ 56 ∷ 32 ∷ 48 ∷ 10 ∷ 105 ∷ 100 ∷ 108 ∷ 101 ∷ 32 ∷ 50 ∷ 51 ∷ 10 ∷ [])
     -- M8: all 0: only `idle 16`
-    ∷ row (burst (0 ∷ 0 ∷ 0 ∷ 0 ∷ 0 ∷ 0 ∷ 0 ∷ [])) (16 ∷ [])
+    ∷ row (commands (burstWith 0 (0 ∷ 0 ∷ 0 ∷ 0 ∷ 0 ∷ 0 ∷ [])))
+    (105 ∷ 100 ∷ 108 ∷ 101 ∷ 32 ∷ 49 ∷ 54 ∷ 10 ∷ [])
     -- M9: slots 64, 0 give 1, 0; slots 128, 192 give 2, 1; the empty list stays empty
     ∷ row (fsk-widths (64 ∷ 0 ∷ [])) (1 ∷ 0 ∷ [])
     ∷ row (fsk-widths (128 ∷ 192 ∷ [])) (2 ∷ 1 ∷ [])
     ∷ row (fsk-widths []) []
-    -- M10: max_pulses 0 and 65,537 meet refusal 3; 1 and 65,536 do not
-    ∷ row (opening 0) (3 ∷ [])
-    ∷ row (opening 65537) (3 ∷ [])
-    ∷ row (opening 1) (0 ∷ [])
-    ∷ row (opening 65536) (0 ∷ [])
+    -- M10: max_pulses 0 and 65,537 meet refusal 3; 1 and 65,536 do not and print nothing
+    ∷ row (commands (openWith 0)) (114 ∷ 101 ∷ 102 ∷ 117 ∷ 115 ∷ 101 ∷ 100 ∷ 32 ∷ 51 ∷ 10 ∷ [])
+    ∷ row (commands (openWith 65537)) (114 ∷ 101 ∷ 102 ∷ 117 ∷ 115 ∷ 101 ∷ 100 ∷ 32 ∷ 51 ∷ 10 ∷ [])
+    ∷ row (commands (openWith 1)) []
+    ∷ row (commands (openWith 65536)) []
     ∷ []

@@ -1,3 +1,4 @@
+-- `burst::begin_burst` meets its contract: the definition over what the calls ensure. Assumes nothing.
 use Rattle.burst.specs.Lead.{beginBurstOf}
 use borrow.Author.Needs.{needs}
 use Rattle.burst.proofs.begin_burst.Statement.{statement}

@@ -1,3 +1,4 @@
+-- `burst::largest` meets its contract: by its loop's law, what is left from here gives the whole. Assumes nothing.
 use Prim.Native.Nat.{_-_, _≤_}
 use mathlib.Core.Path.{_≡_, refl, _∙_, sym}
 use native.Mathlib.Nat.{sub-zero}

@@ -1,3 +1,4 @@
+-- `burst::last` meets its contract: the definition over what the calls ensure. Assumes nothing.
 use Rattle.burst.specs.Sample.{lastOf}
 use borrow.Author.Needs.{needs}
 use Rattle.burst.proofs.last.Statement.{statement}

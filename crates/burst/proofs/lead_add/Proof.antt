@@ -1,3 +1,4 @@
+-- `burst::lead_add` meets its contract: the definition over what the calls ensure. Assumes nothing.
 use Rattle.burst.specs.Lead.{leadAddOf}
 use borrow.Author.Needs.{needs}
 use Rattle.burst.proofs.lead_add.Statement.{statement}

@@ -1,3 +1,4 @@
+-- `burst::lead_at` meets its contract: the definition over what the calls ensure. Assumes nothing.
 use Rattle.burst.specs.Lead.{leadAtOf}
 use borrow.Author.Needs.{needs}
 use Rattle.burst.proofs.lead_at.Statement.{statement}

@@ -1,3 +1,4 @@
+-- `burst::lead_full` meets its contract: the definition over what the calls ensure. Assumes nothing.
 use Rattle.burst.specs.Lead.{leadFullOf}
 use borrow.Author.Needs.{needs}
 use Rattle.burst.proofs.lead_full.Statement.{statement}

@@ -1,8 +1,15 @@
+-- `burst::present` meets its contract: at each branch the definition gives what the calls ensure. Assumes nothing.
 use Rattle.burst.specs.Sample.{presentOf}
 use native.Mathlib.Omega.{arith}
 use borrow.Author.Needs.{needs}
 use Rattle.burst.proofs.present.Statement.{statement}
 use Rattle.burst.proofs.present.Tie as tie
+
+inputs-of-requires : tie.Need-inputs-of-requires
+inputs-of-requires c κs = search needs
+
+body-in-requires : tie.Need-body-in-requires
+body-in-requires c κs = search needs
 
 presence-requires : tie.Need-presence-requires
 presence-requires c κs = search needs
@@ -24,7 +31,7 @@ same-length-2 c = search needs
 
 returns : tie.Need-returns
 unfolding presentOf
-returns c = simp (← c .before .before .before .before .before .before .before .before .before .before .before .before .before .before .before .before .presence .ensures, ← c .before .before .before .before .before .before .before .before .before .with-present .ensures, ← c .before .before .before .before .before .before .before .before .is-stay .ensures, c .before .before .before .before .before .before .before .if1 .taken, ← c .before .before .before .before .last .ensures)
+returns c = simp (← c .before .before .before .before .before .before .before .before .before .before .before .before .before .before .before .before .before .before .before .before .before .inputs-of .ensures, ← c .before .before .before .before .before .before .before .before .before .before .before .before .before .before .before .before .before .before .before .before .body-in .ensures, ← c .before .before .before .before .before .before .before .before .before .before .before .before .before .before .before .before .presence .ensures, ← c .before .before .before .before .before .before .before .before .before .with-present .ensures, ← c .before .before .before .before .before .before .before .before .is-stay .ensures, c .before .before .before .before .before .before .before .if1 .taken, ← c .before .before .before .before .last .ensures)
 
 same-length-3 : tie.Need-same-length-3
 same-length-3 c = search needs
@@ -34,12 +41,14 @@ same-length-4 c = search needs
 
 returns-2 : tie.Need-returns-2
 unfolding presentOf
-returns-2 c = simp (← c .before .before .before .before .before .before .before .before .before .presence .ensures, ← c .before .before .with-present .ensures, ← c .before .is-stay .ensures, c .if1 .left)
+returns-2 c = simp (← c .before .before .before .before .before .before .before .before .before .before .before .before .before .before .inputs-of .ensures, ← c .before .before .before .before .before .before .before .before .before .before .before .before .before .body-in .ensures, ← c .before .before .before .before .before .before .before .before .before .presence .ensures, ← c .before .before .with-present .ensures, ← c .before .is-stay .ensures, c .if1 .left)
 
 pub present-spec : {M : Type 1} → statement M
 present-spec =
     tie.close
     (tie.spec
+    inputs-of-requires
+    body-in-requires
     presence-requires
     with-present-requires
     is-stay-requires

@@ -1,3 +1,4 @@
+-- `burst::rest` meets its contract: at each branch the definition gives what the calls ensure. Assumes nothing.
 use Rattle.burst.specs.Sample.{restOf}
 use borrow.Author.Needs.{needs}
 use Rattle.burst.proofs.rest.Statement.{statement}

@@ -1,3 +1,4 @@
+-- `burst::snap_if` meets its contract: at each branch the definition gives what the calls ensure. Assumes nothing.
 use Rattle.burst.specs.Sample.{snapIfOf}
 use borrow.Author.Needs.{needs}
 use Rattle.burst.proofs.snap_if.Statement.{statement}

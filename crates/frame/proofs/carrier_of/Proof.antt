@@ -1,3 +1,4 @@
+-- `frame::carrier_of` meets its contract: at each branch the definition gives what the calls ensure. Assumes nothing.
 use Rattle.frame.specs.End.{carrierOf}
 use borrow.Author.Needs.{needs}
 use Rattle.frame.proofs.carrier_of.Statement.{statement}

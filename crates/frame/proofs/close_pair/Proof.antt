@@ -1,3 +1,4 @@
+-- `frame::close_pair` meets its contract: at each branch the definition gives what the calls ensure. Assumes nothing.
 use Rattle.frame.specs.End.{closePairOf}
 use borrow.Author.Needs.{needs}
 use Rattle.frame.proofs.close_pair.Statement.{statement}

@@ -1,3 +1,4 @@
+-- `frame::cut_train` meets its contract: at each branch the definition gives what the calls ensure. Assumes nothing.
 use Rattle.frame.specs.Cut.{cutTrainOf}
 use borrow.Author.Needs.{needs}
 use Rattle.frame.proofs.cut_train.Statement.{statement}

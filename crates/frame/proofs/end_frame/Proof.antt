@@ -1,3 +1,4 @@
+-- `frame::end_frame` meets its contract: at each branch the definition gives what the calls ensure. Assumes nothing.
 use Rattle.frame.specs.End.{endFrameOf}
 use borrow.Author.Needs.{needs}
 use Rattle.frame.proofs.end_frame.Statement.{statement}

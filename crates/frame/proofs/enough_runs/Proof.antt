@@ -1,3 +1,4 @@
+-- `frame::enough_runs` meets its contract: the definition over what the calls ensure. Assumes nothing.
 use Rattle.frame.specs.End.{enoughRunsOf}
 use borrow.Author.Needs.{needs}
 use Rattle.frame.proofs.enough_runs.Statement.{statement}

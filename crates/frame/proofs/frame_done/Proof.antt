@@ -1,3 +1,4 @@
+-- `frame::frame_done` meets its contract: at each branch the definition gives what the calls ensure. Assumes nothing.
 use Rattle.frame.specs.Done.{frameDoneOf}
 use borrow.Author.Needs.{needs}
 use Rattle.frame.proofs.frame_done.Statement.{statement}

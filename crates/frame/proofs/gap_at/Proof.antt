@@ -1,3 +1,4 @@
+-- `frame::gap_at` meets its contract: at each branch the definition gives what the calls ensure. Assumes nothing.
 use Rattle.frame.specs.Cut.{gapAtOf}
 use borrow.Author.Needs.{needs}
 use Rattle.frame.proofs.gap_at.Statement.{statement}

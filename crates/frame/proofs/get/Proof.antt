@@ -1,3 +1,4 @@
+-- `frame::get` meets its contract: by its tests. Assumes nothing.
 use lib.ListN.{List·getD-eq-default}
 use mathlib.Core.Path.{sym}
 use borrow.Author.Needs.{needs}

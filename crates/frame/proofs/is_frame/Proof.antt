@@ -1,3 +1,4 @@
+-- `frame::is_frame` meets its contract: by its tests. Assumes nothing.
 use Rattle.frame.specs.End.{isFrameOf}
 use Rattle.frame.proofs.is_frame.Statement.{statement}
 use Rattle.frame.proofs.is_frame.Tie as tie

@@ -1,3 +1,4 @@
+-- `frame::is_split` meets its contract: by its tests. Assumes nothing.
 use Rattle.frame.specs.End.{isSplitOf}
 use Rattle.frame.proofs.is_split.Statement.{statement}
 use Rattle.frame.proofs.is_split.Tie as tie

@@ -1,3 +1,4 @@
+-- `frame::keep_before` meets its contract: by its loop's law, what is left from here gives the whole. Assumes nothing.
 use Prim.Native.Nat.{_-_}
 use mathlib.Core.Path.{_≡_, sym, _∙_}
 use native.Mathlib.Numerals.{unary-clauses}

@@ -1,3 +1,4 @@
+-- `frame::keep_next` meets its contract: the definition over what the calls ensure. Assumes nothing.
 use Rattle.frame.specs.Cut.{keepNextOf}
 use borrow.Author.Needs.{needs}
 use Rattle.frame.proofs.keep_next.Statement.{statement}

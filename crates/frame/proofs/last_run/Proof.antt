@@ -1,3 +1,4 @@
+-- `frame::last_run` meets its contract: at each branch the definition gives what the calls ensure. Assumes nothing.
 use Rattle.frame.specs.End.{lastRunOf}
 use borrow.Author.Needs.{needs}
 use Rattle.frame.proofs.last_run.Statement.{statement}

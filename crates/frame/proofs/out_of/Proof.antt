@@ -1,3 +1,4 @@
+-- `frame::out_of` meets its contract: the definition over what the calls ensure. Assumes nothing.
 use Rattle.frame.specs.End.{outOf}
 use borrow.Author.Needs.{needs}
 use Rattle.frame.proofs.out_of.Statement.{statement}

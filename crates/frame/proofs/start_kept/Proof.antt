@@ -1,3 +1,4 @@
+-- `frame::start_kept` meets its contract: the definition over what the calls ensure. Assumes nothing.
 use Rattle.frame.specs.Cut.{startKeptOf}
 use borrow.Author.Needs.{needs}
 use Rattle.frame.proofs.start_kept.Statement.{statement}

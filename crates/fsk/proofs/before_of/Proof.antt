@@ -1,3 +1,4 @@
+-- `fsk::before_of` meets its contract: at each branch the definition gives what the calls ensure. Assumes nothing.
 use Rattle.fsk.specs.Resolve.{beforeOf}
 use borrow.Author.Needs.{needs}
 use Rattle.fsk.proofs.before_of.Statement.{statement}

@@ -1,3 +1,4 @@
+-- `fsk::begin_frame` meets its contract: the definition, field by field. Assumes nothing.
 use mathlib.Core.Path.{refl}
 use Rattle.fsk.specs.Resolve.{beginFrameOf}
 use Rattle.fsk.proofs.begin_frame.Statement.{statement}

@@ -1,3 +1,4 @@
+-- `fsk::begin_run` meets its contract: the definition, field by field. Assumes nothing.
 use mathlib.Core.Path.{refl}
 use Rattle.fsk.specs.RunStep.{beginRunOf}
 use Rattle.fsk.proofs.begin_run.Statement.{statement}

@@ -1,3 +1,4 @@
+-- `fsk::cand_at` meets its contract: by its tests. Assumes nothing.
 use borrow.Author.Tests.{lt-ltb, le-ltb}
 use Rattle.fsk.specs.Resolve.{candAtOf}
 use borrow.Author.Needs.{needs}

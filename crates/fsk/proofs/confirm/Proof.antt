@@ -1,3 +1,4 @@
+-- `fsk::confirm` meets its contract: at each branch the definition gives what the calls ensure. Assumes nothing.
 use Rattle.fsk.specs.RunStep.{confirmOf}
 use borrow.Author.Needs.{needs}
 use Rattle.fsk.proofs.confirm.Statement.{statement}

@@ -1,3 +1,4 @@
+-- `fsk::first_past` meets its contract: by its loop's law, what is left from here gives the whole. Assumes nothing.
 use Prim.Native.Nat.{_-_}
 use native.Mathlib.Numerals.{unary-clauses}
 use mathlib.Core.Path.{_≡_, refl, sym, _∙_}

@@ -1,3 +1,4 @@
+-- `fsk::fsk_commit` meets its contract: at each branch the definition gives what the calls ensure. Assumes nothing.
 use Rattle.fsk.specs.Commit.{fskCommitOf}
 use mathlib.Core.Path.{ap}
 use Rattle.arith.specs.declared.Steps.{Steps}

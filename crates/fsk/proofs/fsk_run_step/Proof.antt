@@ -1,3 +1,4 @@
+-- `fsk::fsk_run_step` meets its contract: at each branch the definition gives what the calls ensure. Assumes nothing.
 use Rattle.fsk.specs.RunStep.{fskRunStepOf}
 use borrow.Author.Needs.{needs}
 use Rattle.fsk.proofs.fsk_run_step.Statement.{statement}

@@ -1,3 +1,4 @@
+-- `fsk::is_early` meets its contract: at each branch the definition gives what the calls ensure. Assumes nothing.
 use Rattle.fsk.specs.Resolve.{isEarlyOf}
 use borrow.Author.Needs.{needs}
 use Rattle.fsk.proofs.is_early.Statement.{statement}

@@ -1,3 +1,4 @@
+-- `fsk::lengthen` meets its contract: the definition over what the calls ensure. Assumes nothing.
 use Rattle.fsk.specs.RunStep.{lengthenOf}
 use borrow.Author.Needs.{needs}
 use Rattle.fsk.proofs.lengthen.Statement.{statement}

@@ -1,3 +1,4 @@
+-- `fsk::lower_run` meets its contract: at each branch the definition gives what the calls ensure. Assumes nothing.
 use Rattle.fsk.specs.Commit.{lowerRunOf}
 use borrow.Author.Needs.{needs}
 use Rattle.fsk.proofs.lower_run.Statement.{statement}

@@ -1,3 +1,4 @@
+-- `fsk::open_runs` meets its contract: at each branch the definition gives what the calls ensure. Assumes nothing.
 use Rattle.fsk.specs.Resolve.{openRunsOf}
 use borrow.Author.Needs.{needs}
 use Rattle.fsk.proofs.open_runs.Statement.{statement}

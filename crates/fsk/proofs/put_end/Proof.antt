@@ -1,3 +1,4 @@
+-- `fsk::put_end` meets its contract: the definition over what the calls ensure. Assumes nothing.
 use Rattle.fsk.specs.Commit.{putEndOf}
 use mathlib.Core.Path.{ap}
 use Rattle.arith.specs.declared.Fix64.{Fix64}

@@ -1,3 +1,4 @@
+-- `fsk::rejoin` meets its contract: the definition over what the calls ensure. Assumes nothing.
 use Rattle.fsk.specs.RunStep.{rejoinOf}
 use borrow.Author.Needs.{needs}
 use Rattle.fsk.proofs.rejoin.Statement.{statement}

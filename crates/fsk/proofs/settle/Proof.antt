@@ -1,3 +1,4 @@
+-- `fsk::settle` meets its contract: at each branch the definition gives what the calls ensure. Assumes nothing.
 use Rattle.fsk.specs.Resolve.{settleOf}
 use borrow.Author.Needs.{needs}
 use Rattle.fsk.proofs.settle.Statement.{statement}

@@ -1,3 +1,4 @@
+-- `fsk::upper_run` meets its contract: at each branch the definition gives what the calls ensure. Assumes nothing.
 use Rattle.fsk.specs.Commit.{upperRunOf}
 use borrow.Author.Needs.{needs}
 use Rattle.fsk.proofs.upper_run.Statement.{statement}

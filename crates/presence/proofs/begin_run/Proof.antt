@@ -1,3 +1,4 @@
+-- `presence::begin_run` meets its contract: the definition, field by field. Assumes nothing.
 use mathlib.Core.Path.{refl}
 use Rattle.presence.specs.Move.{beginRunOf}
 use Rattle.presence.proofs.begin_run.Statement.{statement}

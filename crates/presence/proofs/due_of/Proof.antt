@@ -1,3 +1,4 @@
+-- `presence::due_of` meets its contract: by its tests. Assumes nothing.
 use Rattle.presence.specs.Presence.{dueOf}
 use Rattle.presence.proofs.due_of.Statement.{statement}
 use Rattle.presence.proofs.due_of.Tie as tie

@@ -1,3 +1,4 @@
+-- `presence::end_of` meets its contract: at each branch the definition gives what the calls ensure. Assumes nothing.
 use Rattle.presence.specs.Presence.{endOf}
 use borrow.Author.Needs.{needs}
 use Rattle.presence.proofs.end_of.Statement.{statement}

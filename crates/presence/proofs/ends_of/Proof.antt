@@ -1,3 +1,4 @@
+-- `presence::ends_of` meets its contract: by its tests. Assumes nothing.
 use Rattle.presence.specs.Presence.{endsOf}
 use Rattle.presence.proofs.ends_of.Statement.{statement}
 use Rattle.presence.proofs.ends_of.Tie as tie

@@ -1,3 +1,4 @@
+-- `presence::extend` meets its contract: the definition over what the calls ensure. Assumes nothing.
 use Rattle.presence.specs.Move.{extendOf}
 use borrow.Author.Needs.{needs}
 use Rattle.presence.proofs.extend.Statement.{statement}

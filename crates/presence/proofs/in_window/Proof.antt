@@ -1,3 +1,4 @@
+-- `presence::in_window` meets its contract: by its tests. Assumes nothing.
 use Rattle.presence.specs.Presence.{inWindowOf}
 use Rattle.presence.proofs.in_window.Statement.{statement}
 use Rattle.presence.proofs.in_window.Tie as tie

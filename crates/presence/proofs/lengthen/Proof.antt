@@ -1,3 +1,4 @@
+-- `presence::lengthen` meets its contract: the definition over what the calls ensure. Assumes nothing.
 use Rattle.presence.specs.Move.{lengthenOf}
 use borrow.Author.Needs.{needs}
 use Rattle.presence.proofs.lengthen.Statement.{statement}

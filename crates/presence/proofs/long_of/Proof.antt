@@ -1,3 +1,4 @@
+-- `presence::long_of` meets its contract: by its tests. Assumes nothing.
 use Rattle.presence.specs.Presence.{longOf}
 use Rattle.presence.proofs.long_of.Statement.{statement}
 use Rattle.presence.proofs.long_of.Tie as tie

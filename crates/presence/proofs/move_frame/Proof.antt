@@ -1,3 +1,4 @@
+-- `presence::move_frame` meets its contract: at each branch the definition gives what the calls ensure. Assumes nothing.
 use Rattle.presence.specs.Move.{moveFrameOf}
 use borrow.Author.Needs.{needs}
 use Rattle.presence.proofs.move_frame.Statement.{statement}

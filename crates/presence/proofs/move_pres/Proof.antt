@@ -1,3 +1,4 @@
+-- `presence::move_pres` meets its contract: at each branch the definition gives what the calls ensure. Assumes nothing.
 use Rattle.presence.specs.Move.{movePresOf}
 use borrow.Author.Needs.{needs}
 use Rattle.presence.proofs.move_pres.Statement.{statement}

@@ -1,3 +1,4 @@
+-- `presence::near_start` meets its contract: at each branch the definition gives what the calls ensure. Assumes nothing.
 use Rattle.presence.specs.Presence.{nearStartOf}
 use borrow.Author.Needs.{needs}
 use Rattle.presence.proofs.near_start.Statement.{statement}

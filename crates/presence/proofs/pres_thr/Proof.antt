@@ -1,3 +1,4 @@
+-- `presence::pres_thr` meets its contract: by its tests. Assumes nothing.
 use Rattle.presence.specs.Move.{presThrOf}
 use Rattle.presence.proofs.pres_thr.Statement.{statement}
 use Rattle.presence.proofs.pres_thr.Tie as tie

@@ -1,3 +1,4 @@
+-- `presence::rejoin` meets its contract: the definition over what the calls ensure. Assumes nothing.
 use Rattle.presence.specs.Move.{rejoinOf}
 use borrow.Author.Needs.{needs}
 use Rattle.presence.proofs.rejoin.Statement.{statement}

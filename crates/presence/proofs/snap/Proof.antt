@@ -1,3 +1,4 @@
+-- `presence::snap` meets its contract: at each branch the definition gives what the calls ensure. Assumes nothing.
 use Rattle.presence.specs.Presence.{snapOf}
 use borrow.Author.Needs.{needs}
 use Rattle.presence.proofs.snap.Statement.{statement}

@@ -1,3 +1,4 @@
+-- `presence::sure_if` meets its contract: by its tests. Assumes nothing.
 use Rattle.presence.specs.Presence.{sureIfOf}
 use Rattle.presence.proofs.sure_if.Statement.{statement}
 use Rattle.presence.proofs.sure_if.Tie as tie

@@ -1,3 +1,4 @@
+-- `slicer::average` meets its contract: the definition over what the calls ensure. Assumes nothing.
 use Rattle.slicer.specs.Seek.{averageOf}
 use borrow.Author.Needs.{needs}
 use Rattle.slicer.proofs.average.Statement.{statement}

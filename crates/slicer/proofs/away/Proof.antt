@@ -1,3 +1,4 @@
+-- `slicer::away` meets its contract: at each branch the definition gives what the calls ensure. Assumes nothing.
 use Rattle.slicer.specs.Sample.{awayOf}
 use borrow.Author.Needs.{needs}
 use Rattle.slicer.proofs.away.Statement.{statement}

@@ -1,3 +1,4 @@
+-- `slicer::before_if` meets its contract: by its tests. Assumes nothing.
 use Rattle.slicer.specs.Seek.{beforeIfOf}
 use Rattle.slicer.proofs.before_if.Statement.{statement}
 use Rattle.slicer.proofs.before_if.Tie as tie

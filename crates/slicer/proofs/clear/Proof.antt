@@ -1,3 +1,4 @@
+-- `slicer::clear` meets its contract: the definition, field by field. Assumes nothing.
 use mathlib.Core.Path.{refl}
 use Rattle.slicer.specs.Seek.{clearOf}
 use Rattle.slicer.proofs.clear.Statement.{statement}

@@ -1,3 +1,4 @@
+-- `slicer::far_from` meets its contract: the definition over what the calls ensure. Assumes nothing.
 use Rattle.slicer.specs.Seek.{farFromOf}
 use borrow.Author.Needs.{needs}
 use Rattle.slicer.proofs.far_from.Statement.{statement}

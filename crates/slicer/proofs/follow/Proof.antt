@@ -1,3 +1,4 @@
+-- `slicer::follow` meets its contract: by its tests. Assumes nothing.
 use Rattle.slicer.specs.Tone.{followOf}
 use Rattle.slicer.proofs.follow.Statement.{statement}
 use Rattle.slicer.proofs.follow.Tie as tie

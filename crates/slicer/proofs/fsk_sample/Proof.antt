@@ -1,3 +1,4 @@
+-- `slicer::fsk_sample` meets its contract: at each branch the definition gives what the calls ensure. Assumes nothing.
 use Rattle.slicer.specs.Sample.{fskSampleOf}
 use borrow.Author.Needs.{needs}
 use Rattle.slicer.proofs.fsk_sample.Statement.{statement}

@@ -1,3 +1,4 @@
+-- `slicer::low_pass` meets its contract: the definition over what the calls ensure. Assumes nothing.
 use Rattle.slicer.specs.Tone.{lowPassOf}
 use borrow.Author.Needs.{needs}
 use Rattle.slicer.proofs.low_pass.Statement.{statement}

@@ -1,3 +1,4 @@
+-- `slicer::push_cand` meets its contract: the definition over what the calls ensure. Assumes nothing.
 use Rattle.slicer.specs.Seek.{pushCandOf}
 use borrow.Author.Needs.{needs}
 use Rattle.slicer.proofs.push_cand.Statement.{statement}

@@ -1,3 +1,4 @@
+-- `slicer::restart` meets its contract: the definition over what the calls ensure. Assumes nothing.
 use Rattle.slicer.specs.Sample.{restartOf}
 use borrow.Author.Needs.{needs}
 use Rattle.slicer.proofs.restart.Statement.{statement}

@@ -1,3 +1,4 @@
+-- `slicer::restart_at` meets its contract: the definition over what the calls ensure. Assumes nothing.
 use Rattle.slicer.specs.Seek.{restartAtOf}
 use borrow.Author.Needs.{needs}
 use Rattle.slicer.proofs.restart_at.Statement.{statement}

@@ -1,3 +1,4 @@
+-- `slicer::restart_early` meets its contract: at each branch the definition gives what the calls ensure. Assumes nothing.
 use Rattle.slicer.specs.Seek.{restartEarlyOf}
 use borrow.Author.Needs.{needs}
 use Rattle.slicer.proofs.restart_early.Statement.{statement}

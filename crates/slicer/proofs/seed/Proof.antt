@@ -1,3 +1,4 @@
+-- `slicer::seed` meets its contract: by its tests. Assumes nothing.
 use Rattle.slicer.specs.Seek.{seedOf}
 use Rattle.slicer.proofs.seed.Statement.{statement}
 use Rattle.slicer.proofs.seed.Tie as tie

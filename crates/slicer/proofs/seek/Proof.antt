@@ -1,3 +1,4 @@
+-- `slicer::seek` meets its contract: at each branch the definition gives what the calls ensure. Assumes nothing.
 use Rattle.slicer.specs.Sample.{seekOf}
 use borrow.Author.Needs.{needs}
 use Rattle.slicer.proofs.seek.Statement.{statement}

@@ -1,3 +1,4 @@
+-- `slicer::seek_frame` meets its contract: the definition over what the calls ensure. Assumes nothing.
 use Rattle.slicer.specs.Sample.{seekFrameOf}
 use borrow.Author.Needs.{needs}
 use Rattle.slicer.proofs.seek_frame.Statement.{statement}

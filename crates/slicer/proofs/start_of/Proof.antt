@@ -1,3 +1,4 @@
+-- `slicer::start_of` meets its contract: by its tests. Assumes nothing.
 use Rattle.slicer.specs.Seek.{startOf}
 use Rattle.slicer.proofs.start_of.Statement.{statement}
 use Rattle.slicer.proofs.start_of.Tie as tie

@@ -1,3 +1,4 @@
+-- `slicer::tone_of` meets its contract: the definition over what the calls ensure. Assumes nothing.
 use Rattle.slicer.specs.Tone.{toneOf}
 use borrow.Author.Needs.{needs}
 use Rattle.slicer.proofs.tone_of.Statement.{statement}

@@ -1,3 +1,4 @@
+-- `slicer::track` meets its contract: the definition over what the calls ensure. Assumes nothing.
 use Rattle.slicer.specs.Sample.{trackOf}
 use borrow.Author.Needs.{needs}
 use Rattle.slicer.proofs.track.Statement.{statement}

@@ -1,3 +1,4 @@
+-- `slicer::upper_of` meets its contract: by its tests. Assumes nothing.
 use Rattle.slicer.specs.Tone.{upperOf}
 use Rattle.slicer.proofs.upper_of.Statement.{statement}
 use Rattle.slicer.proofs.upper_of.Tie as tie

@@ -1,7 +1,8 @@
-use Rattle.presence.specs.Presence.{cutOffOf}
+-- `presence::end_carrier` meets its contract: the definition over what the calls ensure. Assumes nothing.
+use Rattle.presence.specs.Presence.{endCarrierOf}
 use borrow.Author.Needs.{needs}
-use Rattle.presence.proofs.cut_off.Statement.{statement}
-use Rattle.presence.proofs.cut_off.Tie as tie
+use Rattle.presence.proofs.end_carrier.Statement.{statement}
+use Rattle.presence.proofs.end_carrier.Tie as tie
 
 u64-to-f64-requires : tie.Need-u64-to-f64-requires
 u64-to-f64-requires c κs = search needs
@@ -19,11 +20,11 @@ same-length-2 : tie.Need-same-length-2
 same-length-2 c = search needs
 
 returns : tie.Need-returns
-unfolding cutOffOf
+unfolding endCarrierOf
 returns c = simp (← c .before .before .before .before .before .before .before .before .before .before .before .before .before .before .before .before .u64-to-f64 .ensures, ← c .before .before .before .before .before .before .before .before .before .before .before .before .frame-done .ensures, ← c .before .before .before .before .end-train .ensures)
 
-pub cut-off-spec : {M : Type 1} → statement M
-cut-off-spec =
+pub end-carrier-spec : {M : Type 1} → statement M
+end-carrier-spec =
     tie.close
     (tie.spec
     u64-to-f64-requires
