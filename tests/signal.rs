@@ -361,7 +361,7 @@ impl Generator {
         self.silence(&mut plan, low);
         if self.settings.mode == 2 && self.r.once_in(4) {
             self.pulses(&mut plan);
-            let gap = self.settings.gap_steps.min(300).max(self.settings.min_steps);
+            let gap = self.settings.gap_steps.min(300).max(self.settings.min_steps.min(60));
             let len = self.r.from_to(u64::from(self.settings.min_steps.min(60)), u64::from(gap));
             self.silence(&mut plan, len);
             self.frame(&mut plan);
