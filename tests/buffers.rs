@@ -105,7 +105,7 @@ fn compared(seed: u64, calls: u64, text: &mut [u8], figures: &mut Figures) -> Re
 }
 
 fn run() -> Result<String, String> {
-    let (mut streams, mut calls, mut first) = (600u64, 400u64, 1u64);
+    let (mut streams, mut calls, mut first) = (400u64, 400u64, 1u64);
     let mut args = std::env::args().skip(1);
     while let Some(a) = args.next() {
         let value = args.next().and_then(|v| v.parse().ok()).ok_or(format!("{a}: a number"))?;

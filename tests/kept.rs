@@ -126,7 +126,7 @@ fn run() -> Result<String, String> {
         }
     }
     let words: Vec<String> = census.iter().map(|(kind, n)| format!("{kind}: {n}")).collect();
-    Ok(format!("{} of {} programs print it: {}", LISTING, programs.len(), words.join(", ")))
+    Ok(format!("{} prints {LISTING}: {}", programs.join(" and "), words.join(", ")))
 }
 
 fn main() -> ExitCode {
