@@ -3,7 +3,6 @@
 ghost use mathlib.Core.Path.{_≡_};
 ghost use Prim.Native.Nat.{_+_, _≤_, _<_};
 ghost use lib.ListN.{length, drop};
-ghost use lib.Ieee.{binary32, ofBits};
 ghost use Rattle.commands.specs.Command.{u32At, u64At, f32At, pairAt, historyOf, settingsOf, beginArgsOf, stepArgsOf, decoded, sizeOf};
 use arith::C32;
 use lane::BeginArgs;
@@ -52,21 +51,11 @@ fn u64_at(o: &[u8], i: usize) -> u64
     low + high * 0x1_0000_0000
 }
 
-// The float of a bit pattern. Every pattern of a NaN gives the one NaN, as 0 / 0 does.
-fn float_of(n: u32) -> f32
-    ensures { λ r. ⌜ r ≡ ofBits binary32 n ⌝ }
-{
-    if n % 0x8000_0000 > 0x7f80_0000 {
-        return 0.0 / 0.0;
-    }
-    f32::from_bits(n)
-}
-
 fn f32_at(o: &[u8], i: usize) -> f32
     requires { ⌜ i + 4 ≤ length (now o) ⌝ }
     ensures { λ r. ⌜ r ≡ f32At (now (o .entry)) i ⌝ }
 {
-    float_of(u32_at(o, i))
+    arith::f32_of_bits(u32_at(o, i))
 }
 
 fn pair_at(o: &[u8], i: usize) -> C32

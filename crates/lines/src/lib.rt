@@ -3,7 +3,6 @@ ghost use mathlib.Core.Path.{_≡_};
 ghost use mathlib.Core.List.{List, [], _∷_, _++_};
 ghost use Prim.Native.Nat.{ℕ, _+_, _*_, _≤_, _<_};
 ghost use lib.ListN.{length};
-ghost use lib.Ieee.{binary32, toBits};
 ghost use Rattle.lines.specs.Line.{decimal, number, float, kind, carrier, widths, span, trainHead, trainTail, trainLine, recordLine, idleLine, carrierLine, refusedLine, callText, maxSlots, trainRoom, callRoom, largerOf, hasRoom, writtenCall, Put, Spelled};
 ghost use Rattle.lines.specs.Line.{glyph as Line·glyph};
 ghost use Rattle.ook.specs.declared.Carrier.the-variants as Carrier;
@@ -87,22 +86,12 @@ fn glyph(d: u32) -> u8
     87 + d as u8
 }
 
-// The bits of a float, 7fc00000 for the NaN.
-fn bits_of(x: f32) -> u32
-    ensures { λ r. ⌜ r ≡ toBits binary32 x ⌝ }
-{
-    if x != x {
-        return 0x7fc0_0000;
-    }
-    f32::to_bits(x)
-}
-
 // A space and a float's bits.
 fn put_float(x: f32, text: &mut [u8], at: usize) -> usize
     requires { ⌜ at + 9 ≤ length (now text) ⌝ }
     ensures { λ r. ⌜ Put (float x) 9 at (now (text .entry)) r (now (text .exit)) ⌝ }
 {
-    let n = bits_of(x);
+    let n = arith::bits_of_f32(x);
     let a = glyph(n / 0x1000_0000 % 16);
     let b = glyph(n / 0x100_0000 % 16);
     let c = glyph(n / 0x10_0000 % 16);

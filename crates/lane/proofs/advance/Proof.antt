@@ -1,3 +1,4 @@
+-- `lane::advance` meets its contract: at each branch the definition gives what the calls ensure. Assumes nothing.
 use Rattle.lane.specs.Advance.{advanceOf}
 use borrow.Author.Needs.{needs}
 use Rattle.lane.proofs.advance.Statement.{statement}

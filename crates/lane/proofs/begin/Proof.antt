@@ -1,3 +1,4 @@
+-- `lane::begin` meets its contract: at each branch the definition gives what the calls ensure. Assumes nothing.
 use Rattle.lane.specs.Step.{begun}
 use borrow.Author.Needs.{needs}
 use Rattle.lane.proofs.begin.Statement.{statement}

@@ -1,3 +1,4 @@
+-- `lane::begin_floats_ok` meets its contract: the definition over what the calls ensure. Assumes nothing.
 use Rattle.lane.specs.Refusals.{beginFloatsOk}
 use borrow.Author.Needs.{needs}
 use Rattle.lane.proofs.begin_floats_ok.Statement.{statement}

@@ -1,3 +1,4 @@
+-- `lane::begin_lead` meets its contract: the code is the definition. Assumes nothing.
 use mathlib.Core.Path.{refl}
 use Rattle.lane.specs.Begin.{beginLeadOf}
 use borrow.Author.Needs.{needs}

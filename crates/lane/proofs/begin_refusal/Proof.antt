@@ -1,3 +1,4 @@
+-- `lane::begin_refusal` meets its contract: the definition over what the calls ensure. Assumes nothing.
 use Rattle.lane.specs.Refusals.{beginRefusal}
 use borrow.Author.Needs.{needs}
 use Rattle.lane.proofs.begin_refusal.Statement.{statement}

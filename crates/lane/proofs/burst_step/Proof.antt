@@ -1,3 +1,4 @@
+-- `lane::burst_step` meets its contract: the definition over what the calls ensure. Assumes nothing.
 use Rattle.lane.specs.Advance.{burstStep}
 use borrow.Author.Needs.{needs}
 use Rattle.lane.proofs.burst_step.Statement.{statement}

@@ -1,3 +1,4 @@
+-- `lane::clear_records` meets its contract: the definition over what the calls ensure. Assumes nothing.
 use Rattle.lane.specs.Begin.{clearedOf}
 use borrow.Author.Needs.{needs}
 use Rattle.lane.proofs.clear_records.Statement.{statement}

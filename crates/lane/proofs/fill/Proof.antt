@@ -1,3 +1,4 @@
+-- `lane::fill` meets its contract: the definition over what the calls ensure. Assumes nothing.
 use Rattle.lane.specs.Advance.{fillOf}
 use borrow.Author.Needs.{needs}
 use Rattle.lane.proofs.fill.Statement.{statement}

@@ -1,3 +1,4 @@
+-- `lane::first` meets its contract: the part is as long as asked for, or empty. Assumes nothing.
 use lib.Seq.{length-take-le}
 use mathlib.Core.Path.{sym}
 use borrow.Author.Tests.{le-leb, lt-leb}

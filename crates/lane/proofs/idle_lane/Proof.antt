@@ -1,3 +1,4 @@
+-- `lane::idle_lane` meets its contract: the definition over what the calls ensure. Assumes nothing.
 use Rattle.lane.specs.Idle.{idleLane}
 use Rattle.lane.specs.Step.{opened}
 use borrow.Author.Needs.{needs}

@@ -1,3 +1,4 @@
+-- `lane::lane_ok` meets its contract: the definition over what the calls ensure. Assumes nothing.
 use Rattle.lane.specs.Refusals.{laneOk}
 use borrow.Author.Needs.{needs}
 use Rattle.lane.proofs.lane_ok.Statement.{statement}

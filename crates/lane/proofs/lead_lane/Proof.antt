@@ -1,3 +1,4 @@
+-- `lane::lead_lane` meets its contract: the definition over what the calls ensure. Assumes nothing.
 use Rattle.lane.specs.Begin.{leadLane}
 use borrow.Author.Needs.{needs}
 use Rattle.lane.proofs.lead_lane.Statement.{statement}

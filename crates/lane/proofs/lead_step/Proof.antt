@@ -1,3 +1,4 @@
+-- `lane::lead_step` meets its contract: at each branch the definition gives what the calls ensure. Assumes nothing.
 use Rattle.lane.specs.Advance.{leadStep}
 use borrow.Author.Needs.{needs}
 use Rattle.lane.proofs.lead_step.Statement.{statement}

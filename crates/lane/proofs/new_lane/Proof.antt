@@ -1,3 +1,4 @@
+-- `lane::new_lane` meets its contract: the definition over what the calls ensure. Assumes nothing.
 use Rattle.lane.specs.Step.{newLane}
 use borrow.Author.Needs.{needs}
 use Rattle.lane.proofs.new_lane.Statement.{statement}

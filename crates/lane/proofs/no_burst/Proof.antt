@@ -1,3 +1,4 @@
+-- `lane::no_burst` meets its contract: the definition over what the calls ensure. Assumes nothing.
 use Rattle.lane.specs.Idle.{noBurst}
 use borrow.Author.Needs.{needs}
 use Rattle.lane.proofs.no_burst.Statement.{statement}

@@ -1,3 +1,4 @@
+-- `lane::open` meets its contract: at each branch the definition gives what the calls ensure. Assumes nothing.
 use Rattle.lane.specs.Step.{opened}
 use borrow.Author.Needs.{needs}
 use Rattle.lane.proofs.open.Statement.{statement}

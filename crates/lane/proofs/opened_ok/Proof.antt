@@ -1,3 +1,4 @@
+-- `lane::opened_ok` meets its contract: the definition over what the calls ensure. Assumes nothing.
 use Rattle.lane.specs.Refusals.{openedOk}
 use Rattle.lane.specs.Step.{opened}
 use borrow.Author.Needs.{needs}

@@ -1,3 +1,4 @@
+-- `lane::part` meets its contract: by the state and the kind of the record. Assumes nothing.
 use Rattle.lane.specs.Part.{partOf}
 use borrow.Author.Needs.{needs}
 use Rattle.lane.proofs.part.Statement.{statement}

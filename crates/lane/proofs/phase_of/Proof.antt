@@ -1,3 +1,4 @@
+-- `lane::phase_of` meets its contract: by the cases of the answer. Assumes nothing.
 use mathlib.Core.Path.{refl}
 use Rattle.lane.specs.Answers.{phaseOf}
 use borrow.Author.Needs.{needs}

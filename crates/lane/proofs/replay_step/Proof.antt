@@ -1,3 +1,4 @@
+-- `lane::replay_step` meets its contract: the definition over what the calls ensure. Assumes nothing.
 use Rattle.lane.specs.Advance.{replayStep}
 use borrow.Author.Needs.{needs}
 use Rattle.lane.proofs.replay_step.Statement.{statement}

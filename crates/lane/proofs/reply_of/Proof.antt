@@ -1,3 +1,4 @@
+-- `lane::reply_of` meets its contract: by the cases of the answer. Assumes nothing.
 use Rattle.lane.specs.Answers.{replyOf}
 use borrow.Author.Needs.{needs}
 use Rattle.lane.proofs.reply_of.Statement.{statement}

@@ -1,3 +1,4 @@
+-- `lane::settle` meets its contract: the definition over what the calls ensure. Assumes nothing.
 use Rattle.lane.specs.Advance.{settleOf}
 use borrow.Author.Needs.{needs}
 use Rattle.lane.proofs.settle.Statement.{statement}

@@ -1,3 +1,4 @@
+-- `lane::step` meets its contract: at each branch the definition gives what the calls ensure. Assumes nothing.
 use Rattle.lane.specs.Step.{stepped}
 use borrow.Author.Needs.{needs}
 use Rattle.lane.proofs.step.Statement.{statement}

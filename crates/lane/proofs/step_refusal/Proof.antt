@@ -1,3 +1,4 @@
+-- `lane::step_refusal` meets its contract: the definition over what the calls ensure. Assumes nothing.
 use Rattle.lane.specs.Refusals.{stepRefusal}
 use borrow.Author.Needs.{needs}
 use Rattle.lane.proofs.step_refusal.Statement.{statement}

@@ -4,8 +4,8 @@ use borrow.Author.Needs.{needs}
 use Rattle.lines.proofs.put_float.Statement.{statement}
 use Rattle.lines.proofs.put_float.Tie as tie
 
-bits-of-requires : tie.Need-bits-of-requires
-bits-of-requires c κs = search needs
+bits-of-f32-requires : tie.Need-bits-of-f32-requires
+bits-of-f32-requires c κs = search needs
 
 glyph-requires : tie.Need-glyph-requires
 glyph-requires c κs = search needs
@@ -42,13 +42,13 @@ same-length c = search needs
 
 returns : tie.Need-returns
 unfolding hex8
-returns c = said (simp (← c .before .before .before .before .before .before .before .before .before .before .before .before .before .bits-of .ensures, ← c .before .before .before .before .before .before .before .before .before .before .before .before .glyph .ensures, ← c .before .before .before .before .before .before .before .before .before .before .before .glyph2 .ensures, ← c .before .before .before .before .before .before .before .before .before .before .glyph3 .ensures, ← c .before .before .before .before .before .before .before .before .before .glyph4 .ensures, ← c .before .before .before .before .before .before .before .before .glyph5 .ensures, ← c .before .before .before .before .before .before .before .glyph6 .ensures, ← c .before .before .before .before .before .before .glyph7 .ensures, ← c .before .before .before .before .before .glyph8 .ensures)) (c .before .before .put-bytes .ensures)
+returns c = said (simp (← c .before .before .before .before .before .before .before .before .before .before .before .before .before .bits-of-f32 .ensures, ← c .before .before .before .before .before .before .before .before .before .before .before .before .glyph .ensures, ← c .before .before .before .before .before .before .before .before .before .before .before .glyph2 .ensures, ← c .before .before .before .before .before .before .before .before .before .before .glyph3 .ensures, ← c .before .before .before .before .before .before .before .before .before .glyph4 .ensures, ← c .before .before .before .before .before .before .before .before .glyph5 .ensures, ← c .before .before .before .before .before .before .before .glyph6 .ensures, ← c .before .before .before .before .before .before .glyph7 .ensures, ← c .before .before .before .before .before .glyph8 .ensures)) (c .before .before .put-bytes .ensures)
 
 pub put-float-spec : {M : Type 1} → statement M
 put-float-spec =
     tie.close
     (tie.spec
-    bits-of-requires
+    bits-of-f32-requires
     glyph-requires
     glyph-requires-2
     glyph-requires-3

@@ -1,3 +1,4 @@
+-- `refusals::burst_ok` meets its contract: the definition over what the calls ensure. Assumes nothing.
 use Rattle.refusals.specs.State.{burstOk}
 use borrow.Author.Needs.{needs}
 use Rattle.refusals.proofs.burst_ok.Statement.{statement}

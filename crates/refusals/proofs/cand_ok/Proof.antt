@@ -1,3 +1,4 @@
+-- `refusals::cand_ok` meets its contract: the definition over what the calls ensure. Assumes nothing.
 use Rattle.refusals.specs.State.{candOk}
 use borrow.Author.Needs.{needs}
 use Rattle.refusals.proofs.cand_ok.Statement.{statement}

@@ -1,3 +1,4 @@
+-- `refusals::committed_ok` meets its contract: the definition over what the calls ensure. Assumes nothing.
 use borrow.Author.Needs.{needs}
 use Rattle.refusals.proofs.committed_ok.Statement.{statement}
 use Rattle.refusals.proofs.committed_ok.Tie as tie

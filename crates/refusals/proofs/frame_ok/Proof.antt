@@ -1,3 +1,4 @@
+-- `refusals::frame_ok` meets its contract: the definition over what the calls ensure. Assumes nothing.
 use Rattle.refusals.specs.State.{frameOk}
 use borrow.Author.Needs.{needs}
 use Rattle.refusals.proofs.frame_ok.Statement.{statement}

@@ -1,3 +1,4 @@
+-- `refusals::lead_ok` meets its contract: the definition over what the calls ensure. Assumes nothing.
 use Rattle.refusals.specs.State.{leadOk}
 use borrow.Author.Needs.{needs}
 use Rattle.refusals.proofs.lead_ok.Statement.{statement}

@@ -1,3 +1,4 @@
+-- `refusals::sample_ok` meets its contract: the definition over what the calls ensure. Assumes nothing.
 use borrow.Author.Needs.{needs}
 use Rattle.refusals.proofs.sample_ok.Statement.{statement}
 use Rattle.refusals.proofs.sample_ok.Tie as tie

@@ -1,3 +1,4 @@
+-- `refusals::settings_ok` meets its contract: the definition over what the calls ensure. Assumes nothing.
 use Rattle.refusals.specs.Domain.{settingsOk}
 use borrow.Author.Needs.{needs}
 use Rattle.refusals.proofs.settings_ok.Statement.{statement}
