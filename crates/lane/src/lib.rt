@@ -110,6 +110,27 @@ fn lane_ok(l: Lane) -> bool
         & refusals::index_ok(l.last)
 }
 
+// The same for a step, with the burst in its parts: neither lane nor burst is copied.
+fn step_lane_ok(l: Lane) -> bool
+    ensures { λ r. ⌜ r ≡ laneOk l ⌝ }
+{
+    let p = l.settings;
+    let b = l.burst;
+    let ld = l.lead;
+    let env = b.env;
+    let train = b.train;
+    let out_ook = b.out_ook;
+    let pres = b.pres;
+    let f = b.frame;
+    let out_fsk = b.out_fsk;
+    opened_ok(l.opened, l.phase, p)
+        & (l.phase <= 2)
+        & refusals::parts_ok(p.max_pulses, env, train, out_ook, pres, f, out_fsk)
+        & refusals::lead_ok(l.phase, p.min_steps, ld)
+        & refusals::cand_ok(l.phase, p.min_steps, f)
+        & refusals::index_ok(l.last)
+}
+
 fn history_ok(h: History) -> bool
     ensures { λ r. ⌜ r ≡ historyOk h ⌝ }
 {
@@ -169,7 +190,7 @@ fn step_refusal(l: Lane, s: StepArgs, ook: usize, fsk: usize) -> u32
     ensures { λ r. ⌜ r ≡ stepRefusal l s ook fsk ⌝ }
 {
     let p = l.settings;
-    let lane = lane_ok(l);
+    let lane = step_lane_ok(l);
     let busy = l.phase != 0;
     let index = refusals::index_ok(s.index) & follows(l.last, s.index);
     let floats = step_floats_ok(s);

@@ -4,8 +4,8 @@ use borrow.Author.Needs.{needs}
 use Rattle.lane.proofs.step_refusal.Statement.{statement}
 use Rattle.lane.proofs.step_refusal.Tie as tie
 
-lane-ok-requires : tie.Need-lane-ok-requires
-lane-ok-requires c κs = search needs
+step-lane-ok-requires : tie.Need-step-lane-ok-requires
+step-lane-ok-requires c κs = search needs
 
 index-ok-requires : tie.Need-index-ok-requires
 index-ok-requires c κs = search needs
@@ -24,13 +24,13 @@ first-failed-requires c κs = search needs
 
 returns : tie.Need-returns
 unfolding stepRefusal
-returns c = simp (← c .before .before .before .before .before .before .lane-ok .ensures, ← c .before .before .before .before .index-ok .ensures, ← c .before .before .before .follows .ensures, ← c .before .before .step-floats-ok .ensures, ← c .before .room-ok .ensures, ← c .first-failed .ensures)
+returns c = simp (← c .before .before .before .before .before .before .step-lane-ok .ensures, ← c .before .before .before .before .index-ok .ensures, ← c .before .before .before .follows .ensures, ← c .before .before .step-floats-ok .ensures, ← c .before .room-ok .ensures, ← c .first-failed .ensures)
 
 pub step-refusal-spec : {M : Type 1} → statement M
 step-refusal-spec =
     tie.close
     (tie.spec
-    lane-ok-requires
+    step-lane-ok-requires
     index-ok-requires
     follows-requires
     step-floats-ok-requires
