@@ -5,6 +5,7 @@ use Rattle.arith.specs.declared.C32.{C32}
 use Rattle.ook.specs.declared.Env.{Env}
 use Rattle.ook.specs.declared.Train.{Train}
 use Rattle.ook.specs.declared.Out.{Out}
+use Rattle.ook.specs.declared.Done.{Done}
 use Rattle.fsk.specs.declared.Frame.{Frame}
 use Rattle.frame.specs.declared.Body.{Body}
 use Rattle.presence.specs.declared.Pres.{Pres}
@@ -12,6 +13,7 @@ use Rattle.presence.specs.declared.Snapped.{Snapped}
 use Rattle.stages.specs.declared.Seen.{Seen}
 use Rattle.stages.specs.declared.Acted.{Acted}
 use Rattle.burst.specs.declared.Burst.{Burst}
+use Rattle.burst.specs.declared.Sampled.{Sampled}
 
 abbrev pub burstOf : Float → Float → Env → C32 → Train → Out → ℕ → Pres → Frame → Out → Burst
 burstOf high «e_prev» env pac train «out_ook» frames pres frame «out_fsk» =
@@ -41,3 +43,7 @@ withBody pres q b = burstOf (b .high) (b .«e_prev») (b .env) (b .pac) (q .trai
 
 abbrev pub withTrain : Train → Out → Burst → Burst
 withTrain train «out_ook» b = burstOf (b .high) (b .«e_prev») (b .env) (b .pac) train «out_ook» (b .frames) (b .pres) (b .frame) (b .«out_fsk»)
+
+-- after a carrier or the end of the burst: what is asked for, with the train and its record
+abbrev pub doneIn : Burst → Done → Sampled
+doneIn b d = record { next = d .next; burst = withTrain (d .train) (d .out) b }

@@ -1,8 +1,8 @@
 // One sample of a burst in all three modes: `sample` of the Rust, and the replay of the lead-in.
 ghost use mathlib.Core.Path.{_≡_};
 ghost use Prim.Native.Nat.{_+_, _*_, _-_, _%_, _^_, _<_, _≤_};
-ghost use Rattle.burst.specs.Makers.{bodyIn, withActed, withBody};
-ghost use Rattle.burst.specs.Sample.{snapIfOf, inputsOf, lastOf, presentOf, restOf, sampleOf};
+ghost use Rattle.burst.specs.Makers.{bodyIn, withActed, withBody, doneIn};
+ghost use Rattle.burst.specs.Sample.{snapIfOf, inputsOf, presentOf, restOf, sampleOf};
 ghost use Rattle.burst.specs.Lead.{leadAddOf, largestOf, beginBurstOf, leadAtOf, replayOf, leadFullOf};
 ghost use mathlib.Core.Bool.{cond};
 ghost use lib.ListN.{set, length};
@@ -60,25 +60,16 @@ fn snap_if(began: bool, on: bool, tc: f64, pres: Pres, frame: Frame) -> Snapped
     Snapped { pres, frame }
 }
 
-// A carrier, or the end of the burst.
-fn last(p: Settings, on: bool, e: f32, b: Burst, ook: &mut [u32], fsk: &mut [u32]) -> Sampled
-    ensures { λ r. ⌜ (r, now (ook .exit), now (fsk .exit)) ≡ lastOf p on e b (now (ook .entry)) (now (fsk .entry)) ⌝ }
+// The burst after a carrier or its end.
+fn with_done(b: Burst, d: Done) -> Sampled
+    ensures { λ r. ⌜ r ≡ doneIn b d ⌝ }
 {
-    let r = b.env.run;
-    let a = Absence {
-        frames: b.frames,
-        p_level: b.pres.p_level,
-        p_confirmed: b.pres.p_confirmed,
-    };
-    let t = b.train;
-    let o = b.out_ook;
-    let d = stages::tail(p, on, e, r, a, b.high, t, o, ook);
     let next = d.next;
-    let dt = d.train;
-    let dout = d.out;
+    let train = d.train;
+    let out = d.out;
     let mut n = b;
-    n.train = dt;
-    n.out_ook = dout;
+    n.train = train;
+    n.out_ook = out;
     Sampled { next, burst: n }
 }
 
@@ -157,7 +148,16 @@ fn present(
     let n = with_present(b, rp, q);
     let stay = ook::is_stay(next);
     if stay {
-        return last(p, s.on, a.e, n, ook, fsk);
+        let run = b.env.run;
+        let absence = Absence {
+            frames: q.frames,
+            p_level: rp.p_level,
+            p_confirmed: rp.p_confirmed,
+        };
+        let train = q.train;
+        let out = q.out_ook;
+        let d = stages::tail(p, s.on, a.e, run, absence, b.high, train, out, ook);
+        return with_done(n, d);
     }
     Sampled { next, burst: n }
 }
@@ -189,7 +189,16 @@ fn rest(p: Settings, a: At, ep: f32, s: Seen, b: Burst, ook: &mut [u32], fsk: &m
 {
     let off = p.mode == 0;
     if off {
-        return last(p, s.on, a.e, b, ook, fsk);
+        let run = b.env.run;
+        let absence = Absence {
+            frames: b.frames,
+            p_level: b.pres.p_level,
+            p_confirmed: b.pres.p_confirmed,
+        };
+        let train = b.train;
+        let out = b.out_ook;
+        let d = stages::tail(p, s.on, a.e, run, absence, b.high, train, out, ook);
+        return with_done(b, d);
     }
     present(p, a, ep, s, b, ook, fsk)
 }

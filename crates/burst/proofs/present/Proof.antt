@@ -1,5 +1,5 @@
 -- `burst::present` meets its contract: at each branch the definition gives what the calls ensure. Assumes nothing.
-use Rattle.burst.specs.Sample.{presentOf}
+use Rattle.burst.specs.Sample.{lastOf, presentOf}
 use native.Mathlib.Omega.{arith}
 use borrow.Author.Needs.{needs}
 use Rattle.burst.proofs.present.Statement.{statement}
@@ -20,18 +20,21 @@ with-present-requires c κs = search needs
 is-stay-requires : tie.Need-is-stay-requires
 is-stay-requires c κs = search needs
 
-last-requires : tie.Need-last-requires
-last-requires c κs = search needs
+tail-requires : tie.Need-tail-requires
+tail-requires c κs = search needs
+
+with-done-requires : tie.Need-with-done-requires
+with-done-requires c κs = search needs
 
 same-length : tie.Need-same-length
-same-length c = omega (arith, c .before .before .before .before .last .kept .1 .1 .1 .1 .0, c .before .before .before .before .before .before .before .before .before .before .before .before .before .before .before .before .presence .kept .1 .1 .1 .1 .0)
+same-length c = omega (arith, c .before .before .before .tail .kept .1 .1 .1 .1 .1 .1 .1 .1 .0, c .before .before .before .before .before .before .before .before .before .before .before .before .before .before .before .before .before .presence .kept .1 .1 .1 .1 .0)
 
 same-length-2 : tie.Need-same-length-2
-same-length-2 c = search needs
+same-length-2 c = omega (arith, c .before .before .before .before .before .before .before .before .before .before .before .before .before .before .before .before .before .presence .kept .1 .1 .1 .1 .1 .0)
 
 returns : tie.Need-returns
-unfolding presentOf
-returns c = simp (← c .before .before .before .before .before .before .before .before .before .before .before .before .before .before .before .before .before .before .before .before .before .inputs-of .ensures, ← c .before .before .before .before .before .before .before .before .before .before .before .before .before .before .before .before .before .before .before .before .body-in .ensures, ← c .before .before .before .before .before .before .before .before .before .before .before .before .before .before .before .before .presence .ensures, ← c .before .before .before .before .before .before .before .before .before .with-present .ensures, ← c .before .before .before .before .before .before .before .before .is-stay .ensures, c .before .before .before .before .before .before .before .if1 .taken, ← c .before .before .before .before .last .ensures)
+unfolding presentOf lastOf
+returns c = simp (← c .before .before .before .before .before .before .before .before .before .before .before .before .before .before .before .before .before .before .before .before .before .before .inputs-of .ensures, ← c .before .before .before .before .before .before .before .before .before .before .before .before .before .before .before .before .before .before .before .before .before .body-in .ensures, ← c .before .before .before .before .before .before .before .before .before .before .before .before .before .before .before .before .before .presence .ensures, ← c .before .before .before .before .before .before .before .before .before .is-stay .ensures, c .before .before .before .before .before .before .before .before .if1 .taken, ← c .before .before .before .tail .ensures) (simp (c .with-done .ensures, c .before .before .before .before .before .before .before .before .before .before .with-present .ensures))
 
 same-length-3 : tie.Need-same-length-3
 same-length-3 c = search needs
@@ -52,7 +55,8 @@ present-spec =
     presence-requires
     with-present-requires
     is-stay-requires
-    last-requires
+    tail-requires
+    with-done-requires
     same-length
     same-length-2
     returns
