@@ -9,7 +9,7 @@ use Rattle.ook.specs.declared.Settings.{Settings}
 use Rattle.refusals.specs.Domain.{settingsOk, factorOk, envelopeOk, sampleOk, indexOk, roomOk}
 use Rattle.refusals.specs.State.{burstOk, leadOk, candOk}
 use Rattle.refusals.specs.Order.{firstFailed}
-use Rattle.refusals.specs.Parts.{six-true}
+use Rattle.ook.specs.Tests.{six-true}
 use Rattle.lane.specs.declared.History.{History}
 use Rattle.lane.specs.declared.BeginArgs.{BeginArgs}
 use Rattle.lane.specs.declared.StepArgs.{StepArgs}

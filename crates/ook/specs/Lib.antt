@@ -1,4 +1,5 @@
 -- The definitions that the OOK crate's contracts cite.
+pub mod Tests
 pub mod Counts
 pub mod Answers
 pub mod Params

@@ -21,7 +21,7 @@ use Rattle.burst.specs.Lead.{leadAddOf, largestOf, beginBurstOf, staying, repla
 use Rattle.refusals.specs.Domain.{InDomain, settings-tell, settingsOk, indexOk, roomOk}
 use Rattle.refusals.specs.State.{burstOk, frameOk, leadOk, candOk}
 use Rattle.refusals.specs.Order.{firstFailed, none-failed}
-use Rattle.refusals.specs.Parts.{both-true}
+use Rattle.ook.specs.Tests.{both-true}
 use Rattle.limits.specs.Burst.{BurstWithin, Runs, SampledWithin, sample-within, replay-within, begin-burst-within}
 use Rattle.reached.specs.Kept.{burst-ok, cand-ok, none-within, cleared-within, cleared-runs, factor-within}
 use Rattle.lane.specs.declared.BeginArgs.{BeginArgs}

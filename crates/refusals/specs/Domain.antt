@@ -9,7 +9,7 @@ use lib.Ieee.{Float, binary32, le, neg, ofBits}
 use Rattle.arith.specs.Leaves.{zero32, one32}
 use Rattle.arith.specs.declared.C32.{C32}
 use Rattle.ook.specs.declared.Settings.{Settings}
-use Rattle.refusals.specs.Parts.{both-true, six-true}
+use Rattle.ook.specs.Tests.{both-true, six-true}
 
 abbrev pub within : ℕ → ℕ → ℕ → Bool
 within lo hi n = leb lo n && leb n hi

@@ -1,5 +1,4 @@
 -- Document 01's domain, and the limits of a lane value that its refusals ask for.
-pub mod Parts
 pub mod Domain
 pub mod State
 pub mod Order
