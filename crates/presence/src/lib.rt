@@ -3,6 +3,7 @@ ghost use mathlib.Core.Path.{_≡_};
 ghost use Prim.Native.Nat.{_+_, _*_, _-_, _%_, _^_, _<_, _≤_};
 ghost use Rattle.presence.specs.Move.{presThrOf, lengthenOf, rejoinOf, beginRunOf, movePresOf, extendOf, moveFrameOf};
 ghost use Rattle.presence.specs.Presence.{sliceIfOf, dueOf, sureIfOf, endsOf, inWindowOf, endOf, endIfOf, longOf, endCarrierOf, carrierIfOf, advanceOf, presenceOf, nearStartOf, snapOf};
+ghost use Rattle.presence.specs.Steady.{presentAt, presSteadyOf};
 use arith::C32;
 use arith::Steps;
 use frame::Body;
@@ -61,7 +62,7 @@ fn pres_thr(up: bool, noise: f32, factor: f32) -> f32
     noise * factor * 1.125
 }
 
-fn lengthen(s: Pres) -> Pres
+pub fn lengthen(s: Pres) -> Pres
     ensures { λ r. ⌜ r ≡ lengthenOf s ⌝ }
 {
     let n = ook::sat_add(s.p_run, 1);
@@ -369,4 +370,23 @@ fn near_start(level: u32, phase: u32, runs: u32, lead: f64) -> bool
         return false;
     }
     false
+}
+
+// ---- a steady sample: the run of the presence goes on, and nothing is confirmed or ended by it
+
+// Whether the carrier is present at a sample.
+pub fn present_at(noise: f32, e: f32, s: Pres) -> bool
+    ensures { λ r. ⌜ r ≡ presentAt noise e s ⌝ }
+{
+    let up = s.p_level == 1;
+    slicer::upper_of(up, e, pres_thr(up, noise, s.p_factor))
+}
+
+// Whether the run goes on with the sample, and is neither confirmed nor too long with it.
+pub fn pres_steady(min_steps: u32, long_steps: u32, on: bool, s: Pres) -> bool
+    ensures { λ r. ⌜ r ≡ presSteadyOf «min_steps» «long_steps» on s ⌝ }
+{
+    let n = lengthen(s);
+    let same = ook::bit(on) == s.p_level;
+    same & !due_of(n, min_steps) & !long_of(on, n.p_run, long_steps)
 }
