@@ -3,6 +3,7 @@ ghost use mathlib.Core.Path.{_≡_};
 ghost use Prim.Native.Nat.{_+_, _*_, _-_, _%_, _^_, _<_, _≤_};
 ghost use Rattle.burst.specs.Makers.{bodyIn, withActed, withBody, doneIn};
 ghost use Rattle.burst.specs.Sample.{snapIfOf, inputsOf, presentOf, restOf, sampleOf};
+ghost use Rattle.burst.specs.Steady.{presentIn, presOkOf, presAfterOf, steadyOf, steadiedOf, slicedOf};
 ghost use Rattle.burst.specs.Lead.{leadAddOf, largestOf, beginBurstOf, leadAtOf, replayOf, leadFullOf};
 ghost use mathlib.Core.Bool.{cond};
 ghost use lib.ListN.{set, length};
@@ -400,4 +401,111 @@ pub fn lead_full(
     let t = arith::u64_to_f64(l.lead_at);
     let n = begin_burst(high, t, es[0], b);
     replay(p, noise, ring, l, n, ook, fsk)
+}
+
+// ---- a steady sample: both runs go on, and nothing is refined, confirmed or ended by it
+
+// What a steady sample changes, and whether it is one.
+pub struct Steady {
+    pub ok: bool,
+    pub run_len: u32,
+    pub high: f32,
+    pub pac: C32,
+    // For the slicer: the product with the sample before, and whether the carrier is present.
+    pub d: C32,
+    pub present: bool,
+    pub p_run: u32,
+}
+
+// In OOK mode there is no presence: none is seen, none changes.
+fn present_in(p: Settings, noise: f32, e: f32, s: Pres) -> bool
+    ensures { λ r. ⌜ r ≡ presentIn p noise e s ⌝ }
+{
+    let off = p.mode == 0;
+    if off {
+        return false;
+    }
+    presence::present_at(noise, e, s)
+}
+
+fn pres_ok(p: Settings, on: bool, s: Pres) -> bool
+    ensures { λ r. ⌜ r ≡ presOkOf p on s ⌝ }
+{
+    let off = p.mode == 0;
+    if off {
+        return true;
+    }
+    presence::pres_steady(p.min_steps, p.long_steps, on, s)
+}
+
+fn pres_after(p: Settings, s: Pres) -> Pres
+    ensures { λ r. ⌜ r ≡ presAfterOf p s ⌝ }
+{
+    let off = p.mode == 0;
+    if off {
+        return s;
+    }
+    presence::lengthen(s)
+}
+
+pub fn steady_of(p: Settings, a: At, b: Burst) -> Steady
+    ensures { λ r. ⌜ r ≡ steadyOf p a b ⌝ }
+{
+    let env = b.env;
+    let pres = b.pres;
+    let train = b.train;
+    let t = arith::midpoint(a.noise, b.high);
+    let on = stages::level_at(t, env.run.level, a.e);
+    let x = a.x;
+    let xp = a.xp;
+    let d = arith::cmul_conj(x, xp);
+    let present = present_in(p, a.noise, a.e, pres);
+    let n = ook::lengthen(env);
+    let run = n.run;
+    let absence = Absence {
+        frames: b.frames,
+        p_level: pres.p_level,
+        p_confirmed: pres.p_confirmed,
+    };
+    let goes_on = stages::run_steady(p.min_steps, on, env);
+    let ok = goes_on & pres_ok(p, present, pres) & !stages::over(p, on, run, absence, train);
+    let high = stages::high_at(t, b.high, on, a.e);
+    let old = b.pac;
+    let pac = stages::pac_of(on, old, d);
+    let after = pres_after(p, pres);
+    Steady {
+        ok,
+        run_len: run.run_len,
+        high,
+        pac,
+        d,
+        present,
+        p_run: after.p_run,
+    }
+}
+
+// The burst after a steady sample, but for the frame.
+pub fn steadied(e: f32, q: Steady, b: Burst) -> Burst
+    ensures { λ r. ⌜ r ≡ steadiedOf e q b ⌝ }
+{
+    let pac = q.pac;
+    let mut n = b;
+    n.high = q.high;
+    n.e_prev = e;
+    n.env.run.run_len = q.run_len;
+    n.pac = pac;
+    n.pres.p_run = q.p_run;
+    n
+}
+
+// The frame after a steady sample.
+pub fn sliced(p: Settings, e: f32, idx: u64, q: Steady, fr: Frame, fsk: &mut [u32]) -> Frame
+    ensures { λ r. ⌜ (r, now (fsk .exit)) ≡ slicedOf p e idx q fr (now (fsk .entry)) ⌝ }
+{
+    let present = q.present;
+    if present {
+        let d = q.d;
+        return slicer::fsk_sample(p, fr, q.high, d, e, idx, fsk);
+    }
+    fr
 }
