@@ -5,6 +5,7 @@ use mathlib.Core.List.{List}
 use lib.Dec.{ltb, eqb}
 use lib.Ieee.{Float}
 use Rattle.arith.specs.Leaves.{leadLenOf}
+use Rattle.stages.specs.declared.At.{At}
 use Rattle.burst.specs.declared.Lead.{Lead}
 use Rattle.burst.specs.declared.Sampled.{Sampled}
 use Rattle.burst.specs.Sample.{sampleOf}
@@ -37,11 +38,12 @@ leadStepWith l s ld ring ook fsk =
 unfoldable pub leadStep : Lane → StepArgs → List Float → List ℕ → List ℕ → Answer × List ℕ × List ℕ
 leadStep l s ring ook fsk = leadStepWith l s (leadAddOf (l .lead) (s .envelope) (s .x)) ring ook fsk
 
--- a sample of the burst; the previous sample is the one of the call before
+-- what a sample of the burst reads; the previous sample is the one of the call before
+abbrev pub atOf : Lane → StepArgs → At
+atOf l s = record { idx = s .index; «lead_at» = l .lead .«lead_at»; noise = s .noise; e = s .envelope; x = s .x; xp = l .«x_prev» }
+
 unfoldable pub burstStep : Lane → StepArgs → List Float → List ℕ → List ℕ → Answer × List ℕ × List ℕ
-burstStep l s ring ook fsk =
-    settled l s (l .lead) ring
-    (sampleOf (l .settings) (record { idx = s .index; «lead_at» = l .lead .«lead_at»; noise = s .noise; e = s .envelope; x = s .x; xp = l .«x_prev» }) ring (clearedOf (l .burst)) ook fsk)
+burstStep l s ring ook fsk = settled l s (l .lead) ring (sampleOf (l .settings) (atOf l s) ring (clearedOf (l .burst)) ook fsk)
 
 abbrev pub phaseStep : Lane → StepArgs → List Float → List ℕ → List ℕ → Answer × List ℕ × List ℕ
 phaseStep l s ring ook fsk = cond (eqb (l .phase) 1) (leadStep l s ring ook fsk) (burstStep l s ring ook fsk)

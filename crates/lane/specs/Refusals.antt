@@ -59,8 +59,12 @@ follows-none last index e = sym (ne-eqb index (last + 1) (λ q. omega arith))
 unfoldable pub beginRefusal : Lane → BeginArgs → ℕ → ℕ → ℕ
 beginRefusal l b ook fsk = firstFailed (not (eqb (l .opened) 0)) (laneOk l) (eqb (l .phase) 0) (indexOk (b .index)) (beginFloatsOk b) (roomOk (l .settings) ook fsk)
 
+-- the lane's own check is `lane`
+abbrev pub stepRefusalBy : Bool → Settings → ℕ → ℕ → StepArgs → ℕ → ℕ → ℕ
+stepRefusalBy lane p phase last s ook fsk = firstFailed true lane (not (eqb phase 0)) (indexOk (s .index) && followsOf last (s .index)) (stepFloatsOk s) (roomOk p ook fsk)
+
 unfoldable pub stepRefusal : Lane → StepArgs → ℕ → ℕ → ℕ
-stepRefusal l s ook fsk = firstFailed true (laneOk l) (not (eqb (l .phase) 0)) (indexOk (s .index) && followsOf (l .last) (s .index)) (stepFloatsOk s) (roomOk (l .settings) ook fsk)
+stepRefusal l s ook fsk = stepRefusalBy (laneOk l) (l .settings) (l .phase) (l .last) s ook fsk
 
 -- the six checks of refusal 4, one by one
 pub record Passes (l : Lane) : Type 0 where

@@ -3,10 +3,11 @@
 ghost use mathlib.Core.Path.{_≡_};
 ghost use Prim.Native.Nat.{_≤_};
 ghost use Rattle.lane.specs.Answers.{replyOf, phaseOf};
-ghost use Rattle.lane.specs.Refusals.{openedOk, laneOk, historyOk, beginFloatsOk, stepFloatsOk, followsOf, beginRefusal, stepRefusal};
+ghost use Rattle.lane.specs.Refusals.{openedOk, laneOk, historyOk, beginFloatsOk, stepFloatsOk, followsOf, beginRefusal, stepRefusal, stepRefusalBy};
 ghost use Rattle.lane.specs.Idle.{noOut, noFrame, noBurst, noLead, idleLane, noSettings};
 ghost use Rattle.lane.specs.Begin.{ringBeforeOf, historyOf, ringOf, beginLeadOf, clearedOf, withFactor, leadLane};
-ghost use Rattle.lane.specs.Advance.{settleOf, fillOf, replayStep, leadStep, burstStep, phaseStep, advanceOf};
+ghost use Rattle.lane.specs.Advance.{settleOf, fillOf, atOf, replayStep, leadStep, burstStep, phaseStep, advanceOf};
+ghost use Rattle.lane.specs.Steady.{steadyStep, steadiedLane, slicedLane};
 ghost use Rattle.lane.specs.Step.{newLane, opened, begun, stepped};
 ghost use Rattle.lane.specs.Part.{front, partOf};
 use arith::C32;
@@ -14,6 +15,7 @@ use arith::Steps;
 use burst::Burst;
 use burst::Lead;
 use burst::Sampled;
+use burst::Steady;
 use fsk::Cand;
 use fsk::Committed;
 use fsk::Early;
@@ -110,7 +112,7 @@ fn lane_ok(l: Lane) -> bool
         & refusals::index_ok(l.last)
 }
 
-// The same for a step, with the burst in its parts: neither lane nor burst is copied.
+// The same for a steady step, with the burst in its parts: neither lane nor burst is copied.
 fn step_lane_ok(l: Lane) -> bool
     ensures { λ r. ⌜ r ≡ laneOk l ⌝ }
 {
@@ -186,13 +188,19 @@ fn begin_refusal(l: Lane, b: BeginArgs, ook: usize, fsk: usize) -> u32
     refusals::first_failed(had, lane, idle, index, floats, room)
 }
 
-fn step_refusal(l: Lane, s: StepArgs, ook: usize, fsk: usize) -> u32
-    ensures { λ r. ⌜ r ≡ stepRefusal l s ook fsk ⌝ }
+fn step_refusal(
+    lane: bool,
+    p: Settings,
+    phase: u32,
+    last: u64,
+    s: StepArgs,
+    ook: usize,
+    fsk: usize,
+) -> u32
+    ensures { λ r. ⌜ r ≡ stepRefusalBy lane p phase last s ook fsk ⌝ }
 {
-    let p = l.settings;
-    let lane = step_lane_ok(l);
-    let busy = l.phase != 0;
-    let index = refusals::index_ok(s.index) & follows(l.last, s.index);
+    let busy = phase != 0;
+    let index = refusals::index_ok(s.index) & follows(last, s.index);
     let floats = step_floats_ok(s);
     let room = refusals::room_ok(p, ook, fsk);
     refusals::first_failed(true, lane, busy, index, floats, room)
@@ -535,20 +543,27 @@ fn settle(l: Lane, s: StepArgs, ld: Lead, ring: [f32; 32], r: Sampled) -> Answer
     Answer { reply, lane: n }
 }
 
-fn burst_step(l: Lane, s: StepArgs, ring: [f32; 32], ook: &mut [u32], fsk: &mut [u32]) -> Answer
-    ensures { λ r. ⌜ (r, now (ook .exit), now (fsk .exit)) ≡ burstStep l s ring (now (ook .entry)) (now (fsk .entry)) ⌝ }
+// What a sample of the burst reads.
+fn at_of(l: Lane, s: StepArgs) -> At
+    ensures { λ r. ⌜ r ≡ atOf l s ⌝ }
 {
     let x = s.x;
     let xp = l.x_prev;
-    let ld = l.lead;
-    let a = At {
+    At {
         idx: s.index,
-        lead_at: ld.lead_at,
+        lead_at: l.lead.lead_at,
         noise: s.noise,
         e: s.envelope,
         x,
         xp,
-    };
+    }
+}
+
+fn burst_step(l: Lane, s: StepArgs, ring: [f32; 32], ook: &mut [u32], fsk: &mut [u32]) -> Answer
+    ensures { λ r. ⌜ (r, now (ook .exit), now (fsk .exit)) ≡ burstStep l s ring (now (ook .entry)) (now (fsk .entry)) ⌝ }
+{
+    let ld = l.lead;
+    let a = at_of(l, s);
     let old = l.burst;
     let b = clear_records(old);
     let p = l.settings;
@@ -625,7 +640,9 @@ fn advance(l: Lane, s: StepArgs, ook: &mut [u32], fsk: &mut [u32]) -> Answer
 pub fn step(l: Lane, s: StepArgs, ook: &mut [u32], fsk: &mut [u32]) -> Answer
     ensures { λ r. ⌜ (r, now (ook .exit), now (fsk .exit)) ≡ stepped l s (now (ook .entry)) (now (fsk .entry)) ⌝ }
 {
-    let k = step_refusal(l, s, ook.len(), fsk.len());
+    let p = l.settings;
+    let sound = lane_ok(l);
+    let k = step_refusal(sound, p, l.phase, l.last, s, ook.len(), fsk.len());
     let ok = k == 0;
     if ok {
         return advance(l, s, ook, fsk);
@@ -634,6 +651,54 @@ pub fn step(l: Lane, s: StepArgs, ook: &mut [u32], fsk: &mut [u32]) -> Answer
         reply: Reply::Refused(k),
         lane: l,
     }
+}
+
+// ---- a steady step
+
+// What a steady step changes of the burst, and whether the step is one; `ook` and `fsk` are the buffers' lengths.
+pub fn steady_step(l: Lane, s: StepArgs, ook: usize, fsk: usize) -> Steady
+    ensures { λ r. ⌜ r ≡ steadyStep l s ook fsk ⌝ }
+{
+    let p = l.settings;
+    let sound = step_lane_ok(l);
+    let k = step_refusal(sound, p, l.phase, l.last, s, ook, fsk);
+    let a = at_of(l, s);
+    let b = l.burst;
+    let q = burst::steady_of(p, a, b);
+    let ok = (l.phase == 2) & (k == 0) & q.ok;
+    let mut n = q;
+    n.ok = ok;
+    n
+}
+
+// The lane after it, but for the ring and the frame.
+pub fn steadied_lane(l: Lane, s: StepArgs, q: Steady) -> Lane
+    ensures { λ r. ⌜ r ≡ steadiedLane l s q ⌝ }
+{
+    let old = l.burst;
+    let b = clear_records(old);
+    let burst = burst::steadied(s.envelope, q, b);
+    let x = s.x;
+    let mut n = l;
+    n.phase = 2;
+    n.last = s.index;
+    n.x_prev = x;
+    n.burst = burst;
+    n
+}
+
+// And with its frame.
+pub fn sliced_lane(l: Lane, s: StepArgs, q: Steady, fsk: &mut [u32]) -> Lane
+    ensures { λ r. ⌜ (r, now (fsk .exit)) ≡ slicedLane l s q (now (fsk .entry)) ⌝ }
+{
+    let p = l.settings;
+    let mut burst = l.burst;
+    let old = burst.frame;
+    let frame = burst::sliced(p, s.envelope, s.index, q, old, fsk);
+    burst.frame = frame;
+    let mut n = l;
+    n.burst = burst;
+    n
 }
 
 // ---- the pairs of a record
