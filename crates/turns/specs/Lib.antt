@@ -2,3 +2,4 @@ pub mod Turn
 pub mod Laws
 pub mod Stream
 pub mod Blocks
+pub mod Steady

@@ -75,7 +75,7 @@ whole true s t m h = ap (λ (u : List ℕ). decoded (s ++ u)) (m refl) ∙ ap de
 whole false s t m h = decoded-more s t h
 
 -- the lines of a part's first command and of what is left are those of the whole
-front : (last : Bool) (p : State) (s t : List ℕ) → May last t → leastOf last ≤ length s
+pub front : (last : Bool) (p : State) (s t : List ℕ) → May last t → leastOf last ≤ length s
     → textOf (decoded s) (called p (decoded s))
     ++ cond (eqb (sizeOf (decoded s)) 0) [] (listing (next (called p (decoded s))) (drop (sizeOf (decoded s)) s ++ t))
     ≡ listing p (s ++ t)
@@ -124,12 +124,14 @@ module _ (last : Bool) (p₀ p : State) (s x : List ℕ) (least used at : ℕ) (
       ∙ append-assoc (take at x) (textOf k c) r
       ∙ ap (λ (w : List ℕ). take at x ++ w) (front last p (drop used s) t may (omega (arith, waits, length-drop used s)))
 
-  -- the stream goes on
-  pub again : (z .0 .size ≡ 0 → ⊥) → (t : List ℕ) → May last t
+  -- the stream goes on; w are the lines of what is left
+  pub again : (z .0 .size ≡ 0 → ⊥) → (t w : List ℕ) → May last t
+      → w ≡ listing (z .0 .lane, z .1, z .2) (drop (used + z .0 .size) s ++ t)
       → take at x ++ listing p (drop used s ++ t) ≡ listing p₀ (s ++ t)
-      → take (z .0 .at) (z .3) ++ listing (z .0 .lane, z .1, z .2) (drop (used + z .0 .size) s ++ t) ≡ listing p₀ (s ++ t)
-  again n t may h =
-      ap (λ (u : List ℕ). take (z .0 .at) (z .3) ++ listing (z .0 .lane, z .1, z .2) (u ++ t)) (sym (drop-drop (z .0 .size) used s))
+      → take (z .0 .at) (z .3) ++ w ≡ listing p₀ (s ++ t)
+  again n t w may left h =
+      ap (λ (v : List ℕ). take (z .0 .at) (z .3) ++ v) left
+      ∙ ap (λ (u : List ℕ). take (z .0 .at) (z .3) ++ listing (z .0 .lane, z .1, z .2) (u ++ t)) (sym (drop-drop (z .0 .size) used s))
       ∙ ap (λ (b : Bool). take (z .0 .at) (z .3) ++ cond b [] (listing (z .0 .lane, z .1, z .2) (drop (z .0 .size) (drop used s) ++ t)))
       (sym (ne-eqb (z .0 .size) 0 n))
       ∙ step t may ∙ h

@@ -7,11 +7,14 @@ ghost use Prim.Native.Nat.{ℕ, _≤_, _<_};
 ghost use lib.ListN.{length};
 ghost use Rattle.lines.specs.Line.{hasRoom, put};
 ghost use Rattle.turns.specs.Turn.{Called, called, indexOf, answerText, Turn, placeOf, leastOf};
+ghost use Rattle.turns.specs.Steady.{isStepOf, noArgs, argsOf, Passed};
 ghost use Rattle.turns.specs.Stream.{Streamed};
+use arith::C32;
 use commands::Command;
 use lane::Answer;
 use lane::Lane;
 use lane::Reply;
+use lane::StepArgs;
 use lines::Written;
 use ook::Out;
 
@@ -123,6 +126,84 @@ fn turn(
     }
 }
 
+// ---- the steady steps of a burst
+
+fn is_step(k: Command) -> bool
+    ensures { λ r. ⌜ r ≡ isStepOf k ⌝ }
+{
+    match k {
+        Command::End => false,
+        Command::Open(_) => false,
+        Command::Begin(_) => false,
+        Command::Step(_) => true,
+        Command::Unknown => false,
+        Command::Short => false,
+    }
+}
+
+fn no_args() -> StepArgs
+    ensures { λ r. ⌜ r ≡ noArgs ⌝ }
+{
+    StepArgs {
+        index: 0,
+        noise: 0.0,
+        envelope: 0.0,
+        x: C32 { re: 0.0, im: 0.0 },
+    }
+}
+
+// The operands of a step, and zeros for another command.
+fn args_of(k: Command) -> StepArgs
+    ensures { λ r. ⌜ r ≡ argsOf k ⌝ }
+{
+    match k {
+        Command::End => no_args(),
+        Command::Open(_) => no_args(),
+        Command::Begin(_) => no_args(),
+        Command::Step(s) => s,
+        Command::Unknown => no_args(),
+        Command::Short => no_args(),
+    }
+}
+
+struct Past {
+    lane: Lane,
+    // The place after the steady steps.
+    used: usize,
+}
+
+// The steady steps from a place of the bytes on. They print nothing, and most steps of a burst are
+// steady: the lane is changed in place, with its ring apart, where a turn hands it on.
+fn steady_steps(lane: Lane, s: &[u8], from: usize, ook: &[u32], fsk: &mut [u32]) -> Past
+    requires { ⌜ from ≤ length (now s) ⌝ }
+    ensures { λ r. ⌜ Passed (lane, now (ook .entry), now (fsk .entry)) (now (s .entry)) from r (now (fsk .exit)) ⌝ }
+{
+    let mut l = lane;
+    let mut ring = l.ring;
+    let mut used = from;
+    while s.len() - used >= 61 {
+        let k = commands::decode_at(s, used);
+        let steps = is_step(k);
+        let a = args_of(k);
+        let q = lane::steady_step(l, a, ook.len(), fsk.len());
+        let steady = steps & q.ok;
+        if !steady {
+            break;
+        }
+        let i = (a.index % 32) as usize;
+        ring[i] = a.envelope;
+        l = lane::steadied_lane(l, a, q);
+        used += 25;
+        let present = q.present;
+        if !present {
+            continue;
+        }
+        l = lane::sliced_lane(l, a, q, fsk);
+    }
+    l.ring = ring;
+    Past { lane: l, used }
+}
+
 // ---- a block of bytes
 
 pub struct Ran {
@@ -177,6 +258,9 @@ pub fn block(
             break;
         }
         used += t.size;
+        let g = steady_steps(l, s, used, ook, fsk);
+        l = g.lane;
+        used = g.used;
     }
     Ran {
         lane: l,

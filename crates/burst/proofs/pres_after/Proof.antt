@@ -1,21 +1,16 @@
+-- `burst::pres_after` meets its contract: the definition over what the calls ensure. Assumes nothing.
 use Rattle.burst.specs.Steady.{presAfterOf}
 use borrow.Author.Needs.{needs}
 use Rattle.burst.proofs.pres_after.Statement.{statement}
 use Rattle.burst.proofs.pres_after.Tie as tie
-use Rattle.burst.proofs.pres_after.Reads as reads
-use Rattle.burst.proofs.pres_after.Lts as lts
-use Rattle.presence.proofs.lengthen.Reads as lengthen-reads
 
--- src/lib.rt:446:9
 returns : tie.Need-returns
 unfolding presAfterOf
 returns c = simp (c .if1 .taken)
 
--- src/lib.rt:448:5
 lengthen-requires : tie.Need-lengthen-requires
 lengthen-requires c κs = search needs
 
--- src/lib.rt:441:1
 returns-2 : tie.Need-returns-2
 unfolding presAfterOf
 returns-2 c = simp (c .before .if1 .left, ← c .lengthen .ensures)

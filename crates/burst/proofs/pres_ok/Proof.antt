@@ -1,21 +1,16 @@
+-- `burst::pres_ok` meets its contract: the definition over what the calls ensure. Assumes nothing.
 use Rattle.burst.specs.Steady.{presOkOf}
 use borrow.Author.Needs.{needs}
 use Rattle.burst.proofs.pres_ok.Statement.{statement}
 use Rattle.burst.proofs.pres_ok.Tie as tie
-use Rattle.burst.proofs.pres_ok.Reads as reads
-use Rattle.burst.proofs.pres_ok.Lts as lts
-use Rattle.presence.proofs.pres_steady.Reads as pres-steady-reads
 
--- src/lib.rt:436:9
 returns : tie.Need-returns
 unfolding presOkOf
 returns c = simp (c .if1 .taken)
 
--- src/lib.rt:438:5
 pres-steady-requires : tie.Need-pres-steady-requires
 pres-steady-requires c κs = search needs
 
--- src/lib.rt:431:1
 returns-2 : tie.Need-returns-2
 unfolding presOkOf
 returns-2 c = simp (c .before .if1 .left, ← c .pres-steady .ensures)

@@ -1,21 +1,16 @@
+-- `burst::present_in` meets its contract: the definition over what the calls ensure. Assumes nothing.
 use Rattle.burst.specs.Steady.{presentIn}
 use borrow.Author.Needs.{needs}
 use Rattle.burst.proofs.present_in.Statement.{statement}
 use Rattle.burst.proofs.present_in.Tie as tie
-use Rattle.burst.proofs.present_in.Reads as reads
-use Rattle.burst.proofs.present_in.Lts as lts
-use Rattle.presence.proofs.present_at.Reads as present-at-reads
 
--- src/lib.rt:426:9
 returns : tie.Need-returns
 unfolding presentIn
 returns c = simp (c .if1 .taken)
 
--- src/lib.rt:428:5
 present-at-requires : tie.Need-present-at-requires
 present-at-requires c κs = search needs
 
--- src/lib.rt:421:1
 returns-2 : tie.Need-returns-2
 unfolding presentIn
 returns-2 c = simp (c .before .if1 .left, ← c .present-at .ensures)

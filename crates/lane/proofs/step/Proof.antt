@@ -1,40 +1,29 @@
+-- `lane::step` meets its contract: the definition over what the calls ensure. Assumes nothing.
 use Rattle.lane.specs.Step.{stepped}
 use Rattle.lane.specs.Refusals.{stepRefusal}
 use borrow.Author.Needs.{needs}
 use Rattle.lane.proofs.step.Statement.{statement}
 use Rattle.lane.proofs.step.Tie as tie
-use Rattle.lane.proofs.step.Reads as reads
-use Rattle.lane.proofs.step.Lts as lts
-use Rattle.lane.proofs.advance.Reads as advance-reads
-use Rattle.lane.proofs.lane_ok.Reads as lane-ok-reads
-use Rattle.lane.proofs.step_refusal.Reads as step-refusal-reads
 
--- src/lib.rt:644:9
 lane-ok-requires : tie.Need-lane-ok-requires
 lane-ok-requires c κs = search needs
 
--- src/lib.rt:645:9
 step-refusal-requires : tie.Need-step-refusal-requires
 step-refusal-requires c κs = search needs
 
--- src/lib.rt:648:9
 advance-requires : tie.Need-advance-requires
 advance-requires c κs = search needs
 
--- src/lib.rt:648:9
 same-length : tie.Need-same-length
 same-length c = search needs
 
--- src/lib.rt:648:9
 same-length-2 : tie.Need-same-length-2
 same-length-2 c = search needs
 
--- src/lib.rt:648:9
 returns : tie.Need-returns
 unfolding stepped stepRefusal
 returns c = simp (← c .before .before .before .before .before .before .before .before .before .lane-ok .ensures, ← c .before .before .before .before .before .before .before .before .step-refusal .ensures, c .before .before .before .before .before .before .before .if1 .taken, ← c .before .before .before .before .advance .ensures)
 
--- src/lib.rt:640:1
 returns-2 : tie.Need-returns-2
 unfolding stepped stepRefusal
 returns-2 c = simp (← c .before .before .lane-ok .ensures, ← c .before .step-refusal .ensures, c .if1 .left)

@@ -50,21 +50,26 @@ turn-requires c κs =
 add-used : tie.Need-add-used Inv-loop μ-loop
 add-used c = record { fits = omega (arith, c .before .before .before .before .before .before .before .before .before .before .turn .ensures .inside, c .before .before .before .before .before .before .before .before .before .before .before .before .before .before .before .before .before .before .before .before .before .before .before .before .good .1) }
 
+steady-steps-requires : tie.Need-steady-steps-requires Inv-loop μ-loop
+steady-steps-requires c κs = c .before .before .before .before .before .before .before .before .before .before .before .before .turn .ensures .inside
+
 loop-less : tie.Need-loop-less Inv-loop μ-loop
-loop-less c = search needs
+loop-less c = omega (arith, c .before .before .before .steady-steps .ensures .onward, c .before .before .before .before .before .before .before .if2 .left)
 
 loop-again : tie.Need-loop-again Inv-loop μ-loop
 loop-again c =
-    let v = c .before .before .before .before .before .before .before .before .before .before .before .before .before .before .before .before .before .loop in
-    let a = c .before .before .before .before .before .before .before .before .before .before .before .before .before .before .before .before .before .before .before .before .before .before .before .before .args in (
-      c .before .before .before .before .before .before .before .before .before .before .turn .ensures .inside,
-      omega (arith, c .before .before .before .before .before .before .before .before .before .before .turn .ensures .near),
+    let v = c .before .before .before .before .before .before .before .before .before .before .before .before .before .before .before .before .before .before .before .before .before .before .before .loop in
+    let a = c .before .before .before .before .before .before .before .before .before .before .before .before .before .before .before .before .before .before .before .before .before .before .before .before .before .before .before .before .before .before .args in
+    let turn = c .before .before .before .before .before .before .before .before .before .before .before .before .before .before .before .before .turn in
+    let steady = c .before .before .before .steady-steps in (
+      steady .ensures .inside,
+      omega (arith, turn .ensures .near, turn .kept .1 .1 .1 .1 .1 .1 .0),
+      omega (arith, v .inv .2, turn .kept .1 .1 .1 .1 .1 .1 .0),
       omega arith,
-      omega arith,
-      omega arith,
+      omega (arith, v .inv .4, turn .kept .1 .1 .1 .1 .0, steady .kept .1 .1 .1 .1 .0),
       v .inv .5,
-      λ t may. again (a .last) _ _ (a .s .now) (v .text) _ (v .used) (v .at) _ (c .before .before .before .before .before .before .before .before .before .before .before .before .before .before .before .before .before .before .before .least-of .ensures) (v .inv .0)
-          (c .before .before .before .before .before .before .before .before .before .before .before .before .before .before .before .before .loop-test .taken) (c .before .before .before .before .before .before .before .before .before .before .turn .ensures) (c .before .if2 .left) t may (v .inv .6 t may),
+      λ t may. again (a .last) _ _ (a .s .now) (v .text) _ (v .used) (v .at) _ (c .before .before .before .before .before .before .before .before .before .before .before .before .before .before .before .before .before .before .before .before .before .before .before .before .before .least-of .ensures) (v .inv .0)
+          (c .before .before .before .before .before .before .before .before .before .before .before .before .before .before .before .before .before .before .before .before .before .before .loop-test .taken) (turn .ensures) (c .before .before .before .before .before .before .before .if2 .left) t _ may (steady .ensures .same t) (v .inv .6 t may),
     )
 
 same-length : tie.Need-same-length Inv-loop μ-loop
@@ -143,6 +148,7 @@ block-spec =
     has-room-requires
     turn-requires
     add-used
+    steady-steps-requires
     loop-less
     loop-again
     same-length

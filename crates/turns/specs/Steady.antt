@@ -1,0 +1,106 @@
+-- Steady steps of a burst print nothing: whatever comes after them, what they leave has the lines of the whole. Assumes nothing.
+use Prim.Native.Nat.{ℕ, _+_, _-_, _≤_}
+use mathlib.Core.Bool.{Bool, true, false, cond, _&&_}
+use mathlib.Core.Path.{_≡_, refl, sym, _∙_, ap}
+use mathlib.Core.List.{List, [], _++_}
+use native.Mathlib.Omega.{arith}
+use lib.ListN.{length, drop, length-drop}
+use lib.Seq.{drop-drop}
+use lib.Dec.{eqb}
+use lib.Ieee.{Float}
+use Rattle.arith.specs.Leaves.{zero32}
+use Rattle.ook.specs.Counts.{zeroC32}
+use Rattle.ook.specs.Tests.{both-true}
+use Rattle.burst.specs.declared.Steady.{Steady}
+use Rattle.lane.specs.declared.Lane.{Lane}
+use Rattle.lane.specs.declared.StepArgs.{StepArgs}
+use Rattle.lane.specs.Begin.{clearedOf, ringOf}
+use Rattle.lane.specs.Steady.{steadyStep, steadiedLane, withRing, slicedLane, steadyAnswer, steady-steps}
+use Rattle.commands.specs.declared.Command.{Command}
+use Rattle.commands.specs.declared.Command.the-variants.{End, Open, Begin, Step, Unknown, Short}
+use Rattle.commands.specs.Command.{decoded, sizeOf}
+use Rattle.lines.specs.Line.{recordLine, callText}
+use Rattle.turns.specs.declared.Past.{Past}
+use Rattle.turns.specs.Turn.{State, Called, called, next, answerText, calledText, textOf}
+use Rattle.turns.specs.Stream.{listing, front}
+
+-- a step's operands, and zeros for another command
+abbrev pub isStepOf : Command → Bool
+isStepOf End = false
+isStepOf (Open p) = false
+isStepOf (Begin b) = false
+isStepOf (Step s) = true
+isStepOf Unknown = false
+isStepOf Short = false
+
+abbrev pub noArgs : StepArgs
+noArgs = record { index = 0; noise = zero32; envelope = zero32; x = zeroC32 }
+
+abbrev pub argsOf : Command → StepArgs
+argsOf End = noArgs
+argsOf (Open p) = noArgs
+argsOf (Begin b) = noArgs
+argsOf (Step s) = s
+argsOf Unknown = noArgs
+argsOf Short = noArgs
+
+is-step : (k : Command) → isStepOf k ≡ true → k ≡ Step (argsOf k)
+is-step End h = let z : _≡_ {A = Bool} false true = h in cc
+is-step (Open p) h = let z : _≡_ {A = Bool} false true = h in cc
+is-step (Begin b) h = let z : _≡_ {A = Bool} false true = h in cc
+is-step (Step s) h = refl
+is-step Unknown h = let z : _≡_ {A = Bool} false true = h in cc
+is-step Short h = let z : _≡_ {A = Bool} false true = h in cc
+
+-- what steady steps say
+pub record Passed (p : State) (s : List ℕ) (from : ℕ) (r : Past) (fsk : List ℕ) : Type 0 where
+  pub onward : from ≤ r .used
+  pub inside : r .used ≤ length s
+  pub same : (t : List ℕ) → listing (r .lane, p .1, fsk) (drop (r .used) s ++ t) ≡ listing p (drop from s ++ t)
+
+-- the lane and the FSK buffer after a steady step
+abbrev pub passedOf : Lane → StepArgs → ℕ → List ℕ → Lane × List ℕ
+passedOf l a ook fsk = let q : Steady = steadyStep l a ook (length fsk) in slicedLane (steadiedLane l a q) a q fsk
+
+module _ (l : Lane) (ring : List Float) (ook fsk s t : List ℕ) (used : ℕ) where
+  abbrev p : State
+  p = (withRing ring l, ook, fsk)
+
+  -- the lines of a call, and of what is left after the command
+  abbrev lines : ℕ → ℕ → Called → List ℕ
+  lines index size c = calledText c index ++ cond (eqb size 0) [] (listing (next c) (drop size (drop used s) ++ t))
+
+  abbrev linesOf : Command → List ℕ
+  linesOf k = textOf k (called p k) ++ cond (eqb (sizeOf k) 0) [] (listing (next (called p k)) (drop (sizeOf k) (drop used s) ++ t))
+
+  silent : (a : StepArgs) → steadyStep l a (length ook) (length fsk) .ok ≡ true
+      → lines (a .index) 25 (called p (Step a))
+      ≡ listing (withRing (ringOf ring (a .index) (a .envelope)) (passedOf l a (length ook) fsk .0), ook, passedOf l a (length ook) fsk .1) (drop 25 (drop used s) ++ t)
+  unfolding called answerText callText recordLine slicedLane steadiedLane clearedOf
+  silent a ok = ap (lines (a .index) 25) (steady-steps l ring a ook fsk ok)
+
+  pub steady-turn : (k : Command) → 61 ≤ length s - used → k ≡ decoded (drop used s) → isStepOf k ≡ true → steadyStep l (argsOf k) (length ook) (length fsk) .ok ≡ true
+      → listing (withRing (ringOf ring (argsOf k .index) (argsOf k .envelope)) (passedOf l (argsOf k) (length ook) fsk .0), ook, passedOf l (argsOf k) (length ook) fsk .1) (drop (used + 25) s ++ t)
+      ≡ listing (withRing ring l, ook, fsk) (drop used s ++ t)
+  steady-turn k there dk step ok =
+      ap (λ (u : List ℕ). listing (withRing (ringOf ring (argsOf k .index) (argsOf k .envelope)) (passedOf l (argsOf k) (length ook) fsk .0), ook, passedOf l (argsOf k) (length ook) fsk .1) (u ++ t)) (sym (drop-drop 25 used s))
+      ∙ sym (silent (argsOf k) ok)
+      ∙ ap linesOf (sym (is-step k step) ∙ dk)
+      ∙ front false p (drop used s) t (λ q. let z : _≡_ {A = Bool} false true = q in cc) (omega (arith, there, length-drop used s))
+
+  -- the lane m and the FSK buffer y after a step that is found to be steady, as the loop works them out
+  abbrev after : StepArgs → Lane × List ℕ → List ℕ
+  after a z = listing (withRing (ringOf ring (a .index) (a .envelope)) (z .0), ook, z .1) (drop (used + 25) s ++ t)
+
+  pub steady-again : (k : Command) (steps : Bool) (a : StepArgs) (q : Steady) (n m : Lane) (y : List ℕ)
+      → 61 ≤ length s - used → k ≡ decoded (drop used s) → steps ≡ isStepOf k → a ≡ argsOf k → q ≡ steadyStep l a (length ook) (length fsk) → (steps && q .ok) ≡ true
+      → n ≡ steadiedLane l a q → _≡_ {A = Lane × List ℕ} (m, y) (slicedLane n a q fsk)
+      → after a (m, y) ≡ listing (withRing ring l, ook, fsk) (drop used s ++ t)
+  steady-again k steps a q n m y there dk ds da dq h dn dz =
+      let both : (steps ≡ true) × (q .ok ≡ true) = both-true steps (q .ok) h in
+      ap (after a) dz
+      ∙ ap (λ (x : Lane). after a (slicedLane x a q fsk)) dn
+      ∙ ap (λ (x : Steady). after a (slicedLane (steadiedLane l a x) a x fsk)) dq
+      ∙ ap (λ (x : StepArgs). after x (passedOf l x (length ook) fsk)) da
+      ∙ steady-turn k there dk (sym ds ∙ both .0)
+      (ap (λ (x : StepArgs). steadyStep l x (length ook) (length fsk) .ok) (sym da) ∙ ap (λ (x : Steady). x .ok) (sym dq) ∙ both .1)
