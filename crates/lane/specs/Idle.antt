@@ -9,7 +9,9 @@ use Rattle.ook.specs.declared.Out.{Out}
 use Rattle.ook.specs.declared.Env.{Env}
 use Rattle.ook.specs.declared.Train.{Train}
 use Rattle.ook.specs.declared.Carrier.the-variants.{Angle}
+use Rattle.fsk.specs.declared.Committed.{Committed}
 use Rattle.fsk.specs.declared.Frame.{Frame}
+use Rattle.fsk.specs.declared.Runs.{Runs}
 use Rattle.presence.specs.declared.Pres.{Pres}
 use Rattle.burst.specs.declared.Burst.{Burst}
 use Rattle.burst.specs.declared.Lead.{Lead}
@@ -35,6 +37,12 @@ noTrain = record { start = 0; «pulse_end» = 0; started = 0; «ook_n» = 0; «o
 abbrev pub noPres : Pres
 noPres = record { «p_t_run» = zero64; «p_t_prev» = zero64; «p_factor» = zero32; «p_level» = 0; «p_run» = 0; «p_confirmed» = 0; «p_prev» = 0 }
 
+abbrev pub noRuns : Runs
+noRuns = record { «ft_run» = zero64; «ft_prev» = zero64; «fsk_level» = 0; «fsk_run» = 0; «fsk_confirmed» = 0; «fsk_prev» = 0; «fsk_has_prev» = 0 }
+
+abbrev pub noneDone : Committed
+noneDone = record { «f_origin» = zero64; «f_last» = zero64; «fsk_open» = 0; «fsk_n» = 0; «fsk_runs» = 0; «fsk_full» = 0 }
+
 abbrev pub noFrame : Frame
 noFrame = record {
   tone = record { fm = zeroC32; «f_prev» = zero32 };
@@ -43,8 +51,8 @@ noFrame = record {
   cand = record { «cand_f» = replicate 8 zero32; «cand_before» = zero32; «fsk_cand» = 0 };
   early = record { «f_early» = zero32; «t_early» = zero64; early = 0 };
   levels = record { «f_hi» = zero32; «f_lo» = zero32 };
-  runs = record { «ft_run» = zero64; «ft_prev» = zero64; «fsk_level» = 0; «fsk_run» = 0; «fsk_confirmed» = 0; «fsk_prev» = 0; «fsk_has_prev» = 0 };
-  done = record { «f_origin» = zero64; «f_last» = zero64; «fsk_open» = 0; «fsk_n» = 0; «fsk_runs» = 0; «fsk_full» = 0 };
+  runs = noRuns;
+  done = noneDone;
 }
 
 unfoldable pub noBurst : Burst

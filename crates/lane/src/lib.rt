@@ -4,7 +4,7 @@ ghost use mathlib.Core.Path.{_≡_};
 ghost use Prim.Native.Nat.{_≤_};
 ghost use Rattle.lane.specs.Answers.{replyOf, phaseOf};
 ghost use Rattle.lane.specs.Refusals.{openedOk, laneOk, historyOk, beginFloatsOk, stepFloatsOk, followsOf, beginRefusal, stepRefusal, stepRefusalBy};
-ghost use Rattle.lane.specs.Idle.{noOut, noFrame, noBurst, noLead, idleLane, noSettings};
+ghost use Rattle.lane.specs.Idle.{noOut, noRuns, noneDone, noFrame, noEnv, noTrain, noPres, noBurst, noLead, idleLane, noSettings};
 ghost use Rattle.lane.specs.Begin.{ringBeforeOf, historyOf, ringOf, beginLeadOf, clearedOf, withFactor, leadLane};
 ghost use Rattle.lane.specs.Advance.{settleOf, fillOf, atOf, replayStep, leadStep, burstStep, phaseStep, advanceOf};
 ghost use Rattle.lane.specs.Steady.{steadyStep, steadiedLane, slicedLane};
@@ -224,10 +224,39 @@ fn no_out() -> Out
     }
 }
 
+fn no_runs() -> Runs
+    ensures { λ r. ⌜ r ≡ noRuns ⌝ }
+{
+    Runs {
+        ft_run: 0.0,
+        ft_prev: 0.0,
+        fsk_level: 0,
+        fsk_run: 0,
+        fsk_confirmed: 0,
+        fsk_prev: 0,
+        fsk_has_prev: 0,
+    }
+}
+
+fn none_done() -> Committed
+    ensures { λ r. ⌜ r ≡ noneDone ⌝ }
+{
+    Committed {
+        f_origin: 0.0,
+        f_last: 0.0,
+        fsk_open: 0,
+        fsk_n: 0,
+        fsk_runs: 0,
+        fsk_full: 0,
+    }
+}
+
 fn no_frame() -> Frame
     ensures { λ r. ⌜ r ≡ noFrame ⌝ }
 {
     let cand_f = [0.0f32; 8];
+    let runs = no_runs();
+    let done = none_done();
     Frame {
         tone: Tone {
             fm: C32 { re: 0.0, im: 0.0 },
@@ -252,30 +281,15 @@ fn no_frame() -> Frame
             f_hi: 0.0,
             f_lo: 0.0,
         },
-        runs: Runs {
-            ft_run: 0.0,
-            ft_prev: 0.0,
-            fsk_level: 0,
-            fsk_run: 0,
-            fsk_confirmed: 0,
-            fsk_prev: 0,
-            fsk_has_prev: 0,
-        },
-        done: Committed {
-            f_origin: 0.0,
-            f_last: 0.0,
-            fsk_open: 0,
-            fsk_n: 0,
-            fsk_runs: 0,
-            fsk_full: 0,
-        },
+        runs,
+        done,
     }
 }
 
-fn no_burst() -> Burst
-    ensures { λ r. ⌜ r ≡ noBurst ⌝ }
+fn no_env() -> Env
+    ensures { λ r. ⌜ r ≡ noEnv ⌝ }
 {
-    let env = Env {
+    Env {
         run: Run {
             level: 0,
             run_len: 0,
@@ -290,9 +304,13 @@ fn no_burst() -> Burst
         },
         ref_idx: 0,
         ref_pending: 0,
-    };
-    let zero = C32 { re: 0.0, im: 0.0 };
-    let train = Train {
+    }
+}
+
+fn no_train() -> Train
+    ensures { λ r. ⌜ r ≡ noTrain ⌝ }
+{
+    Train {
         start: 0,
         pulse_end: 0,
         started: 0,
@@ -300,9 +318,14 @@ fn no_burst() -> Burst
         open: 0,
         longest: Steps(0),
         truncated: 0,
-        acc: zero,
-    };
-    let pres = Pres {
+        acc: C32 { re: 0.0, im: 0.0 },
+    }
+}
+
+fn no_pres() -> Pres
+    ensures { λ r. ⌜ r ≡ noPres ⌝ }
+{
+    Pres {
         p_t_run: 0.0,
         p_t_prev: 0.0,
         p_factor: 0.0,
@@ -310,14 +333,22 @@ fn no_burst() -> Burst
         p_run: 0,
         p_confirmed: 0,
         p_prev: 0,
-    };
+    }
+}
+
+fn no_burst() -> Burst
+    ensures { λ r. ⌜ r ≡ noBurst ⌝ }
+{
+    let env = no_env();
+    let train = no_train();
+    let pres = no_pres();
     let out = no_out();
     let frame = no_frame();
     Burst {
         high: 0.0,
         e_prev: 0.0,
         env,
-        pac: zero,
+        pac: C32 { re: 0.0, im: 0.0 },
         train,
         out_ook: out,
         frames: 0,
