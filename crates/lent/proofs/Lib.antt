@@ -1,0 +1,2 @@
+-- What the walk of the thin entry cites.
+pub mod Walk
