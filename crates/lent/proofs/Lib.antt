@@ -1,2 +1,5 @@
--- What the walk of the thin entry cites.
-pub mod Walk
+-- What the walks of this crate cite.
+pub mod Held
+pub mod Rows
+pub mod Entry
+pub mod Lending

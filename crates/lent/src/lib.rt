@@ -27,3 +27,17 @@ pub fn step_lent(l: &mut Lane, s: StepArgs, ook: &mut [u32], fsk: &mut [u32]) ->
     *l = lane_of(a);
     reply_of(a)
 }
+
+fn answer_of(r: Reply, l: Lane) -> Answer
+    ensures { λ a. ⌜ a ≡ answerOf r l ⌝ }
+{
+    Answer { reply: r, lane: l }
+}
+
+// Step by value through the entry: the lane is lent for the call and comes back in the answer.
+pub fn step_by_lending(mut l: Lane, s: StepArgs, ook: &mut [u32], fsk: &mut [u32]) -> Answer
+    ensures { λ r. ⌜ (r, now (ook .exit), now (fsk .exit)) ≡ stepped l s (now (ook .entry)) (now (fsk .entry)) ⌝ }
+{
+    let r = step_lent(&mut l, s, ook, fsk);
+    answer_of(r, l)
+}

@@ -1,4 +1,4 @@
--- `lent::step_lent` meets its contract: the walk over any types (`Walk.antt`), at a lane's. Both buffers are given up to `step` for good. Assumes nothing.
+-- `lent::step_lent` meets its contract: the walk over any types (`Entry.antt`), at a lane's. Both buffers are given up to `step` for good. Assumes nothing.
 use mathlib.Core.Path.{_≡_, refl, subst}
 use Prim.Native.Nat.{ℕ}
 use mathlib.Core.List.{[], _∷_, List}
@@ -26,7 +26,6 @@ use denote.Slice.{sliceVal, MutSlice, Room, slice-vals, mut-slice-tells}
 use denote.Signature.{plain}
 use denote.Steps.{owned, heard, nothing}
 use denote.Struct.Laws as LL
-use denote.Enum.Laws as EL
 use denote.Triple.Statement.{Contract, Triple}
 use denote.Triple.Entry.{onEntry}
 use denote.Triple.Spec.{Meets, tripleOf}
@@ -35,7 +34,9 @@ use denote.Triple.Walked.{says, Stays, stay-ref, stay-none, gave-slice, walkOf, 
 use denote.Exit.{yes}
 use denote.Triple.Clauses.{ensured, lasts}
 use Rattle.lane.specs.Step.{stepped}
-use Rattle.lent.proofs.Walk.{entry, Held, fits, taken, walk}
+use Rattle.lent.proofs.Held.{fits, gives}
+use Rattle.lent.proofs.Rows.{Buf, lane-held, answer-held, args-held, reply-held}
+use Rattle.lent.proofs.Entry.{entry, walk}
 use Rattle.lane.specs.declared.Lane.{Lane}
 use Rattle.lane.specs.declared.Answer.{Answer}
 use Rattle.lane.specs.declared.StepArgs.{StepArgs}
@@ -70,22 +71,6 @@ code-of = entry (pointee (T.the-row .written)) T′.mir X′.mir N′.mir Y′.m
 
 same : code-of ≡ code.function
 same = refl
-
-module _ {M : Type 1} (𝓤 : URA M) (H : Heap 𝓤) (A : Atoms 𝓤) (W : Given 𝓤 H A) where
-  lane-held : Held 𝓤 H A T.the-row T′.mir
-  lane-held = record { one = refl; lawful = LL.lawful T.the-type T′.the-laws 𝓤 H A W }
-
-  answer-held : Held 𝓤 H A N.the-row N′.mir
-  answer-held = record { one = refl; lawful = LL.lawful N.the-type N′.the-laws 𝓤 H A W }
-
-  args-held : Held 𝓤 H A X.the-row X′.mir
-  args-held = record { one = refl; lawful = LL.lawful X.the-type X′.the-laws 𝓤 H A W }
-
-  reply-held : Held 𝓤 H A Y.the-row Y′.mir
-  reply-held = record { one = refl; lawful = EL.lawful Y.the-type Y′.the-laws 𝓤 H A W tt }
-
-abbrev Buf : Type 0
-Buf = RefT (List ℕ)
 
 -- what `step` binds at its exit: nothing of the lane and the arguments, and the buffers' last values
 abbrev Last : Type 0
@@ -173,8 +158,8 @@ module _ {M : Type 1} (𝓤 : URA M) (H : Heap 𝓤) (A : Atoms 𝓤) (W : Given
         κ₀ q₀ (l .ptr .0) (l .ptr .1) (l .name) (l .now) cv (x₁ .ptr .0) (x₁ .ptr .1) (length (x₁ .now)) (x₂ .ptr .0) (x₂ .ptr .1) (length (x₂ .now)) I J O Post C Λ fm
         (fits 𝓤 H A (args-held 𝓤 H A W) c cv c-is) (room₁ .0) (room₂ .0)
         (λ was. via 𝓤 (Step .pre to-step) (goes-step was) (met-step to-step))
-        (taken 𝓤 H A N.the-row T.the-row (λ (r : Answer). r .lane) W (C #lent·lane-of) (fm #lent·lane-of) met-lane)
-        (taken 𝓤 H A N.the-row Y.the-row (λ (r : Answer). r .reply) W (C #lent·reply-of) (fm #lent·reply-of) met-reply)
+        (λ r v. gives 𝓤 H A (plain (λ _. N.the-row) ∷ []) (yes, tt) T.the-row (λ (b : Answer × Unit {0}). b .0 .lane) W (C #lent·lane-of) (fm #lent·lane-of) met-lane (r, tt) (v ∷ [], tt))
+        (λ r v. gives 𝓤 H A (plain (λ _. N.the-row) ∷ []) (yes, tt) Y.the-row (λ (b : Answer × Unit {0}). b .0 .reply) W (C #lent·reply-of) (fm #lent·reply-of) met-reply (r, tt) (v ∷ [], tt))
         exits)
 
   goes : AllGo 𝓤 H A W 3 (f.signature .params) (f.ended .kept) stayed
