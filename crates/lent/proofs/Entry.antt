@@ -13,7 +13,7 @@ use base.Fml.{GName, Lft, Share, ftrue, fsep, flft, fobs, fbor}
 use prog.Wp.{Heap, Calls, Loops, WpFn}
 use ghost.Atoms.{Atoms, sem}
 use sound.WpLaws.{FmC}
-use types.Kit.{Given, Item, ‵, raw, mean, ⋆, _⊛_, some, later, _$_, _∵_, !, qed, by, move, drop, use1, split, join, fjoin, pick, rewrite, await}
+use types.Kit.{Given, Item, ‵, mean, ⋆, _⊛_, some, later, _$_, _∵_, !, qed, by, move, drop, use1, split, join, fjoin, pick, rewrite, await}
 use types.Run.{look, look-raw, store, store-raw, init, forget, stop, hop, fld, from, load, addr, of-opd, and-then, no-more, assigns, land, returns, enter, alloc1, alloc0, params1, pass1, pass0, free1, free0}
 use types.Part.{agg, whole, sub, look-in}
 use types.SemTy.{Body}

@@ -13,7 +13,7 @@ use base.Fml.{GName, Lft, ftrue, fsep, fat, flft, flent, fres}
 use prog.Wp.{Heap, Calls, Loops, WpFn}
 use ghost.Atoms.{Atoms, sem}
 use sound.WpLaws.{FmC}
-use types.Kit.{Given, Item, ‵, mean, ⋆, _⊛_, some, later, _$_, _∵_, !, qed, by, move, use1, use3, split, join, group, fsplit, fjoin, fpick, fpack, pick, rewrite, await}
+use types.Kit.{Given, Item, ‵, mean, ⋆, _⊛_, some, later, _$_, _∵_, !, qed, by, move, use1, use3, split, group, fsplit, fjoin, fpick, fpack, pick, rewrite, await}
 use types.Run.{look, init, forget, stop, hop, fld, from, load, addr, of-opd, and-then, no-more, assigns, land, returns, enter, alloc1, alloc0, params1, pass1, pass0, free1, free0}
 use types.Part.{agg, whole, sub, look-in}
 use types.SemTy.{Body}

@@ -22,7 +22,7 @@ use denote.Laws.{Is}
 use denote.Memory.{pointee}
 use denote.Builtin.{u32}
 use denote.Ref.{RefT, MutRef}
-use denote.Slice.{sliceVal, MutSlice, Room, finally, slice-vals, mut-slice-tells}
+use denote.Slice.{MutSlice, Room, finally, slice-vals, mut-slice-tells}
 use denote.Signature.{plain}
 use denote.Steps.{owned, heard, nothing}
 use denote.Struct.Laws as LL
@@ -35,7 +35,7 @@ use denote.Exit.{yes}
 use Rattle.lane.specs.Step.{stepped}
 use Rattle.lent.specs.Lent.{answerOf}
 use Rattle.lent.proofs.Held.{fits, gives}
-use Rattle.lent.proofs.Rows.{Buf, lane-held, answer-held, args-held, reply-held}
+use Rattle.lent.proofs.Rows.{Buf, laneVal, argsVal, bufVal, Toks, Bufs, args-makes, lane-makes, lane-held, answer-held, args-held, reply-held}
 use Rattle.lent.proofs.Lending.{lending, walk}
 use Rattle.lane.specs.declared.Lane.{Lane}
 use Rattle.lane.specs.declared.Reply.{Reply}
@@ -84,34 +84,16 @@ module _ {M : Type 1} (𝓤 : URA M) (H : Heap 𝓤) (A : Atoms 𝓤) (W : Given
   AnswerOf = tripleOf 𝓤 H A answer-of.signature (answer-of.spec 𝓤 H A at-mem run)
 
   module _ (κ₁ κ₂ : Lft) (q₁ q₂ : Share) (l : Lane) (c : StepArgs) (x₁ x₂ : Buf) (l-is : Is T.the-row l (LL.vals T.the-type T′.the-laws l)) (c-is : Is X.the-row c (LL.vals X.the-type X′.the-laws c)) where
-    abbrev lv : Val
-    lv = LL.val T.the-type T′.the-laws l
-
-    abbrev cv : Val
-    cv = LL.val X.the-type X′.the-laws c
-
-    abbrev s₁ : Val
-    s₁ = sliceVal (x₁ .ptr) (length (x₁ .now))
-
-    abbrev s₂ : Val
-    s₂ = sliceVal (x₂ .ptr) (length (x₂ .now))
-
     abbrev x : Lane × (StepArgs × (Buf × (Buf × Unit {0})))
     x = (l, (c, (x₁, (x₂, tt))))
 
     abbrev at : List Val × (List Val × (List Val × (List Val × Unit {0})))
-    at = (lv ∷ [], (cv ∷ [], (s₁ ∷ [], (s₂ ∷ [], tt))))
+    at = (laneVal l ∷ [], (argsVal c ∷ [], (bufVal x₁ ∷ [], (bufVal x₂ ∷ [], tt))))
 
     abbrev Post : Val → SProp 𝓤
     Post = walkOf 𝓤 H A f.ended stayed (f.clauses 𝓤 H A at-mem run) .post (((κ₁, (κ₂, tt)), (q₁, (q₂, tt)), tt, x, at), tt)
 
     -- the tokens of both buffers, what `step_lent` is handed beside the lane, and what it says of the buffers and of its reply
-    abbrev J : Item 𝓤
-    J = ‵ (flft κ₁ q₁) ⊛ (‵ (flft κ₂ q₂) ⊛ ‵ ftrue)
-
-    abbrev I : Item 𝓤
-    I = J ⊛ (‵ (MutSlice (named 0) κ₁ u32 .own x₁ (s₁ ∷ [])) ⊛ ‵ (MutSlice (named 1) κ₂ u32 .own x₂ (s₂ ∷ [])))
-
     abbrev ended : Buf → List ℕ → Fml
     ended b ws = fsep (finally u32 (b .name) ws) (feq ℕ (length ws) (length (b .now)))
 
@@ -126,32 +108,32 @@ module _ {M : Type 1} (𝓤 : URA M) (H : Heap 𝓤) (A : Atoms 𝓤) (W : Given
     at-loan b γ = record { ptr = (b, zero); name = γ; now = l }
 
     abbrev to-lent : Lft → ℕ → GName → StepLent .Ghost
-    to-lent κ b γ = (((κ, (κ₁, (κ₂, tt))), (fullShare, (q₁, (q₂, tt))), tt, (at-loan b γ, (c, (x₁, (x₂, tt)))), (vptr b zero ∷ [], (cv ∷ [], (s₁ ∷ [], (s₂ ∷ [], tt))))), tt)
+    to-lent κ b γ = (((κ, (κ₁, (κ₂, tt))), (fullShare, (q₁, (q₂, tt))), tt, (at-loan b γ, (c, (x₁, (x₂, tt)))), (vptr b zero ∷ [], (argsVal c ∷ [], (bufVal x₁ ∷ [], (bufVal x₂ ∷ [], tt))))), tt)
 
-    goes-lent : (κ : Lft) (b : ℕ) (γ : GName) → ent 𝓤 (mean 𝓤 H A (‵ (flft κ fullShare) ⊛ (‵ (MutRef (named 0) κ T.the-row .own (at-loan b γ) (vptr b zero ∷ [])) ⊛ I))) (StepLent .pre (to-lent κ b γ))
+    goes-lent : (κ : Lft) (b : ℕ) (γ : GName) → ent 𝓤 (mean 𝓤 H A (‵ (flft κ fullShare) ⊛ (‵ (MutRef (named 0) κ T.the-row .own (at-loan b γ) (vptr b zero ∷ [])) ⊛ Bufs 𝓤 κ₁ κ₂ q₁ q₂ x₁ x₂))) (StepLent .pre (to-lent κ b γ))
     goes-lent κ b γ =
-        qed W ((‵ (flft κ fullShare) ⊛ (‵ (MutRef (named 0) κ T.the-row .own (at-loan b γ) (vptr b zero ∷ [])) ⊛ I)) ∷ []) ∵
+        qed W ((‵ (flft κ fullShare) ⊛ (‵ (MutRef (named 0) κ T.the-row .own (at-loan b γ) (vptr b zero ∷ [])) ⊛ Bufs 𝓤 κ₁ κ₂ q₁ q₂ x₁ x₂)) ∷ []) ∵
         split ! $ move ! (1 ∷ []) $ split ! $ move ! (1 ∷ []) $ split ! $ move ! (1 ∷ []) $ split ! $ nothing ! $ move ! (2 ∷ 0 ∷ []) $ fjoin ! $ move ! (1 ∷ 0 ∷ []) $ fjoin ! $
-        owned ! X.the-row (Is X.the-row) ((LL.makes X.the-type X′.the-plain) 𝓤 H A) c _ c-is $ fjoin ! $ move ! (2 ∷ 0 ∷ []) $ fjoin ! $ move ! (2 ∷ 1 ∷ []) $ join ! $ join ! $ nothing ! $ move ! (1 ∷ 0 ∷ []) $ join ! $ done !
+        owned ! X.the-row (Is X.the-row) (args-makes 𝓤 H A W) c _ c-is $ fjoin ! $ move ! (2 ∷ 0 ∷ []) $ fjoin ! $ move ! (2 ∷ 1 ∷ []) $ join ! $ join ! $ nothing ! $ move ! (1 ∷ 0 ∷ []) $ join ! $ done !
 
-    exits : (z : Reply) (e : Last) (v : Val) → ent 𝓤 (⋆ 𝓤 H A (J ∷ O e ∷ raw (fact 𝓤 (Said z e)) ∷ ‵ (N.the-row .own (answerOf z (e .0)) (v ∷ [])) ∷ [])) (Post v)
+    exits : (z : Reply) (e : Last) (v : Val) → ent 𝓤 (⋆ 𝓤 H A (Toks 𝓤 κ₁ κ₂ q₁ q₂ ∷ O e ∷ raw (fact 𝓤 (Said z e)) ∷ ‵ (N.the-row .own (answerOf z (e .0)) (v ∷ [])) ∷ [])) (Post v)
     exits z e v =
-        qed W (J ∷ O e ∷ raw (fact 𝓤 (Said z e)) ∷ ‵ (N.the-row .own (answerOf z (e .0)) (v ∷ [])) ∷ []) ∵ move ! (2 ∷ []) $ heard ! (Said z e) (λ q.
+        qed W (Toks 𝓤 κ₁ κ₂ q₁ q₂ ∷ O e ∷ raw (fact 𝓤 (Said z e)) ∷ ‵ (N.the-row .own (answerOf z (e .0)) (v ∷ [])) ∷ []) ∵ move ! (2 ∷ []) $ heard ! (Said z e) (λ q.
         move ! (1 ∷ []) $ fsplit ! $ drop ! $ fsplit ! $ fsplit ! $ move ! (1 ∷ []) $ feqL ! (λ n₁. move ! (1 ∷ []) $ fsplit ! $ fsplit ! $ move ! (1 ∷ []) $ feqL ! (λ n₂.
         -- [the last of fsk; true; the last of ook; the tokens; the answer]
         suffices ! _ (ends-at 𝓤 H A f.ended stayed (f.clauses 𝓤 H A at-mem run) W (((κ₁, (κ₂, tt)), (q₁, (q₂, tt)), tt, x, at), tt) v (answerOf z (e .0)) (tt, (tt, (e .1 .1 .0, (e .1 .1 .1 .0, tt)))) (tt, (tt, (n₁, (n₂, tt))))) $ says ! q $
-        move ! (3 ∷ []) $ frame ! $ fjoin ! $ move ! (1 ∷ 0 ∷ []) $ fjoin ! $ owned ! X.the-row (Is X.the-row) ((LL.makes X.the-type X′.the-plain) 𝓤 H A) c _ c-is $ fjoin ! $
-        owned ! T.the-row (Is T.the-row) ((LL.makes T.the-type T′.the-plain) 𝓤 H A) l _ l-is $ fjoin ! $ join ! $ done !)))
+        move ! (3 ∷ []) $ frame ! $ fjoin ! $ move ! (1 ∷ 0 ∷ []) $ fjoin ! $ owned ! X.the-row (Is X.the-row) (args-makes 𝓤 H A W) c _ c-is $ fjoin ! $
+        owned ! T.the-row (Is T.the-row) (lane-makes 𝓤 H A W) l _ l-is $ fjoin ! $ join ! $ done !)))
 
     goes-through : (C : Calls 𝓤 H) (Λ : Loops 𝓤 H) → FmC 𝓤 H (W .laws) C → Triple 𝓤 (C #lent·step-lent) StepLent → Triple 𝓤 (C #lent·answer-of) AnswerOf → Room u32 (length (x₁ .now)) → Room u32 (length (x₂ .now))
-        → ent 𝓤 (onEntry 𝓤 H A f.signature (κ₁, (κ₂, tt)) (q₁, (q₂, tt)) x at) (WpFn 𝓤 H C Λ code-of (lv ∷ cv ∷ s₁ ∷ s₂ ∷ []) Post)
+        → ent 𝓤 (onEntry 𝓤 H A f.signature (κ₁, (κ₂, tt)) (q₁, (q₂, tt)) x at) (WpFn 𝓤 H C Λ code-of (laneVal l ∷ argsVal c ∷ bufVal x₁ ∷ bufVal x₂ ∷ []) Post)
     goes-through C Λ fm met-lent met-answer room₁ room₂ =
-        qed W (J ∷ ‵ (owns (T.the-row ∷ X.the-row ∷ MutSlice (named 0) κ₁ u32 ∷ MutSlice (named 1) κ₂ u32 ∷ []) x at) ∷ []) ∵
+        qed W (Toks 𝓤 κ₁ κ₂ q₁ q₂ ∷ ‵ (owns (T.the-row ∷ X.the-row ∷ MutSlice (named 0) κ₁ u32 ∷ MutSlice (named 1) κ₂ u32 ∷ []) x at) ∷ []) ∵
         move ! (1 ∷ []) $ fsplit ! $ drop ! $ fsplit ! $ drop ! $ fsplit ! $ move ! (1 ∷ []) $ fsplit ! $ move ! (2 ∷ 0 ∷ []) $ join ! $ move ! (2 ∷ 0 ∷ []) $ join ! $ move ! (1 ∷ []) $ drop ! $
         by ! (walk 𝓤 H A W T.the-row N.the-row Y.the-row (pointee (T.the-row .written)) T′.mir X′.mir N′.mir Y′.mir (lane-held 𝓤 H A W) (answer-held 𝓤 H A W) (reply-held 𝓤 H A W)
-        (LL.val T.the-type T′.the-laws) (LL.tells T.the-type T′.the-laws) ((LL.makes T.the-type T′.the-plain) 𝓤 H A) answerOf #lent·step-lent #lent·answer-of
-        l cv (x₁ .ptr .0) (x₁ .ptr .1) (length (x₁ .now)) (x₂ .ptr .0) (x₂ .ptr .1) (length (x₂ .now)) I J Last (λ (e : Last). e .0) O (λ (z : Reply) (e : Last). raw (fact 𝓤 (Said z e))) Post C Λ fm
-        l-is (fits 𝓤 H A (args-held 𝓤 H A W) c cv c-is) (room₁ .0) (room₂ .0)
+        (LL.val T.the-type T′.the-laws) (LL.tells T.the-type T′.the-laws) (lane-makes 𝓤 H A W) answerOf #lent·step-lent #lent·answer-of
+        l (argsVal c) (x₁ .ptr .0) (x₁ .ptr .1) (length (x₁ .now)) (x₂ .ptr .0) (x₂ .ptr .1) (length (x₂ .now)) (Bufs 𝓤 κ₁ κ₂ q₁ q₂ x₁ x₂) (Toks 𝓤 κ₁ κ₂ q₁ q₂) Last (λ (e : Last). e .0) O (λ (z : Reply) (e : Last). raw (fact 𝓤 (Said z e))) Post C Λ fm
+        l-is (fits 𝓤 H A (args-held 𝓤 H A W) c (argsVal c) c-is) (room₁ .0) (room₂ .0)
         (λ κ b γ. via 𝓤 (StepLent .pre (to-lent κ b γ)) (goes-lent κ b γ) (met-lent (to-lent κ b γ)))
         (λ z y v u. gives 𝓤 H A (plain (λ _. Y.the-row) ∷ plain (λ _. T.the-row) ∷ []) (yes, (yes, tt)) N.the-row (λ (b : Reply × (Lane × Unit {0})). answerOf (b .0) (b .1 .0)) W (C #lent·answer-of) (fm #lent·answer-of) met-answer (z, (y, tt)) (v ∷ [], (u ∷ [], tt)))
         exits)
