@@ -1,5 +1,5 @@
 -- The walk of a thin entry, over any types: `let a = step(*l, s, p, q); *l = lane_of(a); reply_of(a)`.
--- The types' rows and MIR types are parameters, so that the walk compares names and never a lane's some two hundred fields.
+-- The types' rows and MIR types are parameters, so that the walk compares names and never the fields of a lane.
 use mathlib.Core.Path.{refl, sym}
 use Prim.Native.Nat.{ℕ, _<_, _^_}
 use mathlib.Core.List.{List, [], _∷_}

@@ -57,15 +57,15 @@ module _ {M : Type 1} (𝓤 : URA M) (H : Heap 𝓤) (A : Atoms 𝓤) (W : Given
   pub answer-held : Held 𝓤 H A N.the-row N′.mir
   answer-held = record { one = refl; lawful = LL.lawful N.the-type N′.the-laws 𝓤 H A W }
 
+  pub args-held : Held 𝓤 H A X.the-row X′.mir
+  args-held = record { one = refl; lawful = LL.lawful X.the-type X′.the-laws 𝓤 H A W }
+
+  pub reply-held : Held 𝓤 H A Y.the-row Y′.mir
+  reply-held = record { one = refl; lawful = EL.lawful Y.the-type Y′.the-laws 𝓤 H A W tt }
+
   -- what the arguments and a lane own is had for nothing
   pub args-makes : Makes 𝓤 H A X.the-row (Is X.the-row)
   args-makes = (LL.makes X.the-type X′.the-plain) 𝓤 H A
 
   pub lane-makes : Makes 𝓤 H A T.the-row (Is T.the-row)
   lane-makes = (LL.makes T.the-type T′.the-plain) 𝓤 H A
-
-  pub args-held : Held 𝓤 H A X.the-row X′.mir
-  args-held = record { one = refl; lawful = LL.lawful X.the-type X′.the-laws 𝓤 H A W }
-
-  pub reply-held : Held 𝓤 H A Y.the-row Y′.mir
-  reply-held = record { one = refl; lawful = EL.lawful Y.the-type Y′.the-laws 𝓤 H A W tt }

@@ -93,7 +93,7 @@ module _ {M : Type 1} (𝓤 : URA M) (H : Heap 𝓤) (A : Atoms 𝓤) (W : Given
     abbrev Post : Val → SProp 𝓤
     Post = walkOf 𝓤 H A f.ended stayed (f.clauses 𝓤 H A at-mem run) .post (((κ₁, (κ₂, tt)), (q₁, (q₂, tt)), tt, x, at), tt)
 
-    -- the tokens of both buffers, what `step_lent` is handed beside the lane, and what it says of the buffers and of its reply
+    -- what `step_lent` says of the buffers and of its reply
     abbrev ended : Buf → List ℕ → Fml
     ended b ws = fsep (finally u32 (b .name) ws) (feq ℕ (length ws) (length (b .now)))
 

@@ -100,7 +100,7 @@ module _ {M : Type 1} (𝓤 : URA M) (H : Heap 𝓤) (A : Atoms 𝓤) (W : Given
     abbrev Post : Val → SProp 𝓤
     Post = walkOf 𝓤 H A f.ended stayed (f.clauses 𝓤 H A at-mem run) .post (((κ₀, (κ₁, (κ₂, tt))), (q₀, (q₁, (q₂, tt))), tt, x, at), tt)
 
-    -- the tokens of both buffers, what `step` is handed, and what it says of its answer
+    -- what `step` is called with, and what it says of its answer
     abbrev a : Lane × (StepArgs × (Buf × (Buf × Unit {0})))
     a = (l .now, (c, (x₁, (x₂, tt))))
 
