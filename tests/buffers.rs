@@ -1,5 +1,6 @@
-//! The two pulse buffers, whole, after every call of seeded command streams: as `lane_buffers` of target/staticlib/libbuffers.a
-//! leaves them, which makes the calls of a list of commands from the lane that never had settings, and as the reference does.
+//! The two pulse buffers, whole, after every call of seeded command streams: as `lane_buffers` and `lane_buffers_lent` of
+//! target/staticlib/libbuffers.a leave them, which make the calls of a list of commands from the lane that never had settings,
+//! a step by value or on the lane lent for change, and as the reference does.
 //! The buffers hold any numbers before the first call; some are too short for the settings, and longer than they need.
 //!
 //!     buffers [--streams N] [--calls N] [--first SEED]
@@ -31,10 +32,20 @@ unsafe extern "C" {
         text: *mut u8,
         text_len: usize,
     ) -> usize;
+    fn lane_buffers_lent(
+        commands: *const u8,
+        commands_len: usize,
+        ook: *mut u32,
+        ook_len: usize,
+        fsk: *mut u32,
+        fsk_len: usize,
+    ) -> usize;
 }
 
-/// Makes the calls of the commands and answers how many bytes they took.
-fn call_all(commands: &[u8], [ook, fsk]: &mut [Vec<u32>; 2], text: &mut [u8]) -> usize {
+/// Makes the calls of the commands, with both buffers and room for their lines, and answers how many bytes they took.
+type CallAll = fn(&[u8], &mut [Vec<u32>; 2], &mut [u8]) -> usize;
+
+fn by_value(commands: &[u8], [ook, fsk]: &mut [Vec<u32>; 2], text: &mut [u8]) -> usize {
     // The function reads and writes these slices alone and keeps no pointer to them.
     unsafe {
         lane_buffers(
@@ -49,6 +60,15 @@ fn call_all(commands: &[u8], [ook, fsk]: &mut [Vec<u32>; 2], text: &mut [u8]) ->
         )
     }
 }
+
+fn by_lending(commands: &[u8], [ook, fsk]: &mut [Vec<u32>; 2], _: &mut [u8]) -> usize {
+    // As above.
+    unsafe {
+        lane_buffers_lent(commands.as_ptr(), commands.len(), ook.as_mut_ptr(), ook.len(), fsk.as_mut_ptr(), fsk.len())
+    }
+}
+
+const WAYS: [(&str, CallAll); 2] = [("by value", by_value), ("by lending", by_lending)];
 
 /// A buffer before the first call.
 fn any_buffer(r: &mut Random) -> Vec<u32> {
@@ -79,18 +99,23 @@ fn compared(seed: u64, calls: u64, text: &mut [u8], figures: &mut Figures) -> Re
         }
         let reply = receiver.call(&mut rest);
         let front = if reply.ends() { &commands[..] } else { &commands[..commands.len() - rest.len()] };
-        for (slots, first) in here.iter_mut().zip(&start) {
-            slots.copy_from_slice(first);
-        }
-        let taken = call_all(front, &mut here, text);
         figures.calls += 1;
-        if taken != commands.len() - rest.len() {
-            return Err(format!("seed {seed}: {taken} bytes of {} taken", front.len()));
-        }
-        for (name, (slots, right)) in ["ook", "fsk"].iter().zip(here.iter().zip(receiver.buffers())) {
-            if let Some(i) = (0..right.len()).find(|&i| slots[i] != right[i]) {
-                let (got, bytes) = (slots[i], front.len());
-                return Err(format!("seed {seed}, first {bytes} bytes: {name} slot {i} is {got}, not {}", right[i]));
+        for (way, call_all) in WAYS {
+            for (slots, first) in here.iter_mut().zip(&start) {
+                slots.copy_from_slice(first);
+            }
+            let taken = call_all(front, &mut here, text);
+            if taken != commands.len() - rest.len() {
+                return Err(format!("seed {seed}, {way}: {taken} bytes of {} taken", front.len()));
+            }
+            for (name, (slots, right)) in ["ook", "fsk"].iter().zip(here.iter().zip(receiver.buffers())) {
+                if let Some(i) = (0..right.len()).find(|&i| slots[i] != right[i]) {
+                    let (got, bytes) = (slots[i], front.len());
+                    return Err(format!(
+                        "seed {seed}, first {bytes} bytes, {way}: {name} slot {i} is {got}, not {}",
+                        right[i]
+                    ));
+                }
             }
         }
         if here != before {
@@ -125,7 +150,9 @@ fn run() -> Result<String, String> {
     if writing * 1000 < calls {
         return Err(format!("only {writing} of {calls} calls write a slot"));
     }
-    Ok(format!("both buffers equal after each of {calls} calls of {streams} streams, {writing} of which write a slot"))
+    Ok(format!(
+        "both buffers equal after each of {calls} calls of {streams} streams, by value and by lending, {writing} of which write a slot"
+    ))
 }
 
 fn main() -> ExitCode {

@@ -35,7 +35,7 @@ fn index_of(k: Command) -> u64
 }
 
 // The lane's answer to a command, or refusal 1 or 2.
-fn call(l: Lane, k: Command, ook: &mut [u32], fsk: &mut [u32]) -> Answer
+pub fn call(l: Lane, k: Command, ook: &mut [u32], fsk: &mut [u32]) -> Answer
     ensures { λ r. ⌜ _≡_ {A = Called} (r, now (ook .exit), now (fsk .exit)) (called (l, now (ook .entry), now (fsk .entry)) k) ⌝ }
 {
     match k {

@@ -1,0 +1,84 @@
+use Prim.Native.Nat.{ℕ, _+_, _-_, _≤_}
+use mathlib.Core.Path.{_≡_, refl, ap, _∙_}
+use mathlib.Core.List.{List}
+use native.Mathlib.Omega.{arith}
+use lib.ListN.{length, drop, length-drop}
+use Rattle.commands.specs.declared.Command.{Command}
+use Rattle.commands.specs.Command.{decoded, sizeOf}
+use Rattle.commands.specs.Stream.{size-fits}
+use borrow.Author.Needs.{needs}
+use Rattle.buffers.proofs.lane_buffers_lent.Statement.{statement}
+use Rattle.buffers.proofs.lane_buffers_lent.Tie as tie
+
+-- a command at a place of the bytes ends inside them
+inside : (s : List ℕ) (at : ℕ) (k : Command) (size : ℕ) → k ≡ decoded (drop at s) → size ≡ sizeOf k → at ≤ length s → at + size ≤ length s
+inside s at k size dk ds h = omega (arith, ds ∙ ap sizeOf dk, size-fits (drop at s), length-drop at s, h)
+
+abbrev Inv-loop : tie.InvT-loop
+Inv-loop commands ook₀ fsk₀ l₀ used₀ ook fsk l used = (used ≤ length commands) × (length ook ≡ length ook₀) × (length fsk ≡ length fsk₀)
+
+abbrev μ-loop : tie.MeasureT-loop
+μ-loop commands ook₀ fsk₀ l₀ used₀ ook fsk l used = length commands - used
+
+new-lane-requires : tie.Need-new-lane-requires Inv-loop μ-loop
+new-lane-requires c κs = search needs
+
+loop-holds : tie.Need-loop-holds Inv-loop μ-loop
+loop-holds c = (search needs, refl, refl)
+
+decode-at-requires : tie.Need-decode-at-requires Inv-loop μ-loop
+decode-at-requires c κs = search needs
+
+size-of-requires : tie.Need-size-of-requires Inv-loop μ-loop
+size-of-requires c κs = search needs
+
+call-requires : tie.Need-call-requires Inv-loop μ-loop
+call-requires c κs = search needs
+
+add-used : tie.Need-add-used Inv-loop μ-loop
+add-used c = record { fits = omega (arith, inside (c .before .before .before .before .before .before .before .before .before .before .before .before .before .before .before .before .before .args .commands .now) _ _ _ (c .before .before .before .before .before .before .before .before .before .before .decode-at .ensures) (c .before .before .before .before .before .before .before .before .before .size-of .ensures) (c .before .before .before .before .before .before .before .before .before .before .before .before .loop .inv .0), c .before .before .before .before .before .before .before .before .before .before .before .before .before .before .before .before .before .good .0) }
+
+loop-less : tie.Need-loop-less Inv-loop μ-loop
+loop-less c = omega (arith, inside (c .before .before .before .before .before .before .before .before .before .before .before .before .before .before .before .before .before .args .commands .now) _ _ _ (c .before .before .before .before .before .before .before .before .before .before .decode-at .ensures) (c .before .before .before .before .before .before .before .before .before .size-of .ensures) (c .before .before .before .before .before .before .before .before .before .before .before .before .loop .inv .0))
+
+loop-again : tie.Need-loop-again Inv-loop μ-loop
+loop-again c = (inside (c .before .before .before .before .before .before .before .before .before .before .before .before .before .before .before .before .before .args .commands .now) _ _ _ (c .before .before .before .before .before .before .before .before .before .before .decode-at .ensures) (c .before .before .before .before .before .before .before .before .before .size-of .ensures) (c .before .before .before .before .before .before .before .before .before .before .before .before .loop .inv .0), omega arith, omega arith)
+
+same-length : tie.Need-same-length Inv-loop μ-loop
+same-length c = search needs
+
+same-length-2 : tie.Need-same-length-2 Inv-loop μ-loop
+same-length-2 c = search needs
+
+returns : tie.Need-returns Inv-loop μ-loop
+returns c = search needs
+
+same-length-3 : tie.Need-same-length-3 Inv-loop μ-loop
+same-length-3 c = search needs
+
+same-length-4 : tie.Need-same-length-4 Inv-loop μ-loop
+same-length-4 c = search needs
+
+returns-2 : tie.Need-returns-2 Inv-loop μ-loop
+returns-2 c = search needs
+
+pub lane-buffers-lent-spec : {M : Type 1} → statement M
+lane-buffers-lent-spec =
+    tie.close
+    (tie.spec
+    Inv-loop
+    μ-loop
+    new-lane-requires
+    loop-holds
+    decode-at-requires
+    size-of-requires
+    call-requires
+    add-used
+    loop-less
+    loop-again
+    same-length
+    same-length-2
+    returns
+    same-length-3
+    same-length-4
+    returns-2)
