@@ -22,7 +22,7 @@ use Rattle.commands.specs.Command.{decoded, sizeOf}
 use Rattle.lines.specs.Line.{recordLine, callText}
 use Rattle.turns.specs.declared.Past.{Past}
 use Rattle.turns.specs.Turn.{State, Called, called, next, answerText, calledText, textOf}
-use Rattle.turns.specs.Stream.{listing, front}
+use Rattle.turns.specs.Stream.{listing, Turns, none, more, seen, front}
 
 -- a step's operands, and zeros for another command
 abbrev pub isStepOf : Command → Bool
@@ -56,11 +56,28 @@ is-step Short h = let z : _≡_ {A = Bool} false true = h in cc
 pub record Passed (p : State) (s : List ℕ) (from : ℕ) (r : Past) (fsk : List ℕ) : Type 0 where
   pub onward : from ≤ r .used
   pub inside : r .used ≤ length s
+  pub left : (o : State) (t : List ℕ) → Turns o (s ++ t) from p → Turns o (s ++ t) (r .used) (r .lane, p .1, fsk)
   pub same : (t : List ℕ) → listing (r .lane, p .1, fsk) (drop (r .used) s ++ t) ≡ listing p (drop from s ++ t)
 
 -- the lane and the FSK buffer after a steady step
 abbrev pub passedOf : Lane → StepArgs → ℕ → List ℕ → Lane × List ℕ
 passedOf l a ook fsk = let q : Steady = steadyStep l a ook (length fsk) in slicedLane (steadiedLane l a q) a q fsk
+
+-- a steady step as the loop takes it: the command at a place of the bytes, its operands a, and the lane m and FSK buffer y after it
+pub record Took (l : Lane) (ook fsk s : List ℕ) (used : ℕ) (a : StepArgs) (m : Lane) (y : List ℕ) : Type 0 where
+  pub command : Command
+  pub steps : Bool
+  pub steady : Steady
+  pub changed : Lane
+  pub inside : used ≤ length s
+  pub there : 61 ≤ length s - used
+  pub is-command : command ≡ decoded (drop used s)
+  pub is-steps : steps ≡ isStepOf command
+  pub is-args : a ≡ argsOf command
+  pub is-steady : steady ≡ steadyStep l a (length ook) (length fsk)
+  pub holds : (steps && steady .ok) ≡ true
+  pub is-changed : changed ≡ steadiedLane l a steady
+  pub is-sliced : _≡_ {A = Lane × List ℕ} (m, y) (slicedLane changed a steady fsk)
 
 module _ (l : Lane) (ring : List Float) (ook fsk s t : List ℕ) (used : ℕ) where
   abbrev p : State
@@ -88,19 +105,38 @@ module _ (l : Lane) (ring : List Float) (ook fsk s t : List ℕ) (used : ℕ) wh
       ∙ ap linesOf (sym (is-step k step) ∙ dk)
       ∙ front false p (drop used s) t (λ q. let z : _≡_ {A = Bool} false true = q in cc) (omega (arith, there, length-drop used s))
 
-  -- the lane m and the FSK buffer y after a step that is found to be steady, as the loop works them out
+  -- the lines of what is left after a step as the loop takes it
   abbrev after : StepArgs → Lane × List ℕ → List ℕ
   after a z = listing (withRing (ringOf ring (a .index) (a .envelope)) (z .0), ook, z .1) (drop (used + 25) s ++ t)
 
-  pub steady-again : (k : Command) (steps : Bool) (a : StepArgs) (q : Steady) (n m : Lane) (y : List ℕ)
-      → 61 ≤ length s - used → k ≡ decoded (drop used s) → steps ≡ isStepOf k → a ≡ argsOf k → q ≡ steadyStep l a (length ook) (length fsk) → (steps && q .ok) ≡ true
-      → n ≡ steadiedLane l a q → _≡_ {A = Lane × List ℕ} (m, y) (slicedLane n a q fsk)
-      → after a (m, y) ≡ listing (withRing ring l, ook, fsk) (drop used s ++ t)
-  steady-again k steps a q n m y there dk ds da dq h dn dz =
-      let both : (steps ≡ true) × (q .ok ≡ true) = both-true steps (q .ok) h in
-      ap (after a) dz
-      ∙ ap (λ (x : Lane). after a (slicedLane x a q fsk)) dn
-      ∙ ap (λ (x : Steady). after a (slicedLane (steadiedLane l a x) a x fsk)) dq
-      ∙ ap (λ (x : StepArgs). after x (passedOf l x (length ook) fsk)) da
-      ∙ steady-turn k there dk (sym ds ∙ both .0)
-      (ap (λ (x : StepArgs). steadyStep l x (length ook) (length fsk) .ok) (sym da) ∙ ap (λ (x : Steady). x .ok) (sym dq) ∙ both .1)
+  pub steady-again : (a : StepArgs) (m : Lane) (y : List ℕ) → Took l ook fsk s used a m y → after a (m, y) ≡ listing (withRing ring l, ook, fsk) (drop used s ++ t)
+  steady-again a m y c =
+      let q : Steady = c .steady in
+      let both : (c .steps ≡ true) × (q .ok ≡ true) = both-true (c .steps) (q .ok) (c .holds) in
+      ap (after a) (c .is-sliced)
+      ∙ ap (λ (x : Lane). after a (slicedLane x a q fsk)) (c .is-changed)
+      ∙ ap (λ (x : Steady). after a (slicedLane (steadiedLane l a x) a x fsk)) (c .is-steady)
+      ∙ ap (λ (x : StepArgs). after x (passedOf l x (length ook) fsk)) (c .is-args)
+      ∙ steady-turn (c .command) (c .there) (c .is-command) (sym (c .is-steps) ∙ both .0)
+      (ap (λ (x : StepArgs). steadyStep l x (length ook) (length fsk) .ok) (sym (c .is-args)) ∙ ap (λ (x : Steady). x .ok) (sym (c .is-steady)) ∙ both .1)
+
+  -- and the command leads to that state
+  answers : (a : StepArgs) (m : Lane) (y : List ℕ) (c : Took l ook fsk s used a m y) → called p (c .command) ≡ steadyAnswer ring a ook (m, y)
+  unfolding called
+  answers a m y c =
+      let q : Steady = c .steady in
+      let both : (c .steps ≡ true) × (q .ok ≡ true) = both-true (c .steps) (q .ok) (c .holds) in
+      ap (called p) (is-step (c .command) (sym (c .is-steps) ∙ both .0))
+      ∙ ap (λ (x : StepArgs). called p (Step x)) (sym (c .is-args))
+      ∙ steady-steps l ring a ook fsk (ap (λ (x : Steady). x .ok) (sym (c .is-steady)) ∙ both .1)
+      ∙ ap (λ (x : Steady). steadyAnswer ring a ook (slicedLane (steadiedLane l a x) a x fsk)) (sym (c .is-steady))
+      ∙ ap (λ (x : Lane). steadyAnswer ring a ook (slicedLane x a q fsk)) (sym (c .is-changed))
+      ∙ ap (steadyAnswer ring a ook) (sym (c .is-sliced))
+
+  pub steady-leads : (o : State) (a : StepArgs) (m : Lane) (y : List ℕ) → Took l ook fsk s used a m y
+      → Turns o (s ++ t) used p → Turns o (s ++ t) (used + 25) (withRing (ringOf ring (a .index) (a .envelope)) m, ook, y)
+  steady-leads o a m y c before =
+      let found : c .command ≡ decoded (drop used (s ++ t)) = c .is-command ∙ sym (seen false s t used (c .inside) (c .there) (λ e. let z : _≡_ {A = Bool} false true = e in cc)) in
+      let size : sizeOf (decoded (drop used (s ++ t))) ≡ 25 = ap sizeOf (sym found ∙ is-step (c .command) (sym (c .is-steps) ∙ both-true (c .steps) (c .steady .ok) (c .holds) .0)) in
+      more before (λ e. omega (arith, size, e)) (ap (λ (i : ℕ). used + i) (sym size))
+      (ap next (sym (answers a m y c)) ∙ ap (λ (k : Command). next (called p k)) found)

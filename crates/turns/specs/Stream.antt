@@ -1,7 +1,7 @@
 -- What the listing program prints of a whole stream of bytes, and that block after block prints the same.
 use Prim.Native.Nat.{ℕ, zero, suc, _+_, _-_, _<_, _≤_}
 use mathlib.Core.Bool.{Bool, true, false, cond}
-use mathlib.Core.Path.{_≡_, refl, sym, _∙_, ap}
+use mathlib.Core.Path.{_≡_, refl, sym, _∙_, ap, subst}
 use mathlib.Core.Logic.{_⊎_}
 use mathlib.Core.List.{List, [], _++_, append-nil, append-assoc}
 use native.Mathlib.Omega.{arith}
@@ -11,6 +11,7 @@ use lib.Seq.{sets, sets-eq, take-at, drop-append-le, drop-drop}
 use lib.Dec.{eqb}
 use borrow.Author.Tests.{eqb-false, eq-eqb, ne-eqb}
 use Rattle.commands.specs.declared.Command.{Command}
+use Rattle.commands.specs.declared.Command.the-variants.{End, Open, Begin, Step, Unknown, Short}
 use Rattle.commands.specs.Command.{decoded, sizeOf}
 use Rattle.commands.specs.Stream.{size-fits, decoded-more}
 use Rattle.lines.specs.Line.{largerOf, hasRoom}
@@ -86,16 +87,41 @@ front last p s t m h =
     (sym (whole last s t m h))
     ∙ sym (unroll p (s ++ t))
 
+-- ---- what the commands lead to
+
+-- the commands in the first n bytes of a stream, one after another, lead from p to a state
+pub data Turns (p : State) (u : List ℕ) : ℕ → State → Type 0 where
+  none : Turns p u 0 p
+  more : {n m : ℕ} {q r : State} → Turns p u n q → (sizeOf (decoded (drop n u)) ≡ 0 → ⊥)
+      → m ≡ n + sizeOf (decoded (drop n u)) → r ≡ next (called q (decoded (drop n u))) → Turns p u m r
+
+-- a command is decoded at a place of the part as at that of the whole
+pub seen : (last : Bool) (s t : List ℕ) (used : ℕ) → used ≤ length s → leastOf last ≤ length s - used → May last t
+    → decoded (drop used (s ++ t)) ≡ decoded (drop used s)
+seen last s t used inside there may =
+    ap decoded (drop-append-le used s t inside) ∙ whole last (drop used s) t may (omega (arith, there, length-drop used s))
+
+-- bytes that are no command change nothing
+no-command : (p : State) (k : Command) → sizeOf k ≡ 0 → next (called p k) ≡ p
+unfolding called
+no-command p End h = refl
+no-command p (Open s) h = absurd (omega (arith, h))
+no-command p (Begin b) h = absurd (omega (arith, h))
+no-command p (Step s) h = absurd (omega (arith, h))
+no-command p Unknown h = refl
+no-command p Short h = refl
+
 -- ---- a block of the stream
 
 -- what the turns of a block say: whatever comes after it, the lines printed and those of what is left are the lines of
--- the whole; and they stop only where the stream has ended, fewer bytes are left than are waited for, or the text has no
+-- the whole; the commands of the bytes used lead to the state that is left; and they stop only where the stream has ended, fewer bytes are left than are waited for, or the text has no
 -- room for another call
 pub record Streamed (p : State) (s : List ℕ) (last : Bool) (r : Ran) (q : State) (y : List ℕ) : Type 0 where
   pub inside : r .used ≤ length s
   pub room : r .at ≤ length y
   pub printed : (t : List ℕ) → May last t
       → take (r .at) y ++ cond (r .ended) [] (listing q (drop (r .used) s ++ t)) ≡ listing p (s ++ t)
+  pub left : (t : List ℕ) → May last t → Turns p (s ++ t) (r .used) q
   pub stopped : (r .ended ≡ true) ⊎ ((length s - r .used < leastOf last) ⊎ (hasRoom (largerOf (length (p .1)) (length (p .2))) (length y) (r .at) ≡ false))
 
 -- ---- one turn of a block
@@ -135,6 +161,23 @@ module _ (last : Bool) (p₀ p : State) (s x : List ℕ) (least used at : ℕ) (
       ∙ ap (λ (b : Bool). take (z .0 .at) (z .3) ++ cond b [] (listing (z .0 .lane, z .1, z .2) (drop (z .0 .size) (drop used s) ++ t)))
       (sym (ne-eqb (z .0 .size) 0 n))
       ∙ step t may ∙ h
+
+  -- the command that the turn takes, and the state after it
+  next-is : (z .0 .lane, z .1, z .2) ≡ next (called p (decoded (drop used s)))
+  unfolding turned
+  next-is = ap (λ (y : Turned × List ℕ × List ℕ × List ℕ). (y .0 .lane, y .1, y .2)) (turn .meets)
+
+  size-is : z .0 .size ≡ sizeOf (decoded (drop used s))
+  unfolding turned
+  size-is = ap (λ (y : Turned × List ℕ × List ℕ × List ℕ). y .0 .size) (turn .meets)
+
+  pub leads : (z .0 .size ≡ 0 → ⊥) → (t : List ℕ) → May last t → Turns p₀ (s ++ t) used p → Turns p₀ (s ++ t) (used + z .0 .size) (z .0 .lane, z .1, z .2)
+  leads n t may h =
+      let k = seen last s t used inside (omega (arith, waits, there)) may in
+      more h (λ e. n (size-is ∙ ap sizeOf (sym k) ∙ e)) (ap (λ (m : ℕ). used + m) (size-is ∙ ap sizeOf (sym k))) (next-is ∙ ap (λ (c : Command). next (called p c)) (sym k))
+
+  pub leads-nowhere : z .0 .size ≡ 0 → (t : List ℕ) → Turns p₀ (s ++ t) used p → Turns p₀ (s ++ t) used (z .0 .lane, z .1, z .2)
+  leads-nowhere n t h = subst (Turns p₀ (s ++ t) used) (sym (next-is ∙ no-command p (decoded (drop used s)) (sym size-is ∙ n))) h
 
   -- the stream ends
   pub ends : z .0 .size ≡ 0 → (t : List ℕ) → May last t

@@ -10,7 +10,7 @@ use mathlib.Core.List.{List, _++_}
 use native.Mathlib.Omega.{arith}
 use lib.ListN.{length, take, drop}
 use borrow.Author.Needs.{needs}
-use Rattle.turns.specs.Stream.{May, listing, again, ends, stays}
+use Rattle.turns.specs.Stream.{May, listing, Turns, none, again, leads, leads-nowhere, ends, stays}
 use Rattle.turns.proofs.block.Statement.{statement}
 use Rattle.turns.proofs.block.Tie as tie
 
@@ -19,6 +19,7 @@ Inv-loop s last ook₀ fsk₀ text₀ least most l₀ used₀ at₀ ended₀ ook
     (used ≤ length s) × (at ≤ length text) × (length text ≡ length text₀) × (length ook ≡ length ook₀) × (length fsk ≡ length fsk₀)
     × (ended ≡ false)
     × ((t : List ℕ) → May last t → take at text ++ listing (l, ook, fsk) (drop used s ++ t) ≡ listing (l₀, ook₀, fsk₀) (s ++ t))
+    × ((t : List ℕ) → May last t → Turns (l₀, ook₀, fsk₀) (s ++ t) used (l, ook, fsk))
 
 abbrev μ-loop : tie.MeasureT-loop
 μ-loop s last ook₀ fsk₀ text₀ least most l₀ used₀ at₀ ended₀ ook fsk text l used at ended = length s - used
@@ -30,7 +31,7 @@ larger-requires : tie.Need-larger-requires Inv-loop μ-loop
 larger-requires c κs = search needs
 
 loop-holds : tie.Need-loop-holds Inv-loop μ-loop
-loop-holds c = (search needs, search needs, refl, refl, refl, refl, λ t may. refl)
+loop-holds c = (search needs, search needs, refl, refl, refl, refl, λ t may. refl, λ t may. none)
 
 sub-loop : tie.Need-sub-loop Inv-loop μ-loop
 sub-loop c = search needs
@@ -70,6 +71,9 @@ loop-again c =
       v .inv .5,
       λ t may. again (a .last) _ _ (a .s .now) (v .text) _ (v .used) (v .at) _ (c .before .before .before .before .before .before .before .before .before .before .before .before .before .before .before .before .before .before .before .before .before .before .before .before .before .least-of .ensures) (v .inv .0)
           (c .before .before .before .before .before .before .before .before .before .before .before .before .before .before .before .before .before .before .before .before .before .before .loop-test .taken) (turn .ensures) (c .before .before .before .before .before .before .before .if2 .left) t _ may (steady .ensures .same t) (v .inv .6 t may),
+      λ t may. steady .ensures .left _ t
+          (leads (a .last) _ _ (a .s .now) (v .text) _ (v .used) (v .at) _ (c .before .before .before .before .before .before .before .before .before .before .before .before .before .before .before .before .before .before .before .before .before .before .before .before .before .least-of .ensures) (v .inv .0)
+          (c .before .before .before .before .before .before .before .before .before .before .before .before .before .before .before .before .before .before .before .before .before .before .loop-test .taken) (turn .ensures) (c .before .before .before .before .before .before .before .if2 .left) t may (v .inv .7 t may)),
     )
 
 same-length : tie.Need-same-length Inv-loop μ-loop
@@ -89,6 +93,7 @@ returns c =
       inside = v .inv .0;
       room = v .inv .1;
       printed = λ t may. stays (v .ended) (take (v .at) (v .text)) (listing (v .l, v .ook, v .fsk) (drop (v .used) (a .s .now) ++ t)) _ (v .inv .5) (v .inv .6 t may);
+      left = v .inv .7;
       stopped = inr (inl (omega (arith, c .before .before .before .least-of .ensures)));
     }
 
@@ -109,6 +114,7 @@ returns-2 c =
       inside = v .inv .0;
       room = v .inv .1;
       printed = λ t may. stays (v .ended) (take (v .at) (v .text)) (listing (v .l, v .ook, v .fsk) (drop (v .used) (a .s .now) ++ t)) _ (v .inv .5) (v .inv .6 t may);
+      left = v .inv .7;
       stopped = inr (inr
           (ap (λ (n : ℕ). hasRoom n (length (v .text)) (v .at)) (sym (c .before .before .before .before .larger .ensures))
           ∙ sym (c .before .has-room .ensures) ∙ not-true _ (c .if1 .taken)));
@@ -132,6 +138,8 @@ returns-3 c =
       room = omega (arith, c .before .before .before .before .before .before .before .before .before .turn .ensures .near);
       printed = λ t may. ends (a .last) _ _ (a .s .now) (v .text) _ (v .used) (v .at) _ (c .before .before .before .before .before .before .before .before .before .before .before .before .before .before .before .before .before .before .least-of .ensures) (v .inv .0)
           (c .before .before .before .before .before .before .before .before .before .before .before .before .before .before .before .loop-test .taken) (c .before .before .before .before .before .before .before .before .before .turn .ensures) (c .if2 .taken) t may (v .inv .6 t may);
+      left = λ t may. leads-nowhere (a .last) _ _ (a .s .now) (v .text) _ (v .used) (v .at) _ (c .before .before .before .before .before .before .before .before .before .before .before .before .before .before .before .before .before .before .least-of .ensures) (v .inv .0)
+          (c .before .before .before .before .before .before .before .before .before .before .before .before .before .before .before .loop-test .taken) (c .before .before .before .before .before .before .before .before .before .turn .ensures) (c .if2 .taken) t (v .inv .7 t may);
       stopped = inl refl;
     }
 

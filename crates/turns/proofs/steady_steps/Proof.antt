@@ -7,8 +7,9 @@ use lib.ListN.{length, drop}
 use borrow.Author.Tests.{not-true, not-false}
 use borrow.Author.Needs.{needs}
 use Rattle.lane.specs.Steady.{withRing, sliced-off}
-use Rattle.turns.specs.Stream.{listing}
-use Rattle.turns.specs.Steady.{steady-again}
+use Rattle.turns.specs.Turn.{State}
+use Rattle.turns.specs.Stream.{listing, Turns}
+use Rattle.turns.specs.Steady.{Took, steady-again, steady-leads}
 use Rattle.turns.proofs.steady_steps.Statement.{statement}
 use Rattle.turns.proofs.steady_steps.Tie as tie
 
@@ -16,12 +17,13 @@ abbrev Inv-loop : tie.InvT-loop
 Inv-loop s from ook fsk₀ l₀ ring₀ used₀ fsk l ring used =
     (used₀ ≤ used) × (used ≤ length s) × (length fsk ≡ length fsk₀)
     × ((t : List ℕ) → listing (withRing ring l, ook, fsk) (drop used s ++ t) ≡ listing (withRing ring₀ l₀, ook, fsk₀) (drop used₀ s ++ t))
+    × ((o : State) (t : List ℕ) → Turns o (s ++ t) used₀ (withRing ring₀ l₀, ook, fsk₀) → Turns o (s ++ t) used (withRing ring l, ook, fsk))
 
 abbrev μ-loop : tie.MeasureT-loop
 μ-loop s from ook fsk₀ l₀ ring₀ used₀ fsk l ring used = length s - used
 
 loop-holds : tie.Need-loop-holds Inv-loop μ-loop
-loop-holds c = (omega arith, c .before .before .before .before .pre, refl, λ t. refl)
+loop-holds c = (omega arith, c .before .before .before .before .pre, refl, λ t. refl, λ o t h. h)
 
 sub-loop : tie.Need-sub-loop Inv-loop μ-loop
 sub-loop c = search needs
@@ -56,15 +58,28 @@ loop-less c = search needs
 loop-again : tie.Need-loop-again Inv-loop μ-loop
 loop-again c =
     let v = c .before .before .before .before .before .before .before .before .before .before .loop in
-    let a = c .before .before .before .before .before .before .before .before .before .before .before .before .before .before .before .args in (
+    let a = c .before .before .before .before .before .before .before .before .before .before .before .before .before .before .before .args in
+    let took : Took (v .l) (a .ook .now) (v .fsk) (a .s .now) (v .used) _ _ _ =
+    record {
+      command = c .before .before .before .before .before .before .before .before .decode-at .result;
+      steps = c .before .before .before .before .before .before .before .is-step .result;
+      steady = c .before .before .before .before .before .steady-step .result;
+      changed = c .before .steadied-lane .result;
+      inside = v .inv .1;
+      there = c .before .before .before .before .before .before .before .before .before .loop-test .taken;
+      is-command = c .before .before .before .before .before .before .before .before .decode-at .ensures;
+      is-steps = c .before .before .before .before .before .before .before .is-step .ensures;
+      is-args = c .before .before .before .before .before .before .args-of .ensures;
+      is-steady = c .before .before .before .before .before .steady-step .ensures;
+      holds = not-false _ (c .before .before .before .if1 .left);
+      is-changed = c .before .steadied-lane .ensures;
+      is-sliced = sym (sliced-off _ _ _ (v .fsk) (not-true _ (c .if2 .taken)));
+    } in (
       omega (arith, v .inv .0),
-      omega (arith, c .before .before .before .before .before .before .before .before .before .loop-test .taken),
+      omega (arith, took .there),
       v .inv .2,
-      λ t. steady-again (v .l) (v .ring) (a .ook .now) (v .fsk) (a .s .now) t (v .used) _ _ _ _ _ _ _
-          (c .before .before .before .before .before .before .before .before .before .loop-test .taken) (c .before .before .before .before .before .before .before .before .decode-at .ensures) (c .before .before .before .before .before .before .before .is-step .ensures) (c .before .before .before .before .before .before .args-of .ensures)
-          (c .before .before .before .before .before .steady-step .ensures) (not-false _ (c .before .before .before .if1 .left)) (c .before .steadied-lane .ensures)
-          (sym (sliced-off _ _ _ (v .fsk) (not-true _ (c .if2 .taken))))
-          ∙ v .inv .3 t,
+      λ t. steady-again (v .l) (v .ring) (a .ook .now) (v .fsk) (a .s .now) t (v .used) _ _ _ took ∙ v .inv .3 t,
+      λ o t h. steady-leads (v .l) (v .ring) (a .ook .now) (v .fsk) (a .s .now) t (v .used) o _ _ _ took (v .inv .4 o t h),
     )
 
 sliced-lane-requires : tie.Need-sliced-lane-requires Inv-loop μ-loop
@@ -76,22 +91,35 @@ loop-less-2 c = omega (arith, c .before .before .before .before .before .before 
 loop-again-2 : tie.Need-loop-again-2 Inv-loop μ-loop
 loop-again-2 c =
     let v = c .before .before .before .before .before .before .before .before .before .before .before .before .before .before .loop in
-    let a = c .before .before .before .before .before .before .before .before .before .before .before .before .before .before .before .before .before .before .before .args in (
+    let a = c .before .before .before .before .before .before .before .before .before .before .before .before .before .before .before .before .before .before .before .args in
+    let took : Took (v .l) (a .ook .now) (v .fsk) (a .s .now) (v .used) _ _ _ =
+    record {
+      command = c .before .before .before .before .before .before .before .before .before .before .before .before .decode-at .result;
+      steps = c .before .before .before .before .before .before .before .before .before .before .before .is-step .result;
+      steady = c .before .before .before .before .before .before .before .before .before .steady-step .result;
+      changed = c .before .before .before .before .before .steadied-lane .result;
+      inside = v .inv .1;
+      there = c .before .before .before .before .before .before .before .before .before .before .before .before .before .loop-test .taken;
+      is-command = c .before .before .before .before .before .before .before .before .before .before .before .before .decode-at .ensures;
+      is-steps = c .before .before .before .before .before .before .before .before .before .before .before .is-step .ensures;
+      is-args = c .before .before .before .before .before .before .before .before .before .before .args-of .ensures;
+      is-steady = c .before .before .before .before .before .before .before .before .before .steady-step .ensures;
+      holds = not-false _ (c .before .before .before .before .before .before .before .if1 .left);
+      is-changed = c .before .before .before .before .before .steadied-lane .ensures;
+      is-sliced = c .before .before .sliced-lane .ensures;
+    } in (
       omega (arith, v .inv .0),
-      omega (arith, c .before .before .before .before .before .before .before .before .before .before .before .before .before .loop-test .taken),
+      omega (arith, took .there),
       omega (arith, v .inv .2, c .before .before .sliced-lane .kept),
-      λ t. steady-again (v .l) (v .ring) (a .ook .now) (v .fsk) (a .s .now) t (v .used) _ _ _ _ _ _ _
-          (c .before .before .before .before .before .before .before .before .before .before .before .before .before .loop-test .taken) (c .before .before .before .before .before .before .before .before .before .before .before .before .decode-at .ensures) (c .before .before .before .before .before .before .before .before .before .before .before .is-step .ensures) (c .before .before .before .before .before .before .before .before .before .before .args-of .ensures)
-          (c .before .before .before .before .before .before .before .before .before .steady-step .ensures) (not-false _ (c .before .before .before .before .before .before .before .if1 .left)) (c .before .before .before .before .before .steadied-lane .ensures)
-          (c .before .before .sliced-lane .ensures)
-          ∙ v .inv .3 t,
+      λ t. steady-again (v .l) (v .ring) (a .ook .now) (v .fsk) (a .s .now) t (v .used) _ _ _ took ∙ v .inv .3 t,
+      λ o t h. steady-leads (v .l) (v .ring) (a .ook .now) (v .fsk) (a .s .now) t (v .used) o _ _ _ took (v .inv .4 o t h),
     )
 
 same-length : tie.Need-same-length Inv-loop μ-loop
 same-length c = search needs
 
 returns : tie.Need-returns Inv-loop μ-loop
-returns c = record { onward = c .before .loop .inv .0; inside = c .before .loop .inv .1; same = c .before .loop .inv .3 }
+returns c = record { onward = c .before .loop .inv .0; inside = c .before .loop .inv .1; left = c .before .loop .inv .4; same = c .before .loop .inv .3 }
 
 pub steady-steps-spec : {M : Type 1} → statement M
 steady-steps-spec =
