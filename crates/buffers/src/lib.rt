@@ -1,9 +1,8 @@
 // The pulse buffers as a list of commands leaves them, for comparison with another program's. Tests
 // link this crate, and nothing else does.
 ghost use mathlib.Core.Path.{_≡_};
-ghost use Prim.Native.Nat.{_≤_};
-ghost use lib.ListN.{length};
 ghost use Rattle.turns.specs.Turn.{Called, called};
+ghost use Rattle.buffers.specs.Left.{Left};
 use commands::Command;
 use lane::Answer;
 use lane::Lane;
@@ -17,7 +16,7 @@ pub extern "C" fn lane_buffers(
     fsk: &mut [u32],
     text: &mut [u8],
 ) -> usize
-    ensures { λ r. ⌜ r ≤ length (now (commands .entry)) ⌝ }
+    ensures { λ r. ⌜ Left (now (commands .entry)) r (now (ook .entry)) (now (fsk .entry)) (now (ook .exit)) (now (fsk .exit)) ⌝ }
 {
     let l = lane::new_lane();
     let r = turns::block(l, commands, true, ook, fsk, text);
@@ -37,7 +36,7 @@ fn call(l: Lane, k: Command, ook: &mut [u32], fsk: &mut [u32]) -> Answer
 // As `lane_buffers`, with no lines, and each step by the entry that is lent the lane.
 #[no_mangle]
 pub extern "C" fn lane_buffers_lent(commands: &[u8], ook: &mut [u32], fsk: &mut [u32]) -> usize
-    ensures { λ r. ⌜ r ≤ length (now (commands .entry)) ⌝ }
+    ensures { λ r. ⌜ Left (now (commands .entry)) r (now (ook .entry)) (now (fsk .entry)) (now (ook .exit)) (now (fsk .exit)) ⌝ }
 {
     let mut l = lane::new_lane();
     let mut used = 0;

@@ -38,3 +38,8 @@ blocks-print {p} (more {q = q} {s = s} {t = t} {y = y} {r = r} du may block on r
     dw ∙ ap (λ (v : List ℕ). take (r .at) y ++ v) (blocks-print rest)
     ∙ ap (λ (b : Bool). take (r .at) y ++ cond b [] (listing q (drop (r .used) s ++ t))) (sym on)
     ∙ block .printed t may ∙ ap (listing p) (sym du)
+
+-- so do the program's
+pub program-prints : {u w : List ℕ} → Blocks (newLane, replicate 4096 0, replicate 4096 0) u w → w ≡ listingOf u
+unfolding listingOf
+program-prints b = blocks-print b

@@ -59,7 +59,7 @@ stepsWith i (e ∷ es) = 3 ∷ (words (i ∷ 0 ∷ 0 ∷ e ∷ float1 ∷ 0 ∷ 
 abbrev pub burstWith : ℕ → List ℕ → List ℕ
 burstWith e es = openWith 4 ++ (beginWith e ++ stepsWith 11 es)
 
--- what is printed of commands, with buffers for four pairs each
+-- what is printed of commands, with the program's buffers
 unfoldable pub printed : List ℕ → List ℕ
 unfolding listed listing called answerText decoded settingsOf beginArgsOf stepArgsOf historyBytes u32At u64At callText recordLine trainLine widths span idleLine carrierLine refusedLine decimal leading hex8 snapOf nearStartOf roundOf narrowOf wholeRoot roundExact exactOf sqrtOf absOf midpointOf flushOf crossOf nearestIn satAddOf inc refineLevelOf refineLoOf excessOf splitFrom refineInOf refineOf lengthenOf rejoinOf beginRunOf beginsOf advanceRunOf zeroIf pacRunOf beginEnvOf pushPulseOf closeGapOf emptyTrainOf finishOf endTrainOf pulseDoneOf gapRatioExceededOf dueOf confirmIf riseOf fallOf confirmOf actOf thresholdOf onOf refineDueOf highOf pacOf seeOf carrierOf goneOf hasPulsesOf gapOverOf waitOf tailOf leadAddOf largestFrom beginBurstOf leadAtOf replayFrom replayOf leadFullOf snapIfOf lastOf restOf sampleOf settingsOk firstFailed frameOk burstOk leadOk candOk settleOf fillOf replayStep leadStep burstStep advanceOf replyOf phaseOf historyOf beginLeadOf clearedOf leadLane noBurst idleLane front partOf openedOk laneOk historyOk beginFloatsOk stepFloatsOk followsOf beginRefusal stepRefusal newLane opened begun stepped add sub mul div neg lt le eq ofBits toBits ofInt toUnsigned isNan
-printed commands = listing (newLane, replicate 8 0, replicate 8 0) commands
+printed commands = listing (newLane, replicate 4096 0, replicate 4096 0) commands

@@ -1,3 +1,4 @@
+-- `buffers::lane_buffers_lent` meets its contract: each turn is one command more. Assumes nothing.
 use Prim.Native.Nat.{ℕ, _+_, _-_, _≤_}
 use mathlib.Core.Path.{_≡_, refl, ap, _∙_}
 use mathlib.Core.List.{List}
@@ -6,6 +7,8 @@ use lib.ListN.{length, drop, length-drop}
 use Rattle.commands.specs.declared.Command.{Command}
 use Rattle.commands.specs.Command.{decoded, sizeOf}
 use Rattle.commands.specs.Stream.{size-fits}
+use Rattle.turns.specs.Stream.{Turns, none}
+use Rattle.buffers.specs.Left.{left, one-more}
 use borrow.Author.Needs.{needs}
 use Rattle.buffers.proofs.lane_buffers_lent.Statement.{statement}
 use Rattle.buffers.proofs.lane_buffers_lent.Tie as tie
@@ -15,7 +18,7 @@ inside : (s : List ℕ) (at : ℕ) (k : Command) (size : ℕ) → k ≡ decoded 
 inside s at k size dk ds h = omega (arith, ds ∙ ap sizeOf dk, size-fits (drop at s), length-drop at s, h)
 
 abbrev Inv-loop : tie.InvT-loop
-Inv-loop commands ook₀ fsk₀ l₀ used₀ ook fsk l used = (used ≤ length commands) × (length ook ≡ length ook₀) × (length fsk ≡ length fsk₀)
+Inv-loop commands ook₀ fsk₀ l₀ used₀ ook fsk l used = (used ≤ length commands) × (length ook ≡ length ook₀) × (length fsk ≡ length fsk₀) × Turns (l₀, ook₀, fsk₀) commands used (l, ook, fsk)
 
 abbrev μ-loop : tie.MeasureT-loop
 μ-loop commands ook₀ fsk₀ l₀ used₀ ook fsk l used = length commands - used
@@ -24,7 +27,7 @@ new-lane-requires : tie.Need-new-lane-requires Inv-loop μ-loop
 new-lane-requires c κs = search needs
 
 loop-holds : tie.Need-loop-holds Inv-loop μ-loop
-loop-holds c = (search needs, refl, refl)
+loop-holds c = (search needs, refl, refl, none)
 
 decode-at-requires : tie.Need-decode-at-requires Inv-loop μ-loop
 decode-at-requires c κs = search needs
@@ -42,7 +45,12 @@ loop-less : tie.Need-loop-less Inv-loop μ-loop
 loop-less c = omega (arith, inside (c .before .before .before .before .before .before .before .before .before .before .before .before .before .before .before .before .before .args .commands .now) _ _ _ (c .before .before .before .before .before .before .before .before .before .before .decode-at .ensures) (c .before .before .before .before .before .before .before .before .before .size-of .ensures) (c .before .before .before .before .before .before .before .before .before .before .before .before .loop .inv .0))
 
 loop-again : tie.Need-loop-again Inv-loop μ-loop
-loop-again c = (inside (c .before .before .before .before .before .before .before .before .before .before .before .before .before .before .before .before .before .args .commands .now) _ _ _ (c .before .before .before .before .before .before .before .before .before .before .decode-at .ensures) (c .before .before .before .before .before .before .before .before .before .size-of .ensures) (c .before .before .before .before .before .before .before .before .before .before .before .before .loop .inv .0), omega arith, omega arith)
+loop-again c = (
+  inside (c .before .before .before .before .before .before .before .before .before .before .before .before .before .before .before .before .before .args .commands .now) _ _ _ (c .before .before .before .before .before .before .before .before .before .before .decode-at .ensures) (c .before .before .before .before .before .before .before .before .before .size-of .ensures) (c .before .before .before .before .before .before .before .before .before .before .before .before .loop .inv .0),
+  omega arith,
+  omega arith,
+  one-more _ _ (c .before .before .before .before .before .before .before .before .before .before .before .before .before .before .before .before .before .args .commands .now) (c .before .before .before .before .before .before .before .before .before .before .before .before .loop .used) _ _ _ (c .before .before .before .before .before .before .before .before .before .before .before .before .loop .inv .3) (c .before .before .before .before .before .before .before .before .before .before .decode-at .ensures) (c .before .before .before .before .before .before .before .before .before .size-of .ensures) (c .before .before .before .before .before .before .before .before .if1 .left) (c .before .before .before .before .before .call .ensures),
+)
 
 same-length : tie.Need-same-length Inv-loop μ-loop
 same-length c = search needs
@@ -51,7 +59,9 @@ same-length-2 : tie.Need-same-length-2 Inv-loop μ-loop
 same-length-2 c = search needs
 
 returns : tie.Need-returns Inv-loop μ-loop
-returns c = search needs
+returns c =
+    let v = c .before .loop in
+    left _ _ _ _ _ _ _ _ (c .before .before .new-lane .ensures) (v .inv .0) (v .inv .3)
 
 same-length-3 : tie.Need-same-length-3 Inv-loop μ-loop
 same-length-3 c = search needs
@@ -60,7 +70,9 @@ same-length-4 : tie.Need-same-length-4 Inv-loop μ-loop
 same-length-4 c = search needs
 
 returns-2 : tie.Need-returns-2 Inv-loop μ-loop
-returns-2 c = search needs
+returns-2 c =
+    let v = c .before .before .before .before .loop in
+    left _ _ _ _ _ _ _ _ (c .before .before .before .before .before .new-lane .ensures) (v .inv .0) (v .inv .3)
 
 pub lane-buffers-lent-spec : {M : Type 1} → statement M
 lane-buffers-lent-spec =
