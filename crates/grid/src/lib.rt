@@ -4,13 +4,13 @@
 ghost use mathlib.Core.Path.{_≡_};
 ghost use mathlib.Core.Bool.{true, cond, _&&_};
 ghost use Prim.Native.Nat.{_+_, _<_, _≤_};
-ghost use lib.ListN.{length, getD};
+ghost use lib.ListN.{length};
 ghost use lib.Dec.{ltb, eqb};
 ghost use lib.Ieee.{binary64, toBits};
 ghost use Rattle.arith.specs.Leaves.{zero64};
-ghost use Rattle.grid.specs.Slots.{timeOf, slotBefore, lastRise, upTo, fold, turned};
-ghost use Rattle.grid.specs.Fit.{symbolsOf, kAfter, fitStep, noSums, sumsOf, lineWith, lineOf, fitOf, runAfter, checkStep, checkOf, secondOf, gridFitOf};
-ghost use Rattle.grid.specs.Widths.{gridCand, shorterOf, runsStep, noRuns, runsOf, addedOf, meanAfter, meanStep, meanOf, betterOf, triedOf, tryAfter, tryStep, searchOf, gridOf, endOf, clockOf, placeOf, atStart, onGridOf, measuredOf, fskWidthsOf};
+ghost use Rattle.grid.specs.Slots.{timeOf, slotBefore, lastRise, upTo, turned};
+ghost use Rattle.grid.specs.Fit.{symbolsOf, kAfter, fitStep, sumsOf, lineWith, lineOf, fitOf, runAfter, checkStep, checkOf, secondOf, gridFitOf};
+ghost use Rattle.grid.specs.Widths.{gridCand, shorterOf, runsStep, runsOf, addedOf, meanAfter, meanStep, meanOf, betterOf, triedOf, tryAfter, tryStep, searchOf, gridOf, endOf, clockOf, placeOf, atStart, onGridOf, measuredOf, fskWidthsOf};
 
 // The resolution of the run ends kept during an FSK frame: 1 / RUN_FIX steps.
 const RUN_FIX: f64 = 64.0;

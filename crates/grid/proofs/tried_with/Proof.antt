@@ -5,15 +5,6 @@ use borrow.Author.Needs.{needs}
 use Rattle.grid.proofs.tried_with.Statement.{statement}
 use Rattle.grid.proofs.tried_with.Tie as tie
 
-grid-fit-requires : tie.Need-grid-fit-requires
-grid-fit-requires c κs = search needs
-
-better-requires : tie.Need-better-requires
-better-requires c κs = search needs
-
-add-next : tie.Need-add-next
-add-next c = search needs
-
 returns : tie.Need-returns
 unfolding triedOf
 returns c = simp (c .before .before .before .if1 .taken, lt-ltb _ _ (c .before .before .if2 .taken), ← c .before .grid-fit .ensures, ← c .better .ensures)
@@ -28,4 +19,4 @@ returns-3 c = simp (c .if1 .left)
 
 pub tried-with-spec : {M : Type 1} → statement M
 tried-with-spec =
-    tie.close (tie.spec grid-fit-requires better-requires add-next returns returns-2 returns-3)
+    tie.close (tie.spec (λ c κs. search needs) (search needs) (search needs) returns returns-2 returns-3)

@@ -4,18 +4,6 @@ use borrow.Author.Needs.{needs}
 use Rattle.grid.proofs.try_after.Statement.{statement}
 use Rattle.grid.proofs.try_after.Tie as tie
 
-enum-known-prev : tie.Need-enum-known-prev
-enum-known-prev c = search needs
-
-tried-with-requires : tie.Need-tried-with-requires
-tried-with-requires c κs = search needs
-
-enum-told : tie.Need-enum-told
-enum-told c = search needs
-
-tried-with-requires-2 : tie.Need-tried-with-requires-2
-tried-with-requires-2 c κs = search needs
-
 returns : tie.Need-returns
 returns c = try-at _ _ _ _ _ _ _ (c .before .before .prev .given .1) (c .tried-with .ensures)
 
@@ -24,11 +12,4 @@ returns-2 c = try-unset _ _ _ _ _ _ (c .before .enum-told .given .1) (c .tried-w
 
 pub try-after-spec : {M : Type 1} → statement M
 try-after-spec =
-    tie.close
-    (tie.spec
-    enum-known-prev
-    tried-with-requires
-    enum-told
-    tried-with-requires-2
-    returns
-    returns-2)
+    tie.close (tie.spec (search needs) (λ c κs. search needs) (search needs) (λ c κs. search needs) returns returns-2)
