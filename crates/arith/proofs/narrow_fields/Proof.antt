@@ -18,15 +18,6 @@ returns-2 c =
     let s = c .before .before in
     (λ b. mag-over b (s .args .e) (s .args .t) (c .if2 .taken) (s .pre .0) (s .pre .1) (s .pre .2), omega arith)
 
-add-d : tie.Need-add-d
-add-d c = search needs
-
-sub-power : tie.Need-sub-power
-sub-power c = search needs
-
-power-requires : tie.Need-power-requires
-power-requires c κs = search needs
-
 closest-div-requires : tie.Need-closest-div-requires
 closest-div-requires c κs = (omega arith, subst (λ (x : ℕ). 0 < x) (sym (c .power .ensures)) (pow-pos (926 - c .before .before .before .before .args .e)))
 
@@ -35,12 +26,6 @@ cast-result c =
     let s = c .before .before .before .before .before in
     let r = low-result (s .args .e) (s .args .t) (c .before .power .result) (c .closest-div .result) (c .before .before .before .before .if1 .left) (c .before .before .if3 .taken) (s .pre .1) (c .before .power .ensures) (c .closest-div .ensures) in
     record { fits = omega (arith, r .1) }
-
-mul-result : tie.Need-mul-result
-mul-result c = search needs
-
-closest-div-requires-2 : tie.Need-closest-div-requires-2
-closest-div-requires-2 c κs = search needs
 
 add-result : tie.Need-add-result
 add-result c =
@@ -69,17 +54,5 @@ returns-4 c =
 pub narrow-fields-spec : {M : Type 1} → statement M
 narrow-fields-spec =
     tie.close
-    (tie.spec
-    returns
-    returns-2
-    add-d
-    sub-power
-    power-requires
-    closest-div-requires
-    cast-result
-    mul-result
-    closest-div-requires-2
-    add-result
-    cast-result-2
-    returns-3
-    returns-4)
+    (tie.spec returns returns-2 (search needs) (search needs) (search needs) closest-div-requires cast-result (search needs) (search needs)
+    add-result cast-result-2 returns-3 returns-4)

@@ -14,18 +14,6 @@ returns c =
     let s = c .before in
     (λ b. whole-none b (s .args .e) (s .args .t) (c .if1 .taken) (s .pre .1), omega arith)
 
-sub-power : tie.Need-sub-power
-sub-power c = search needs
-
-power-requires : tie.Need-power-requires
-power-requires c κs = search needs
-
-add-result : tie.Need-add-result
-add-result c = search needs
-
-mul-result : tie.Need-mul-result
-mul-result c = search needs
-
 add-result-2 : tie.Need-add-result-2
 add-result-2 c =
     let s = c .before .before in
@@ -54,14 +42,4 @@ returns-2 c =
 
 pub whole-fields-spec : {M : Type 1} → statement M
 whole-fields-spec =
-    tie.close
-    (tie.spec
-    returns
-    sub-power
-    power-requires
-    add-result
-    mul-result
-    add-result-2
-    mul-result-2
-    div-result
-    returns-2)
+    tie.close (tie.spec returns (search needs) (search needs) (search needs) (search needs) add-result-2 mul-result-2 div-result returns-2)
