@@ -1,17 +1,17 @@
 -- A sample of a burst, and the burst's beginning, stay within refusal 4's limits: from a burst under way each sample leads to one, or the burst ends.
 use Prim.Native.Nat.{ℕ, zero, suc, _+_, _*_, _-_, _^_, _<_, _≤_}
-use mathlib.Core.Bool.{Bool, true, false, cond}
+use mathlib.Core.Bool.{Bool, true, false}
 use mathlib.Core.Path.{_≡_, refl}
 use mathlib.Core.List.{List}
 use native.Mathlib.Omega.{arith}
 use lib.Dec.{eqb}
 use lib.Ieee.{Float}
-use Rattle.ook.specs.Answers.{nextNumberOf, isStayOf}
+use Rattle.ook.specs.Answers.{isStayOf}
 use Rattle.ook.specs.Params.{fskMinOf}
 use Rattle.ook.specs.Limits.{either, EnvWithin, TrainWithin, OutWithin, empty-within, begin-env-within}
 use Rattle.ook.specs.declared.Settings.{Settings}
 use Rattle.fsk.specs.declared.Frame.{Frame}
-use Rattle.presence.specs.Presence.{snapOf, presenceOf}
+use Rattle.presence.specs.Presence.{presenceOf}
 use Rattle.presence.specs.declared.Pres.{Pres}
 use Rattle.presence.specs.declared.Snapped.{Snapped}
 use Rattle.presence.specs.declared.Present.{Present}
@@ -23,14 +23,13 @@ use Rattle.stages.specs.declared.At.{At}
 use Rattle.stages.specs.declared.Seen.{Seen}
 use Rattle.stages.specs.declared.Acted.{Acted}
 use Rattle.burst.specs.Makers.{withActed, bodyIn, withBody}
-use Rattle.burst.specs.Sample.{snapIfOf, absenceOf, inputsOf, lastOf, presentBy, presentOf, restOf, actedBy, seenBy, sampleOf}
-use Rattle.burst.specs.Lead.{beginBurstOf, leadAtOf, onward, replayFrom, staying}
+use Rattle.burst.specs.Sample.{snapIfOf, absenceOf, inputsOf, lastOf, presentBy, presentOf, restOf, actedBy, sampleOf}
+use Rattle.burst.specs.Lead.{beginBurstOf, leadAtOf, onward, replayFrom}
 use Rattle.burst.specs.declared.Burst.{Burst}
 use Rattle.burst.specs.declared.Lead.{Lead}
 use Rattle.burst.specs.declared.Sampled.{Sampled}
 use Rattle.limits.specs.Fsk.{FrameWithin}
-use Rattle.limits.specs.Frame.{BodyWithin}
-use Rattle.limits.specs.Presence.{PresWithin, Running, PresentWithin, AnswerWithin, presence-within, snap-within}
+use Rattle.limits.specs.Presence.{PresWithin, Running, AnswerWithin, presence-within, snap-within}
 
 -- what holds of a burst at all times, ended or not
 pub record BurstWithin (p : Settings) (b : Burst) : Type 0 where

@@ -1,15 +1,13 @@
 -- The end of a presence stays within refusal 4's limits: a frame's end commits at most one run more, and the cut of the train keeps at most what it had.
 use Prim.Native.Nat.{ℕ, zero, suc, _+_, _*_, _-_, _%_, _^_, _<_, _≤_}
-use mathlib.Core.Bool.{Bool, true, false, cond, not}
-use mathlib.Core.Path.{_≡_, refl}
+use mathlib.Core.Bool.{true, not}
 use mathlib.Core.List.{List}
 use native.Mathlib.Omega.{arith}
 use lib.ListN.{getD}
-use lib.Dec.{ltb, leb, eqb}
+use lib.Dec.{eqb}
 use lib.Ieee.{Float, le, sub, binary64, ofBits}
 use borrow.Author.Tests.{eqb-true, eqb-false}
 use Rattle.arith.specs.declared.C32.{C32}
-use Rattle.ook.specs.Counts.{inc, bit}
 use Rattle.ook.specs.Limits.{either, bit-flag, TrainWithin, OutWithin, empty-within, end-train-within}
 use Rattle.ook.specs.Train.{withPairs, withEnd, endTrainOf}
 use Rattle.ook.specs.declared.Train.{Train}
@@ -22,7 +20,7 @@ use Rattle.fsk.specs.declared.Runs.{Runs}
 use Rattle.fsk.specs.declared.Frame.{Frame}
 use Rattle.frame.specs.End.{isSplitOf, enoughRunsOf, isFrameOf, lastRunOf, closePairOf, closeBy, framedBy, outOf, endFrameOf}
 use Rattle.frame.specs.Cut.{gapAtOf, keepNextOf, keepFrom, keepBeforeOf, startKeptOf, cutBy, cutTrainOf}
-use Rattle.frame.specs.Done.{frameDoneBy, frameDoneOf}
+use Rattle.frame.specs.Done.{frameDoneOf}
 use Rattle.frame.specs.declared.Framed.{Framed}
 use Rattle.frame.specs.declared.Kept.{Kept}
 use Rattle.frame.specs.declared.Body.{Body}

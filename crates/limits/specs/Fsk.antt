@@ -1,17 +1,17 @@
 -- What refusal 4 of document 01 asks of a frame, and that each definition leads from there to there: flags stay 0 or 1, pairs plus open stay at most
 -- max_pulses, candidates stay below fsk_min before the first transition, and each count grows by what is stated.
-use Prim.Native.Nat.{ℕ, suc, min, _+_, _*_, _-_, _%_, _^_, _<_, _≤_}
+use Prim.Native.Nat.{ℕ, _+_, _-_, _<_, _≤_}
 use mathlib.Core.Bool.{Bool, true, false, cond, not}
 use mathlib.Core.Path.{_≡_, refl}
 use mathlib.Core.List.{List}
 use native.Mathlib.Omega.{arith}
-use lib.Dec.{ltb, leb, eqb}
+use lib.Dec.{leb, eqb}
 use lib.Ieee.{Float, lt}
 use borrow.Author.Tests.{leb-false, eqb-false}
 use Rattle.arith.specs.Leaves.{fskWidthOf}
 use Rattle.ook.specs.Counts.{inc, bit}
 use Rattle.ook.specs.Limits.{either, bit-flag}
-use Rattle.fsk.specs.Makers.{withFull, withConfirmed, ranOf}
+use Rattle.fsk.specs.Makers.{withFull}
 use Rattle.fsk.specs.Commit.{countRunOf, upperRunOf, lowerRunOf, fskCommitOf}
 use Rattle.fsk.specs.RunStep.{lengthenOf, rejoinOf, beginRunOf, confirmOf, confirmDueOf, fskRunStepOf}
 use Rattle.fsk.specs.Resolve.{beginFrameOf, isEarlyOf, openRunsOf, turnAtOf, sliceThrOf, hiLoOf, settleOf, fskResolveOf}
@@ -53,10 +53,10 @@ pub record FrameWithin (max least k m : ℕ) (fr : Frame) : Type 0 where
   pub done-within : CommittedWithin max m (fr .done)
 
 pub committed-more : (max m : ℕ) (c : Committed) → CommittedWithin max m c → CommittedWithin max (m + 1) c
-committed-more max m c h = record { open-flag = h .open-flag; full-flag = h .full-flag; pairs = h .pairs; runs-most = omega (arith, h .runs-most) }
+committed-more max m c h = omega arith
 
 pub full-within : (max m : ℕ) (c : Committed) → CommittedWithin max m c → CommittedWithin max m (withFull 1 c)
-full-within max m c h = record { open-flag = h .open-flag; full-flag = omega arith; pairs = h .pairs; runs-most = h .runs-most }
+full-within max m c h = omega arith
 
 abbrev pub CommitWithin : ℕ → ℕ → Committed × List ℕ → Type 0
 CommitWithin max m q = CommittedWithin max m (q .0)
@@ -67,7 +67,7 @@ module _ (max m : ℕ) where
   upper-run-within c b fsk h =
       by-test (CommitWithin max m) (leb max (c .«fsk_n»))
       (λ t. full-within max m c h)
-      (λ t. record { open-flag = omega arith; full-flag = h .full-flag; pairs = omega (arith, leb-false max (c .«fsk_n») t); runs-most = h .runs-most })
+      (λ t. omega (arith, leb-false max (c .«fsk_n») t))
 
   lower-run-within : (c : Committed) (a b : Float) (fsk : List ℕ) → CommittedWithin max m c → CommitWithin max m (lowerRunOf max c a b fsk)
   unfolding lowerRunOf
@@ -75,13 +75,13 @@ module _ (max m : ℕ) where
       by-test (CommitWithin max m) (eqb (c .«fsk_open») 0)
       (λ t. by-test (CommitWithin max m) (leb max (c .«fsk_n»))
       (λ u. full-within max m c h)
-      (λ u. record { open-flag = omega arith; full-flag = h .full-flag; pairs = omega (arith, inc-most (c .«fsk_n»), leb-false max (c .«fsk_n») u); runs-most = h .runs-most }))
-      (λ t. record { open-flag = omega arith; full-flag = h .full-flag; pairs = omega (arith, inc-most (c .«fsk_n»), h .pairs, eqb-false (c .«fsk_open») 0 t); runs-most = h .runs-most })
+      (λ u. omega (arith, inc-most (c .«fsk_n»), leb-false max (c .«fsk_n») u)))
+      (λ t. omega (arith, inc-most (c .«fsk_n»), eqb-false (c .«fsk_open») 0 t))
 
 module _ (max m : ℕ) where
   count-run-within : (c : Committed) (a : Float) → CommittedWithin max m c → CommittedWithin max (m + 1) (countRunOf c a)
   unfolding countRunOf
-  count-run-within c a h = record { open-flag = h .open-flag; full-flag = h .full-flag; pairs = h .pairs; runs-most = omega (arith, inc-most (c .«fsk_runs»), h .runs-most) }
+  count-run-within c a h = omega (arith, inc-most (c .«fsk_runs»))
 
   -- a commit counts at most one run
   pub commit-within : (c : Committed) (upper : Bool) (a b : Float) (fsk : List ℕ) → CommittedWithin max m c → CommitWithin max (m + 1) (fskCommitOf max c upper a b fsk)
@@ -104,23 +104,23 @@ StepWithin max m q = RanWithin max m (q .0)
 
 pub lengthen-within : (r : Runs) → RunsWithin r → RunsWithin (lengthenOf r)
 unfolding lengthenOf
-lengthen-within r h = record { level-flag = h .level-flag; confirmed-flag = h .confirmed-flag; has-prev-flag = h .has-prev-flag }
+lengthen-within r h = omega arith
 
 rejoin-within : (r : Runs) (upper : Bool) → RunsWithin (rejoinOf r (bit upper))
 unfolding rejoinOf
-rejoin-within r upper = record { level-flag = bit-flag upper; confirmed-flag = omega arith; has-prev-flag = omega arith }
+rejoin-within r upper = omega (arith, bit-flag upper)
 
 begin-run-within : (r : Runs) (upper : Bool) (tc : Float) → RunsWithin (beginRunOf r (bit upper) tc)
 unfolding beginRunOf
-begin-run-within r upper tc = record { level-flag = bit-flag upper; confirmed-flag = omega arith; has-prev-flag = omega arith }
+begin-run-within r upper tc = omega (arith, bit-flag upper)
 
 module _ (max m : ℕ) where
   confirm-within : (r : Runs) (c : Committed) (upper : Bool) (fsk : List ℕ) → RunsWithin r → CommittedWithin max m c → StepWithin max (m + 1) (confirmOf max r c upper fsk)
   unfolding confirmOf
   confirm-within r c upper fsk h d =
       either (StepWithin max (m + 1)) (eqb (r .«fsk_has_prev») 1)
-      (record { runs-within = record { level-flag = h .level-flag; confirmed-flag = omega arith; has-prev-flag = omega arith }; done-within = commit-within max m c (not upper) (r .«ft_prev») (r .«ft_run») fsk d })
-      (record { runs-within = record { level-flag = h .level-flag; confirmed-flag = omega arith; has-prev-flag = h .has-prev-flag }; done-within = committed-more max m c d })
+      (record { runs-within = omega arith; done-within = commit-within max m c (not upper) (r .«ft_prev») (r .«ft_run») fsk d })
+      (record { runs-within = omega arith; done-within = committed-more max m c d })
 
   confirm-due-within : (least : ℕ) (r : Runs) (c : Committed) (upper : Bool) (fsk : List ℕ) → RunsWithin r → CommittedWithin max m c → StepWithin max (m + 1) (confirmDueOf max least r c upper fsk)
   unfolding confirmDueOf
@@ -148,15 +148,7 @@ module _ (max m : ℕ) where
 
 pub begin-frame-within : (max least : ℕ) (fr : Frame) (t : Float) → 0 < least → FrameWithin max least 0 0 (beginFrameOf fr t)
 unfolding beginFrameOf
-begin-frame-within max least fr t h =
-    record {
-      phase-flag = omega arith;
-      early-flag = omega arith;
-      candidates = λ q. h;
-      count = omega arith;
-      runs-within = record { level-flag = omega arith; confirmed-flag = omega arith; has-prev-flag = omega arith };
-      done-within = record { open-flag = omega arith; full-flag = omega arith; pairs = omega arith; runs-most = omega arith };
-    }
+begin-frame-within max least fr t h = search arith
 
 -- the first transition commits at most two runs
 
@@ -173,8 +165,8 @@ module _ (max m : ℕ) where
   unfolding settleOf
   settle-within least up run t o fsk h =
       either (StepWithin max (m + 1)) (leb least (t .second))
-      (record { runs-within = record { level-flag = bit-flag (not up); confirmed-flag = omega arith; has-prev-flag = omega arith }; done-within = commit-within max m (o .done) up (o .from) (t .tc) fsk h })
-      (record { runs-within = record { level-flag = bit-flag (not up); confirmed-flag = omega arith; has-prev-flag = omega arith }; done-within = committed-more max m (o .done) h })
+      (record { runs-within = omega (arith, bit-flag (not up)); done-within = commit-within max m (o .done) up (o .from) (t .tc) fsk h })
+      (record { runs-within = omega (arith, bit-flag (not up)); done-within = committed-more max m (o .done) h })
 
 abbrev pub SampleWithin : ℕ → ℕ → ℕ → ℕ → Frame × List ℕ → Type 0
 SampleWithin max least k m q = FrameWithin max least k m (q .0)

@@ -1,38 +1,32 @@
 -- Presence stays within refusal 4's limits. The counts of a frame are bounded by the length of its presence, which ends at long_steps:
 -- while the carrier is present, and in a short absence, a frame has at most one counted sample and two committed runs for each sample of its presence.
-use Prim.Native.Nat.{ℕ, zero, suc, min, _+_, _*_, _-_, _^_, _<_, _≤_}
+use Prim.Native.Nat.{ℕ, _+_, _*_, _-_, _^_, _<_, _≤_}
 use mathlib.Core.Bool.{Bool, true, false, cond}
-use mathlib.Core.Path.{_≡_, refl, _∙_, sym}
+use mathlib.Core.Path.{_≡_, refl, sym}
 use mathlib.Core.List.{List}
 use native.Mathlib.Omega.{arith}
 use lib.Dec.{ltb, leb, eqb}
 use lib.IntN.{pos}
 use lib.Ieee.{Float, add, sub, binary64, ofInt}
 use borrow.Author.Tests.{eqb-true, eqb-false, ltb-false}
-use Rattle.arith.specs.declared.C32.{C32}
 use Rattle.arith.specs.Leaves.{one64, edgeOf, crossOf}
-use Rattle.ook.specs.Counts.{satAddOf, bit}
-use Rattle.ook.specs.Answers.{nextNumberOf, isStayOf}
+use Rattle.ook.specs.Counts.{satAddOf}
+use Rattle.ook.specs.Answers.{isStayOf}
 use Rattle.ook.specs.Params.{fskMinOf}
-use Rattle.ook.specs.Limits.{either}
-use Rattle.ook.specs.Train.{endTrainOf}
 use Rattle.ook.specs.declared.Settings.{Settings}
-use Rattle.ook.specs.declared.Next.the-variants.{Stay, IdleAt}
-use Rattle.fsk.specs.Resolve.{beginFrameOf}
 use Rattle.fsk.specs.Makers.{withStart, withRuns}
 use Rattle.fsk.specs.declared.Frame.{Frame}
 use Rattle.slicer.specs.Tone.{upperOf}
-use Rattle.frame.specs.Done.{withFrame, frameDoneOf}
+use Rattle.frame.specs.Done.{frameDoneOf}
 use Rattle.frame.specs.declared.Body.{Body}
 use Rattle.presence.specs.Move as move
 use Rattle.presence.specs.Move.{presThrOf, lengthenOf, rejoinOf, beginRunOf, movePresOf, extendOf, moveFrameOf}
-use Rattle.presence.specs.Presence.{sliceIfOf, advanceAt, advanceOf, dueOf, sureIfOf, endsOf, endOf, endIfOf, longOf, fullBody, endTrainBy, endCarrierOf, carrierIfOf, carrierBy, confirmBy, afterAdvance, presenceOf, nearStartOf, snapOf}
+use Rattle.presence.specs.Presence.{sliceIfOf, advanceAt, advanceOf, dueOf, sureIfOf, endsOf, endOf, endIfOf, longOf, fullBody, endCarrierOf, carrierIfOf, carrierBy, confirmBy, afterAdvance, presenceOf, nearStartOf, snapOf}
 use Rattle.presence.specs.declared.Pres.{Pres}
 use Rattle.presence.specs.declared.Inputs.{Inputs}
-use Rattle.presence.specs.declared.Advanced.{Advanced}
 use Rattle.presence.specs.declared.Present.{Present}
 use Rattle.presence.specs.declared.Snapped.{Snapped}
-use Rattle.limits.specs.Fsk.{by-test, CommittedWithin, FrameWithin, SampleWithin, begin-frame-within, full-within}
+use Rattle.limits.specs.Fsk.{by-test, FrameWithin, begin-frame-within, full-within}
 use Rattle.limits.specs.Slicer.{fsk-min-above, sample-within}
 use Rattle.limits.specs.Frame.{BodyWithin, DoneWithin, ended-within, frame-done-within}
 

@@ -1,15 +1,13 @@
 -- A sample of the slicer stays within refusal 4's limits: fsk_cnt grows by at most 1, and fsk_runs by at most 2.
-use Prim.Native.Nat.{ℕ, suc, min, max, _+_, _/_, _<_, _≤_}
-use mathlib.Core.Bool.{Bool, true, false, cond}
+use Prim.Native.Nat.{ℕ, max, _+_, _<_, _≤_}
 use mathlib.Core.Path.{_≡_, refl}
 use mathlib.Core.List.{List}
 use native.Mathlib.Omega.{arith}
-use lib.Dec.{ltb, leb, eqb}
+use lib.Dec.{ltb, eqb}
 use lib.Ieee.{Float}
 use borrow.Author.Tests.{ltb-true}
 use Rattle.arith.specs.declared.C32.{C32}
 use Rattle.arith.specs.Leaves.{edgeOf, crossOf}
-use Rattle.ook.specs.Counts.{inc}
 use Rattle.ook.specs.Params.{fskMinOf}
 use Rattle.ook.specs.Limits.{either}
 use Rattle.ook.specs.declared.Settings.{Settings}
@@ -21,8 +19,8 @@ use Rattle.fsk.specs.declared.Early.{Early}
 use Rattle.fsk.specs.declared.Tone.{Tone}
 use Rattle.fsk.specs.declared.Frame.{Frame}
 use Rattle.slicer.specs.Tone.{toneOf, upperOf}
-use Rattle.slicer.specs.Seek.{seedOf, averageOf, pushCandOf, restartEarlyOf, clearOf, farFromOf}
-use Rattle.slicer.specs.Sample.{seekFrameOf, restartOf, awayOf, seekBy, seekOf, trackOf, fskSampleOf}
+use Rattle.slicer.specs.Seek.{seedOf, averageOf, restartEarlyOf, clearOf, farFromOf}
+use Rattle.slicer.specs.Sample.{seekFrameOf, restartOf, awayOf, seekOf, trackOf, fskSampleOf}
 use Rattle.limits.specs.Fsk.{by-test, inc-most, FrameWithin, SampleWithin, committed-more, lengthen-within, run-step-within, resolve-within}
 
 pub fsk-min-above : (steps : ℕ) → 0 < fskMinOf steps
