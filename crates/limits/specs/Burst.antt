@@ -57,7 +57,7 @@ module _ (p : Settings) (fits : p .«max_pulses» < 2 ^ 32) where
   last-within on e b ook fsk h r =
       let d : Within (p .«max_pulses») (tailOf p on e (b .env .run) (absenceOf b) (b .high) (b .train) (b .«out_ook») ook) = tail-within p fits on e (b .env .run) (absenceOf b) (b .high) (b .train) (b .«out_ook») ook (h .train-within) (h .ook-within) in
       record {
-        within = record { env-within = h .env-within; train-within = d .train-within; ook-within = d .out-within; fsk-within = h .fsk-within; pres-within = h .pres-within; frame-within = h .frame-within };
+        within = search;
         running = λ z. r;
       }
 
@@ -65,15 +65,7 @@ module _ (p : Settings) (fits : p .«max_pulses» < 2 ^ 32) where
   present-by-within a s b q v h = go (isStayOf (q .0 .next)) refl
     where
       after : BurstWithin p (withBody (q .0 .pres) (q .0 .body) b)
-      after =
-          record {
-            env-within = v;
-            train-within = h .body-within .train-within;
-            ook-within = h .body-within .ook-within;
-            fsk-within = h .body-within .fsk-within;
-            pres-within = h .flags;
-            frame-within = h .body-within .frame-within;
-          }
+      after = search
 
       go : (stay : Bool) → isStayOf (q .0 .next) ≡ stay → StepsWithin p (presentBy p a s b q)
       go true e = rw e (last-within (s .on) (a .e) (withBody (q .0 .pres) (q .0 .body) b) (q .1) (q .2) after (h .running e))
@@ -86,21 +78,13 @@ module _ (p : Settings) (fits : p .«max_pulses» < 2 ^ 32) where
         either (StepsWithin p) (eqb (p .mode) 0)
         (last-within (s .on) (a .e) b ook fsk h r)
         (present-by-within a s b (presenceOf p (inputsOf a ep s b) (b .pres) (bodyIn b) ook fsk) (h .env-within)
-        (presence-within p fits (inputsOf a ep s b) ook small (b .pres) (bodyIn b) fsk r (record { frame-within = h .frame-within; train-within = h .train-within; ook-within = h .ook-within; fsk-within = h .fsk-within })))
+        (presence-within p fits (inputsOf a ep s b) ook small (b .pres) (bodyIn b) fsk r (search)))
 
     acted-within : (a : At) (b : Burst) (s : Seen) (n : Snapped) (fsk : List ℕ) (q : Acted × List ℕ) → BurstWithin p b → ActedWithin (p .«max_pulses») (q .0) → Running (p .«max_pulses») (fskMinOf (p .«min_steps»)) (p .«long_steps») (n .pres) (n .frame) → StepsWithin p (actedBy p a b s n fsk q)
     acted-within a b s n fsk q h d r = go (isStayOf (q .0 .next)) refl
       where
         after : BurstWithin p (withActed (a .e) s n (q .0) b)
-        after =
-            record {
-              env-within = d .env-within;
-              train-within = d .train-within;
-              ook-within = d .out-within;
-              fsk-within = h .fsk-within;
-              pres-within = r .flags;
-              frame-within = r .most;
-            }
+        after = search
 
         go : (stay : Bool) → isStayOf (q .0 .next) ≡ stay → StepsWithin p (actedBy p a b s n fsk q)
         go true e = rw e (rest-within a (b .«e_prev») s (withActed (a .e) s n (q .0) b) (q .1) fsk after r)
@@ -135,18 +119,6 @@ module _ (p : Settings) (fits : p .«max_pulses» < 2 ^ 32) where
   pub begin-burst-within : (high t e : Float) (b : Burst) → BurstWithin p b → BurstWithin p (beginBurstOf high t e b) × Runs p (beginBurstOf high t e b)
   unfolding beginBurstOf
   begin-burst-within high t e b h = (
-    record {
-      env-within = begin-env-within t (b .env) (h .env-within);
-      train-within = empty-within (p .«max_pulses») fits (b .train);
-      ook-within = h .ook-within;
-      fsk-within = h .fsk-within;
-      pres-within = record { level-flag = omega arith; confirmed-flag = omega arith };
-      frame-within = h .frame-within;
-    },
-    record {
-      flags = record { level-flag = omega arith; confirmed-flag = omega arith };
-      most = h .frame-within;
-      present = λ q. let no : ⊥ = omega (arith, q) in elim no [ ];
-      absent = λ q z. let no : ⊥ = omega (arith, z) in elim no [ ];
-    },
+    search (begin-env-within, empty-within, arith),
+    record { flags = omega arith; most = h .frame-within; present = λ q. absurd (omega arith); absent = λ q z. absurd (omega arith) },
   )

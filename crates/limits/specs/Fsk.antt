@@ -179,11 +179,4 @@ resolve-within max least k m fr f idx fsk e n d =
     let lo : Float = hiLoOf up (fr .mean .«f_ref») f .«f_lo» in
     let opened : Opening × List ℕ = openRunsOf max (isEarlyOf (fr .early) up hi lo (fr .runs .«ft_run»)) up (fr .runs .«ft_run») (fr .early .«t_early») (fr .done) fsk in
     let s : StepWithin max (m + 1 + 1) (settleOf max least up (fr .runs .«fsk_run») (turnAtOf up (sliceThrOf up hi lo) (fr .cand) f idx) (opened .0) (opened .1)) = settle-within max (m + 1) least up (fr .runs .«fsk_run») _ (opened .0) (opened .1) (open-runs-within max m _ up (fr .runs .«ft_run») (fr .early .«t_early») (fr .done) fsk d) in
-    record {
-      phase-flag = omega arith;
-      early-flag = e;
-      candidates = λ q. omega arith;
-      count = n;
-      runs-within = s .runs-within;
-      done-within = s .done-within;
-    }
+    search arith
