@@ -1,6 +1,5 @@
 -- The end of a presence stays within refusal 4's limits: a frame's end commits at most one run more, and the cut of the train keeps at most what it had.
 use Prim.Native.Nat.{ℕ, zero, suc, _+_, _*_, _-_, _%_, _^_, _<_, _≤_}
-use mathlib.Core.Bool.{true, not}
 use mathlib.Core.List.{List}
 use native.Mathlib.Omega.{arith}
 use lib.ListN.{getD}
@@ -8,7 +7,7 @@ use lib.Dec.{eqb}
 use lib.Ieee.{Float, le, sub, binary64, ofBits}
 use borrow.Author.Tests.{eqb-true, eqb-false}
 use Rattle.arith.specs.declared.C32.{C32}
-use Rattle.ook.specs.Limits.{either, bit-flag, TrainWithin, OutWithin, empty-within, end-train-within}
+use Rattle.ook.specs.Limits.{either, by-test, bit-flag, TrainWithin, OutWithin, empty-within, end-train-within}
 use Rattle.ook.specs.Train.{withPairs, withEnd, endTrainOf}
 use Rattle.ook.specs.declared.Train.{Train}
 use Rattle.ook.specs.declared.Out.{Out}
@@ -24,7 +23,7 @@ use Rattle.frame.specs.Done.{frameDoneOf}
 use Rattle.frame.specs.declared.Framed.{Framed}
 use Rattle.frame.specs.declared.Kept.{Kept}
 use Rattle.frame.specs.declared.Body.{Body}
-use Rattle.limits.specs.Fsk.{by-test, inc-most, CommittedWithin, CommitWithin, FrameWithin, committed-more, commit-within}
+use Rattle.limits.specs.Fsk.{inc-most, CommittedWithin, CommitWithin, FrameWithin, commit-within}
 
 -- ---- end_frame
 
@@ -33,10 +32,10 @@ module _ (max m : ℕ) where
   unfolding lastRunOf
   last-run-within phase r c end fsk h =
       either (CommitWithin max (m + 1)) (eqb phase 0)
-      (commit-within max m c true (r .«ft_run») end fsk h)
+      (search commit-within)
       (either (CommitWithin max (m + 1)) (eqb (r .«fsk_has_prev») 1)
-      (commit-within max m c (not (eqb (r .«fsk_level») 1)) (r .«ft_prev») end fsk h)
-      (commit-within max m c (eqb (r .«fsk_level») 1) (r .«ft_run») end fsk h))
+      (search commit-within)
+      (search commit-within))
 
   close-pair-within : (c : Committed) (fsk : List ℕ) → CommittedWithin max m c → CommitWithin max m (closePairOf c fsk)
   unfolding closePairOf

@@ -13,6 +13,7 @@ use Rattle.arith.specs.Leaves.{one64, edgeOf, crossOf}
 use Rattle.ook.specs.Counts.{satAddOf}
 use Rattle.ook.specs.Answers.{isStayOf}
 use Rattle.ook.specs.Params.{fskMinOf}
+use Rattle.ook.specs.Limits.{by-test}
 use Rattle.ook.specs.declared.Settings.{Settings}
 use Rattle.fsk.specs.Makers.{withStart, withRuns}
 use Rattle.fsk.specs.declared.Frame.{Frame}
@@ -26,13 +27,13 @@ use Rattle.presence.specs.declared.Pres.{Pres}
 use Rattle.presence.specs.declared.Inputs.{Inputs}
 use Rattle.presence.specs.declared.Present.{Present}
 use Rattle.presence.specs.declared.Snapped.{Snapped}
-use Rattle.limits.specs.Fsk.{by-test, FrameWithin, begin-frame-within, full-within}
+use Rattle.limits.specs.Fsk.{FrameWithin, begin-frame-within}
 use Rattle.limits.specs.Slicer.{fsk-min-above, sample-within}
 use Rattle.limits.specs.Frame.{BodyWithin, DoneWithin, ended-within, frame-done-within}
 
 -- larger bounds hold too
-pub frame-up : (max least k m k′ m′ : ℕ) (fr : Frame) → k ≤ k′ → m ≤ m′ → FrameWithin max least k m fr → FrameWithin max least k′ m′ fr
-frame-up max least k m k′ m′ fr i j h = search arith
+frame-up : {max least k m k′ m′ : ℕ} {fr : Frame} → k ≤ k′ → m ≤ m′ → FrameWithin max least k m fr → FrameWithin max least k′ m′ fr
+frame-up i j h = search arith
 
 pub record PresWithin (s : Pres) : Type 0 where
   pub level-flag : s .«p_level» ≤ 1
@@ -45,12 +46,9 @@ pub record Running (max least long : ℕ) (s : Pres) (fr : Frame) : Type 0 where
   pub present : s .«p_level» ≡ 1 → (s .«p_run» ≤ long) × FrameWithin max least (s .«p_run») (2 * s .«p_run») fr
   pub absent : s .«p_level» ≡ 0 → s .«p_confirmed» ≡ 0 → (s .«p_prev» ≤ long) × FrameWithin max least (s .«p_prev») (2 * s .«p_prev») fr
 
--- a flag is 0 or 1
-not-one : (n : ℕ) → n ≤ 1 → eqb 1 n ≡ false → n ≡ 0
-not-one n h q = let z : 1 ≡ n → ⊥ = eqb-false 1 n q in omega (arith, z)
-
-not-zero : (n : ℕ) → n ≤ 1 → eqb 0 n ≡ false → n ≡ 1
-not-zero n h q = let z : 0 ≡ n → ⊥ = eqb-false 0 n q in omega (arith, z)
+-- of two flags that differ each is the other's opposite
+opposite : (a n : ℕ) → a ≤ 1 → n ≤ 1 → eqb a n ≡ false → n ≡ 1 - a
+opposite a n g h q = let z : a ≡ n → ⊥ = eqb-false a n q in omega (arith, z)
 
 -- ---- the move of the presence, and what it does to the frame
 
@@ -78,7 +76,7 @@ module _ (max least long : ℕ) (small : long ≤ 2 ^ 24) (some : 0 < least) (s 
       let b : s .«p_run» ≤ long = now .0 in
       rw q (record { k = s .«p_run»; is-on = one; sure-flag = h .flags .confirmed-flag; low = b; longer = omega arith; frame-within = now .1 })
   on-moved false true q r =
-      let zero′ : s .«p_level» ≡ 0 = not-one (s .«p_level») (h .flags .level-flag) q in
+      let zero′ : s .«p_level» ≡ 0 = opposite 1 (s .«p_level») (omega arith) (h .flags .level-flag) q in
       let now = h .absent zero′ (eqb-true (s .«p_confirmed») 0 r) in
       let b : s .«p_prev» ≤ long = now .0 in
       let f = now .1 in
@@ -91,7 +89,7 @@ module _ (max least long : ℕ) (small : long ≤ 2 ^ 24) (some : 0 < least) (s 
       let none : s .«p_level» ≡ 0 = sym (eqb-true 0 (s .«p_level») q) in
       rw q (record { is-off = none; sure-flag = h .flags .confirmed-flag; most = h .most; absent = h .absent none })
   off-moved false true q r = rw (q, r) (record { is-off = refl; sure-flag = omega arith; most = h .most; absent = λ z. absurd (omega arith) })
-  off-moved false false q r = rw (q, r) (record { is-off = refl; sure-flag = omega arith; most = h .most; absent = λ z. h .present (not-zero (s .«p_level») (h .flags .level-flag) q) })
+  off-moved false false q r = rw (q, r) (record { is-off = refl; sure-flag = omega arith; most = h .most; absent = λ z. h .present (opposite 0 (s .«p_level») (omega arith) (h .flags .level-flag) q) })
 
 -- ---- what the sample answers
 
@@ -103,8 +101,8 @@ pub record PresentWithin (max least long : ℕ) (r : Present) : Type 0 where
 abbrev pub AnswerWithin : ℕ → ℕ → ℕ → Present × List ℕ × List ℕ → Type 0
 AnswerWithin max least long q = PresentWithin max least long (q .0)
 
-body-up : (max least k m k′ m′ : ℕ) (b : Body) → k ≤ k′ → m ≤ m′ → BodyWithin max least k m b → BodyWithin max least k′ m′ b
-body-up max least k m k′ m′ b i j h = search arith
+body-up : {max least k m k′ m′ : ℕ} {b : Body} → k ≤ k′ → m ≤ m′ → BodyWithin max least k m b → BodyWithin max least k′ m′ b
+body-up i j h = search arith
 
 due-open : (s : Pres) (n : ℕ) → dueOf s n ≡ true → s .«p_confirmed» ≡ 0
 unfolding dueOf
@@ -142,15 +140,15 @@ module _ (p : Settings) (fits : p .«max_pulses» < 2 ^ 32) (a : Inputs) (ook : 
       by-test (AnswerWithin (p .«max_pulses») least (p .«long_steps»)) (ltb (p .«long_steps») (s .«p_run»))
       (λ q. record {
         flags = omega arith;
-        body-within = body-up (p .«max_pulses») least (p .«long_steps» + 1) (2 * p .«long_steps» + 2 + 1) (p .«long_steps» + 1) (2 * p .«long_steps» + 3) _ (omega arith) (omega arith) (end-carrier-within least (p .«long_steps» + 1) (2 * p .«long_steps» + 2) (s .«p_t_run») b fsk h);
+        body-within = body-up (omega arith) (omega arith) (end-carrier-within least (p .«long_steps» + 1) (2 * p .«long_steps» + 2) (s .«p_t_run») b fsk h);
         running = λ z. let no : _≡_ {A = ℕ} 0 1 = cc in absurd (omega arith);
       })
       (λ q. record {
         flags = omega arith;
-        body-within = body-up (p .«max_pulses») least (p .«long_steps» + 1) (2 * p .«long_steps» + 2) (p .«long_steps» + 1) (2 * p .«long_steps» + 3) b (omega arith) (omega arith) h;
+        body-within = body-up (omega arith) (omega arith) h;
         running = λ z. record {
           flags = omega arith;
-          most = frame-up (p .«max_pulses») least (p .«long_steps» + 1) (2 * p .«long_steps» + 2) (p .«long_steps» + 1) (2 * p .«long_steps» + 3) (b .frame) (omega arith) (omega arith) (h .frame-within);
+          most = frame-up (omega arith) (omega arith) (h .frame-within);
           present = λ o. (ltb-false (p .«long_steps») (s .«p_run») q, f);
           absent = λ o. absurd (omega arith);
         };
@@ -174,7 +172,7 @@ module _ (p : Settings) (fits : p .«max_pulses» < 2 ^ 32) (a : Inputs) (ook : 
 
       done : DoneWithin (p .«max_pulses») least (p .«long_steps» + 1) (2 * p .«long_steps» + 3) (frameDoneOf p b (a .high) (a .pac) (s .«p_t_prev») end ook fsk)
       done =
-          body-up (p .«max_pulses») least (s .«p_prev») (2 * s .«p_prev» + 1) (p .«long_steps» + 1) (2 * p .«long_steps» + 3) _ (omega arith) (omega arith)
+          body-up (omega arith) (omega arith)
           (frame-done-within p fits least (s .«p_prev») (2 * s .«p_prev») b (a .high) (a .pac) (s .«p_t_prev») end ook fsk (search))
 
       go : (ends : Bool) → AnswerWithin (p .«max_pulses») least (p .«long_steps») (carrierBy p a false (sureIfOf true s) (endIfOf ends p a s b ook fsk))
@@ -204,7 +202,7 @@ module _ (p : Settings) (fits : p .«max_pulses» < 2 ^ 32) (a : Inputs) (ook : 
           let longer : o .k + 1 ≤ movePresOf s 1 tc .«p_run» = o .longer in
           after-on (fskMinOf (p .«min_steps»)) (movePresOf s 1 tc) _ _ (dueOf (movePresOf s 1 tc) (p .«min_steps»)) (o .is-on) (o .sure-flag)
           (search (frame-up, arith))
-          (frame-up (p .«max_pulses») (fskMinOf (p .«min_steps»)) (o .k + 1) (2 * o .k + 1 + 1) (movePresOf s 1 tc .«p_run») (2 * movePresOf s 1 tc .«p_run») _ (omega arith) (omega arith) f)
+          (frame-up (omega arith) (omega arith) f)
       go false tc =
           let o = off-moved (p .«max_pulses») (fskMinOf (p .«min_steps»)) (p .«long_steps») small (fsk-min-above (p .«min_steps»)) s (b .frame) tc h (eqb 0 (s .«p_level»)) (eqb (s .«p_confirmed») 0) refl refl in
           after-off (fskMinOf (p .«min_steps»)) (movePresOf s 0 tc) _ _ (dueOf (movePresOf s 0 tc) (p .«min_steps»)) refl (o .is-off) (o .sure-flag)

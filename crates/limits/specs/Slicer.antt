@@ -9,7 +9,7 @@ use borrow.Author.Tests.{ltb-true}
 use Rattle.arith.specs.declared.C32.{C32}
 use Rattle.arith.specs.Leaves.{edgeOf, crossOf}
 use Rattle.ook.specs.Params.{fskMinOf}
-use Rattle.ook.specs.Limits.{either}
+use Rattle.ook.specs.Limits.{either, by-test}
 use Rattle.ook.specs.declared.Settings.{Settings}
 use Rattle.fsk.specs.Makers.{meanOf}
 use Rattle.fsk.specs.Resolve.{sliceThrOf}
@@ -21,7 +21,7 @@ use Rattle.fsk.specs.declared.Frame.{Frame}
 use Rattle.slicer.specs.Tone.{toneOf, upperOf}
 use Rattle.slicer.specs.Seek.{seedOf, averageOf, restartEarlyOf, clearOf, farFromOf}
 use Rattle.slicer.specs.Sample.{seekFrameOf, restartOf, awayOf, seekOf, trackOf, fskSampleOf}
-use Rattle.limits.specs.Fsk.{by-test, inc-most, FrameWithin, SampleWithin, committed-more, lengthen-within, run-step-within, resolve-within}
+use Rattle.limits.specs.Fsk.{inc-most, FrameWithin, SampleWithin, lengthen-within, run-step-within, resolve-within}
 
 pub fsk-min-above : (steps : ℕ) → 0 < fskMinOf steps
 fsk-min-above steps = omega arith
