@@ -4,9 +4,6 @@ use borrow.Author.Needs.{needs}
 use Rattle.arith.proofs.midpoint.Statement.{statement}
 use Rattle.arith.proofs.midpoint.Tie as tie
 
-returns : tie.Need-returns
-unfolding midpointOf
-returns c = cc
-
 pub midpoint-spec : {M : Type 1} → statement M
-midpoint-spec = tie.close (tie.spec (search needs) (search needs) (search needs) returns)
+unfolding midpointOf
+midpoint-spec = tie.close (tie.spec (search needs) (search needs) (search needs) (λ c. cc))

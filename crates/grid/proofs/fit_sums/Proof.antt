@@ -22,4 +22,5 @@ returns c = left-end (c .before .loop .inv) (c .loop-test .left)
 pub fit-sums-spec : {M : Type 1} → statement M
 fit-sums-spec =
     tie.close
-    (tie.spec Inv-loop μ-loop (λ c. left-start _ _ _ _) (search needs) (search needs) (search needs) (search needs) (search needs) loop-again returns)
+    (tie.spec Inv-loop μ-loop (λ c. left-start _ _ _ _) (search needs) (search needs) (search needs) (search needs) (search needs)
+    loop-again returns)

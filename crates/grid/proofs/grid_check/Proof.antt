@@ -29,5 +29,6 @@ returns-2 c = check-passes _ _ (c .before .loop .inv .0) (c .loop-test .left) (c
 pub grid-check-spec : {M : Type 1} → statement M
 grid-check-spec =
     tie.close
-    (tie.spec Inv-loop μ-loop (λ c. (left-start _ _ _ _, refl)) (search needs) (search needs) (search needs) (search needs)
-    (search needs) loop-again returns returns-2)
+    (tie.spec Inv-loop μ-loop
+    (λ c. (left-start _ _ _ _, refl))
+    (search needs) (search needs) (search needs) (search needs) (search needs) loop-again returns returns-2)

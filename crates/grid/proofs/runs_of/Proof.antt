@@ -30,5 +30,6 @@ returns c = left-end (c .before .loop .inv .0) (c .loop-test .left)
 pub runs-of-spec : {M : Type 1} → statement M
 runs-of-spec =
     tie.close
-    (tie.spec Inv-loop μ-loop float-from-bits-infinity (λ c. (left-start _ _ _ _, search needs)) (search needs) (search needs)
-    (search needs) (search needs) (search needs) loop-again returns)
+    (tie.spec Inv-loop μ-loop float-from-bits-infinity
+    (λ c. (left-start _ _ _ _, search needs))
+    (search needs) (search needs) (search needs) (search needs) (search needs) loop-again returns)

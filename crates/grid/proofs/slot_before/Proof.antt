@@ -4,9 +4,6 @@ use borrow.Author.Needs.{needs}
 use Rattle.grid.proofs.slot_before.Statement.{statement}
 use Rattle.grid.proofs.slot_before.Tie as tie
 
-returns-2 : tie.Need-returns-2
-returns-2 c = slot-at _ _ (c .before .if1 .left)
-
 pub slot-before-spec : {M : Type 1} → statement M
 slot-before-spec =
-    tie.close (tie.spec (λ c. search needs) (search needs) (search needs) (search needs) returns-2)
+    tie.close (tie.spec (λ c. search needs) (search needs) (search needs) (search needs) (λ c. slot-at _ _ (c .before .if1 .left)))

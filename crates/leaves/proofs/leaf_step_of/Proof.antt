@@ -3,8 +3,6 @@ use borrow.Author.Needs.{needs}
 use Rattle.leaves.proofs.leaf_step_of.Statement.{statement}
 use Rattle.leaves.proofs.leaf_step_of.Tie as tie
 
-returns : tie.Need-returns
-returns c = simp (← c .before .f64-of-bits .ensures, ← c .step-of .ensures)
-
 pub leaf-step-of-spec : {M : Type 1} → statement M
-leaf-step-of-spec = tie.close (tie.spec (search needs) (search needs) returns)
+leaf-step-of-spec =
+    tie.close (tie.spec (search needs) (search needs) (λ c. simp (← c .before .f64-of-bits .ensures, ← c .step-of .ensures)))

@@ -3,8 +3,6 @@ use borrow.Author.Needs.{needs}
 use Rattle.leaves.proofs.leaf_u32_to_f32.Statement.{statement}
 use Rattle.leaves.proofs.leaf_u32_to_f32.Tie as tie
 
-returns : tie.Need-returns
-returns c = simp (← c .before .u32-to-f32 .ensures, ← c .bits-of-f32 .ensures)
-
 pub leaf-u32-to-f32-spec : {M : Type 1} → statement M
-leaf-u32-to-f32-spec = tie.close (tie.spec (search needs) (search needs) returns)
+leaf-u32-to-f32-spec =
+    tie.close (tie.spec (search needs) (search needs) (λ c. simp (← c .before .u32-to-f32 .ensures, ← c .bits-of-f32 .ensures)))

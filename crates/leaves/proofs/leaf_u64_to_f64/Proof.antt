@@ -3,8 +3,6 @@ use borrow.Author.Needs.{needs}
 use Rattle.leaves.proofs.leaf_u64_to_f64.Statement.{statement}
 use Rattle.leaves.proofs.leaf_u64_to_f64.Tie as tie
 
-returns : tie.Need-returns
-returns c = simp (← c .before .u64-to-f64 .ensures, ← c .bits-of-f64 .ensures)
-
 pub leaf-u64-to-f64-spec : {M : Type 1} → statement M
-leaf-u64-to-f64-spec = tie.close (tie.spec (search needs) (search needs) returns)
+leaf-u64-to-f64-spec =
+    tie.close (tie.spec (search needs) (search needs) (λ c. simp (← c .before .u64-to-f64 .ensures, ← c .bits-of-f64 .ensures)))

@@ -3,8 +3,5 @@ use borrow.Author.Needs.{needs}
 use Rattle.leaves.proofs.leaf_whole.Statement.{statement}
 use Rattle.leaves.proofs.leaf_whole.Tie as tie
 
-returns : tie.Need-returns
-returns c = simp (← c .before .f64-of-bits .ensures, ← c .whole .ensures)
-
 pub leaf-whole-spec : {M : Type 1} → statement M
-leaf-whole-spec = tie.close (tie.spec (search needs) (search needs) returns)
+leaf-whole-spec = tie.close (tie.spec (search needs) (search needs) (λ c. simp (← c .before .f64-of-bits .ensures, ← c .whole .ensures)))
