@@ -4,9 +4,7 @@ use borrow.Author.Needs.{needs}
 use Rattle.frame.proofs.enough_runs.Statement.{statement}
 use Rattle.frame.proofs.enough_runs.Tie as tie
 
-returns : tie.Need-returns
-unfolding enoughRunsOf
-returns c = simp (← c .before .inc .ensures, ← c .wrapping-add-u32 .ensures)
-
 pub enough-runs-spec : {M : Type 1} → statement M
-enough-runs-spec = tie.close (tie.spec (search needs) (search needs) returns)
+unfolding enoughRunsOf
+enough-runs-spec =
+    tie.close (tie.spec (search needs) (search needs) (λ c. simp (← c .before .inc .ensures, ← c .wrapping-add-u32 .ensures)))

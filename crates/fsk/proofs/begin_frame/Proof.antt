@@ -4,9 +4,6 @@ use borrow.Author.Needs.{needs}
 use Rattle.fsk.proofs.begin_frame.Statement.{statement}
 use Rattle.fsk.proofs.begin_frame.Tie as tie
 
-returns : tie.Need-returns
-unfolding beginFrameOf
-returns c = simp (← c .before .no-run .ensures)
-
 pub begin-frame-spec : {M : Type 1} → statement M
-begin-frame-spec = tie.close (tie.spec (search needs) returns)
+unfolding beginFrameOf
+begin-frame-spec = tie.close (tie.spec (search needs) (λ c. simp (← c .before .no-run .ensures)))

@@ -4,9 +4,6 @@ use borrow.Author.Needs.{needs}
 use Rattle.fsk.proofs.count_run.Statement.{statement}
 use Rattle.fsk.proofs.count_run.Tie as tie
 
-returns : tie.Need-returns
-unfolding countRunOf
-returns c = simp (← c .before .origin-of .ensures, ← c .inc .ensures)
-
 pub count-run-spec : {M : Type 1} → statement M
-count-run-spec = tie.close (tie.spec (search needs) (search needs) returns)
+unfolding countRunOf
+count-run-spec = tie.close (tie.spec (search needs) (search needs) (λ c. simp (← c .before .origin-of .ensures, ← c .inc .ensures)))

@@ -4,9 +4,6 @@ use borrow.Author.Needs.{needs}
 use Rattle.fsk.proofs.lengthen.Statement.{statement}
 use Rattle.fsk.proofs.lengthen.Tie as tie
 
-returns : tie.Need-returns
-unfolding lengthenOf
-returns c = simp (← c .sat-add .ensures)
-
 pub lengthen-spec : {M : Type 1} → statement M
-lengthen-spec = tie.close (tie.spec (search needs) returns)
+unfolding lengthenOf
+lengthen-spec = tie.close (tie.spec (search needs) (λ c. simp (← c .sat-add .ensures)))

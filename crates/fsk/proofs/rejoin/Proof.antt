@@ -4,9 +4,6 @@ use borrow.Author.Needs.{needs}
 use Rattle.fsk.proofs.rejoin.Statement.{statement}
 use Rattle.fsk.proofs.rejoin.Tie as tie
 
-returns : tie.Need-returns
-unfolding rejoinOf
-returns c = simp (← c .before .sat-add .ensures, ← c .sat-add2 .ensures)
-
 pub rejoin-spec : {M : Type 1} → statement M
-rejoin-spec = tie.close (tie.spec (search needs) (search needs) returns)
+unfolding rejoinOf
+rejoin-spec = tie.close (tie.spec (search needs) (search needs) (λ c. simp (← c .before .sat-add .ensures, ← c .sat-add2 .ensures)))

@@ -3,8 +3,5 @@ use borrow.Author.Needs.{needs}
 use Rattle.fsk.proofs.second_run.Statement.{statement}
 use Rattle.fsk.proofs.second_run.Tie as tie
 
-returns : tie.Need-returns
-returns c = simp (← c .before .bit .ensures, ← c .sat-sub32 .ensures)
-
 pub second-run-spec : {M : Type 1} → statement M
-second-run-spec = tie.close (tie.spec (search needs) (search needs) returns)
+second-run-spec = tie.close (tie.spec (search needs) (search needs) (λ c. simp (← c .before .bit .ensures, ← c .sat-sub32 .ensures)))
