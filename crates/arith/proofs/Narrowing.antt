@@ -13,7 +13,7 @@ use lib.Ieee.Digits.{size-le}
 use lib.Ieee.Fits.{round-is, nearest-le}
 use lib.Ieee.Nearest.{closest, closest-same, nearest-ge}
 use Rattle.arith.specs.Rounding.{narrowOf}
-use Rattle.arith.proofs.Values.{size-is, compare-lt}
+use Rattle.arith.proofs.Values.{by-order, size-is, compare-lt}
 use Rattle.arith.proofs.Pack.{pack, units-over, inf-bits}
 use Rattle.arith.proofs.Fields.{value-finite, value-zero, value-top, narrowOf-at, narrowOf-inf}
 
@@ -49,11 +49,7 @@ module _ (D E : ℕ) (lo : 2 ^ 52 ≤ D) (hi : D < 2 ^ 53) (pos : 0 < E) where
       size-le (n / 2 ^ 1074) 24 (div-lt-iff-lt-mul (pow-pos 1074) .1 (lt-of-lt-of-le n-hi (le-trans (pow-mono r) (le-of-eq (pow-add 2 24 1074)))))
 
   drop-is : size (D * 2 ^ (E - 1) * 2 ^ 149 / 2 ^ 1074) - 24 ≡ E - 897
-  drop-is = go (ltb E 897) (ltb→lt E 897) (nltb→le E 897)
-    where
-      go : (b : Bool) → (T b → E < 897) → (T (not b) → 897 ≤ E) → size (D * 2 ^ (E - 1) * 2 ^ 149 / 2 ^ 1074) - 24 ≡ E - 897
-      go true l g = let a : E < 897 = l tt in let z : size (D * 2 ^ (E - 1) * 2 ^ 149 / 2 ^ 1074) ≤ 24 = drop-below a in omega arith
-      go false l g = let a : 897 ≤ E = g tt in let z : size (D * 2 ^ (E - 1) * 2 ^ 149 / 2 ^ 1074) ≡ E - 873 = drop-normal a in omega arith
+  drop-is = by-order 897 E (λ h. omega (arith, drop-normal h)) (λ h. omega (arith, drop-below h))
 
   cross : D * 2 ^ (E - 1) * 2 ^ 149 * 2 ^ (29 + (897 - E)) ≡ D * (2 ^ 1074 * 2 ^ (E - 897))
   cross =
