@@ -5,8 +5,7 @@ use mathlib.Core.Logic.{_⊎_, inl, inr, ⊎-elim}
 use Prim.Native.Nat.{ℕ, zero, suc, _+_, _-_, _*_, _/_, _%_, _^_, _≤_, _<_, compare}
 use native.Mathlib.Nat.{zero-add, mul-assoc, one-mul, mul-le-mul-left, mul-le-mul-right, mul-pos, le-trans, le-of-eq, lt-of-lt-of-le, lt-of-le-of-lt, le-div-iff-mul-le, div-lt-iff-lt-mul, div-eq-of-lt, mod-eq-of-lt, eq-or-lt-of-le}
 use native.Mathlib.Omega.{arith}
-use mathlib.Core.Bool.{Bool, true, false, not, cond}
-use lib.Dec.{T, ltb, ltb→lt, nltb→le}
+use mathlib.Core.Bool.{Bool, cond}
 use lib.Pow.{pow-add, pow-pos, pow-mono, pow-lt, shl-lt, shr-lt}
 use lib.Ieee.{inf, binary32, binary64, size, nearest, units, round, ofBits, ofFields}
 use lib.Ieee.Digits.{size-le}
@@ -80,11 +79,7 @@ module _ (D E : ℕ) (lo : 2 ^ 52 ≤ D) (hi : D < 2 ^ 53) (pos : 0 < E) where
       le-trans (le-div-iff-mul-le (pow-pos (29 + (897 - E))) .1 (subst (λ (k : ℕ). 2 ^ 23 * 2 ^ k ≤ D) (sym r) lo)) (nearest-ge (D / u) (compare (D % u * 2) u))
 
   pub narrow-digits : (s : Bool) → E ≤ 1150 → ofBits binary32 (cond s (2 ^ 31) 0 + ((E - 897) * 2 ^ 23 + closest D (2 ^ (29 + (897 - E))))) ≡ round binary32 s (D * 2 ^ (E - 1)) (2 ^ 1074)
-  narrow-digits s h = pack s (closest D (2 ^ (29 + (897 - E)))) (E - 897) kept-hi (go (ltb E 897) (ltb→lt E 897) (nltb→le E 897)) (omega arith) ∙ sym (round-at s)
-    where
-      go : (b : Bool) → (T b → E < 897) → (T (not b) → 897 ≤ E) → (E - 897 ≡ 0) ⊎ (2 ^ 23 ≤ closest D (2 ^ (29 + (897 - E))))
-      go true l g = let a : E < 897 = l tt in inl (omega arith)
-      go false l g = inr (kept-lo (g tt))
+  narrow-digits s h = pack s (closest D (2 ^ (29 + (897 - E)))) (E - 897) kept-hi (by-order 897 E (λ g. inr (kept-lo g)) (λ l. inl (omega arith))) (omega arith) ∙ sym (round-at s)
 
   pub narrow-over : (s : Bool) → 1150 < E → round binary32 s (D * 2 ^ (E - 1)) (2 ^ 1074) ≡ inf s
   narrow-over s h =
