@@ -4,8 +4,5 @@ use borrow.Author.Needs.{needs}
 use Rattle.commands.proofs.decode_at.Statement.{statement}
 use Rattle.commands.proofs.decode_at.Tie as tie
 
-returns : tie.Need-returns
-returns c = c .decode .ensures ∙ ap decoded (c .before .after .ensures)
-
 pub decode-at-spec : {M : Type 1} → statement M
-decode-at-spec = tie.close (tie.spec (search needs) (search needs) returns)
+decode-at-spec = tie.close (tie.spec (search needs) (search needs) (λ c. c .decode .ensures ∙ ap decoded (c .before .after .ensures)))

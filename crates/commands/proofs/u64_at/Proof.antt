@@ -3,10 +3,8 @@ use borrow.Author.Needs.{needs}
 use Rattle.commands.proofs.u64_at.Statement.{statement}
 use Rattle.commands.proofs.u64_at.Tie as tie
 
-returns : tie.Need-returns
-unfolding u64At
-returns c = search needs
-
 pub u64-at-spec : {M : Type 1} → statement M
+unfolding u64At
 u64-at-spec =
-    tie.close (tie.spec (search needs) (search needs) (search needs) (search needs) (search needs) (search needs) (search needs) returns)
+    tie.close
+    (tie.spec (search needs) (search needs) (search needs) (search needs) (search needs) (search needs) (search needs) (λ c. search needs))

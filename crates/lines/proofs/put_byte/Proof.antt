@@ -4,9 +4,6 @@ use borrow.Author.Needs.{needs}
 use Rattle.lines.proofs.put_byte.Statement.{statement}
 use Rattle.lines.proofs.put_byte.Tie as tie
 
-returns : tie.Need-returns
-unfolding put
-returns c = record { text = refl; near = search needs }
-
 pub put-byte-spec : {M : Type 1} → statement M
-put-byte-spec = tie.close (tie.spec (search needs) (search needs) (search needs) returns)
+unfolding put
+put-byte-spec = tie.close (tie.spec (search needs) (search needs) (search needs) (λ c. record { text = refl; near = search needs }))
