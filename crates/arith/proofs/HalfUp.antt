@@ -1,11 +1,11 @@
 -- `halfUp`, the whole number nearest to a fraction, a tie up; and `roundOf` by it: from any fraction that its operand equals, it gives exactly that whole number. Assumes nothing.
 use mathlib.Core.Path.{_≡_, sym, ap, _∙_, subst}
 use mathlib.Core.Logic.{_⊎_, inl, inr, ⊎-elim}
-use mathlib.Core.Bool.{Bool, true, false, not}
+use mathlib.Core.Bool.{Bool}
 use Prim.Native.Nat.{ℕ, zero, suc, _+_, _-_, _*_, _^_, _≤_, _<_}
 use native.Mathlib.Nat.{mul-assoc, mul-comm, mul-one, mul-left-comm, add-mul, mul-le-mul-right, mod-lt, div-add-mod', suc-mul, zero-mul, le-trans, le-of-eq, le-of-lt, lt-of-lt-of-le, eq-or-lt-of-le, div-lt-iff-lt-mul, lt-irrefl}
 use native.Mathlib.Omega.{arith}
-use lib.Dec.{T, leb, leb→le, nleb→lt}
+use lib.Dec.{T}
 use lib.Pow.{pow-add, pow-pos, pow-mono, shl-lt}
 use lib.Ieee.{Float, nan, inf, fin, binary64, up, down, fits, round}
 use lib.Ieee.Fits.{down-pos, round-fits}
@@ -15,8 +15,8 @@ use lib.Ieee.Nearest.{div-same}
 use lib.Ieee.Scale.{finite}
 use Rattle.arith.specs.Units.{inUnits, signOf, apart}
 use Rattle.arith.specs.Rounding.{halfUp, roundOf}
-use Rattle.arith.proofs.Values.{rescale}
-use Rattle.arith.proofs.Short.{Short, short, in-units-exact}
+use Rattle.arith.proofs.Values.{by-order, rescale}
+use Rattle.arith.proofs.Short.{short, in-units-exact}
 
 -- ---- equal fractions
 pub halfUp-same : (a b c d : ℕ) → 0 < b → 0 < d → a * d ≡ c * b → halfUp a b ≡ halfUp c d
@@ -60,11 +60,10 @@ module _ (a c : ℕ) (C : 0 < c) where
 
   -- a whole number k is n, or a whole step or more to one side of it
   place : (k : ℕ) → ((k * c + c ≤ n * c) × (k < n)) ⊎ ((k ≡ n) ⊎ (n * c + c ≤ k * c))
-  place k = go (leb k n) (leb→le k n) (nleb→lt k n)
-    where
-      go : (b : Bool) → (T b → k ≤ n) → (T (not b) → n < k) → ((k * c + c ≤ n * c) × (k < n)) ⊎ ((k ≡ n) ⊎ (n * c + c ≤ k * c))
-      go true l g = ⊎-elim (λ (e : k ≡ n). inr (inl e)) (λ (h : k < n). inl (up-one k n h, h)) (eq-or-lt-of-le (l tt))
-      go false l g = inr (inr (up-one n k (g tt)))
+  place k =
+      by-order k n
+      (λ l. ⊎-elim (λ (e : k ≡ n). inr (inl e)) (λ (h : k < n). inl (up-one k n h, h)) (eq-or-lt-of-le l))
+      (λ g. inr (inr (up-one n k g)))
 
   pub half-near : (k : ℕ) → apart a (n * c) ≤ apart a (k * c)
   half-near k =
@@ -141,7 +140,7 @@ over m j h = ap (λ (x : ℕ). m * 2 ^ x) (back j h) ∙ ap (λ (x : ℕ). m * x
     back j h = omega arith
 
 whole-value : (s : Bool) (m j : ℕ) → m < 2 ^ 53 → m * 2 ^ j < 2 ^ 2098 → HasValue (round binary64 s (halfUp (m * 2 ^ j) (2 ^ 1074)) 1) s (halfUp (m * 2 ^ j) (2 ^ 1074)) 1
-whole-value s m j M W = go (leb 1074 j) (leb→le 1074 j) (nleb→lt 1074 j)
+whole-value s m j M W = by-order 1074 j large fraction
   where
     a : ℕ
     a = m * 2 ^ j
@@ -163,10 +162,6 @@ whole-value s m j M W = go (leb 1074 j) (leb→le 1074 j) (nleb→lt 1074 j)
           where
             fit : (j : ℕ) → j < 1074 → 1 + (53 + j) ≤ 53 + 1074
             fit j h = omega arith
-
-    go : (b : Bool) → (T b → 1074 ≤ j) → (T (not b) → j < 1074) → HasValue (round binary64 s (halfUp a (2 ^ 1074)) 1) s (halfUp a (2 ^ 1074)) 1
-    go true l g = large (l tt)
-    go false l g = fraction (g tt)
 
 -- the result of a finite f64
 pub roundOf-value : (x : Float) → T (fits binary64 x) → T (finite x) → HasValue (roundOf x) (signOf x) (halfUp (inUnits binary64 x) (2 ^ 1074)) 1
@@ -194,15 +189,13 @@ roundOf-own x f t k q =
 pub roundOf-large : (x : Float) → T (fits binary64 x) → T (finite x) → 2 ^ 52 * 2 ^ 1074 ≤ inUnits binary64 x → roundOf x ≡ x
 roundOf-large x f t h =
     let a = short binary64 x f t in
-    go a (leb 1074 (a .j)) (leb→le 1074 (a .j)) (nleb→lt 1074 (a .j))
+    by-order 1074 (a .j)
+    (λ l. roundOf-own x f t (a .m * 2 ^ (a .j - 1074)) (a .size-is ∙ over (a .m) (a .j) l))
+    (λ g.
+    absurd
+    (lt-irrefl (inUnits binary64 x)
+    (lt-of-lt-of-le (subst (λ (u : ℕ). u < 2 ^ (53 + a .j)) (sym (a .size-is)) (shl-lt 53 (a .j) (a .small)))
+    (le-trans (pow-mono (short-of (a .j) g)) (le-trans (le-of-eq (pow-add 2 52 1074)) h)))))
   where
     short-of : (j : ℕ) → j < 1074 → 53 + j ≤ 52 + 1074
     short-of j h = omega arith
-
-    go : (a : Short binary64 x) (b : Bool) → (T b → 1074 ≤ a .j) → (T (not b) → a .j < 1074) → roundOf x ≡ x
-    go a true l g = roundOf-own x f t (a .m * 2 ^ (a .j - 1074)) (a .size-is ∙ over (a .m) (a .j) (l tt))
-    go a false l g =
-        absurd
-        (lt-irrefl (inUnits binary64 x)
-        (lt-of-lt-of-le (subst (λ (u : ℕ). u < 2 ^ (53 + a .j)) (sym (a .size-is)) (shl-lt 53 (a .j) (a .small)))
-        (le-trans (pow-mono (short-of (a .j) (g tt))) (le-trans (le-of-eq (pow-add 2 52 1074)) h))))

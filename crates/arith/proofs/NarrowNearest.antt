@@ -1,11 +1,11 @@
 -- `narrowOf` gives the f32 nearest to a finite f64, a tie to the even one, and an infinity from half way past the largest on (`nearest-single`). Assumes nothing.
 use mathlib.Core.Path.{_≡_, refl, sym, ap, _∙_, subst}
 use mathlib.Core.Logic.{_⊎_, inl, inr, ⊎-elim}
-use mathlib.Core.Bool.{Bool, true, false, not, cond}
+use mathlib.Core.Bool.{Bool, true, false, cond}
 use Prim.Native.Nat.{ℕ, zero, suc, _+_, _-_, _*_, _%_, _^_, _≤_, _<_}
 use native.Mathlib.Nat.{eq-of-mul-eq-mul-right, le-antisymm, mul-assoc, mul-one, zero-lt-suc, mul-le-mul-right, le-trans, le-of-mul-le-mul-right, lt-of-not-le}
 use native.Mathlib.Omega.{arith}
-use lib.Dec.{T, ltb, ltb→lt, nltb→le}
+use lib.Dec.{T}
 use lib.Pow.{pow-pos}
 use lib.Ieee.{Float, nan, inf, fin, binary32, binary64, fits, neg, le, round, units, toBits}
 use lib.Ieee.Fits.{round-is, round-fits}
@@ -21,7 +21,7 @@ use Rattle.arith.proofs.Near.{Rival, round-near, round-tie, kept-most, 
 use Rattle.arith.proofs.Pack.{units-fit, units-over, bits-of-units}
 use Rattle.arith.proofs.Fields.{narrowOf-at}
 use Rattle.arith.proofs.Integral.{neg-round}
-use Rattle.arith.proofs.Values.{rescale, value-is-finite, value-unique}
+use Rattle.arith.proofs.Values.{by-order, rescale, value-is-finite, value-unique}
 
 sign-of-value : (x : Float) (s : Bool) (a c : ℕ) → HasValue x s a c → signOf x ≡ s
 sign-of-value nan s a c v = absurd v
@@ -72,18 +72,10 @@ module _ (s : Bool) (u : ℕ) where
   over h = y-is ∙ units-over binary32 s w d h
 
   under : T (finite y) → g < 2 ^ 277
-  under t = go (ltb g (2 ^ 277)) (ltb→lt g (2 ^ 277)) (nltb→le g (2 ^ 277))
-    where
-      go : (b : Bool) → (T b → g < 2 ^ 277) → (T (not b) → 2 ^ 277 ≤ g) → g < 2 ^ 277
-      go true l h = l tt
-      go false l h = absurd (subst (λ (z : Float). T (finite z)) (over (h tt)) t)
+  under t = by-order (2 ^ 277) g (λ h. absurd (subst (λ (z : Float). T (finite z)) (over h) t)) (λ l. l)
 
   sign-is : signOf y ≡ s
-  sign-is = go (ltb g (2 ^ 277)) (ltb→lt g (2 ^ 277)) (nltb→le g (2 ^ 277))
-    where
-      go : (b : Bool) → (T b → g < 2 ^ 277) → (T (not b) → 2 ^ 277 ≤ g) → signOf y ≡ s
-      go true l h = sign-of-value y s g (2 ^ 149) (value (l tt))
-      go false l h = ap signOf (over (h tt))
+  sign-is = by-order (2 ^ 277) g (λ h. ap signOf (over h)) (λ l. sign-of-value y s g (2 ^ 149) (value l))
 
   -- ---- nearness, in units of binary64
   apart-is : (v : ℕ) → apart (u * 2 ^ 149) (v * 2 ^ 1074) ≡ apart u (v * 2 ^ 925) * 2 ^ 149
@@ -230,7 +222,7 @@ nearest-single x f t =
 
 -- only one number is such
 pub single-unique : (x y : Float) → T (fits binary64 x) → T (finite x) → NearestSingle x y → y ≡ narrowOf x
-single-unique x y f t a = go (ltb u limit32) (ltb→lt u limit32) (nltb→le u limit32)
+single-unique x y f t a = by-order limit32 u (λ h. a .beyond h ∙ sym (r .beyond h)) (λ l. in-limit (a .within l) (r .within l))
   where
     u : ℕ
     u = inUnits binary64 x
@@ -252,7 +244,3 @@ single-unique x y f t a = go (ltb u limit32) (ltb→lt u limit32) (nltb→le u l
         one-only s u y (a .held) h (a .sign) j (sym (sym d ∙ l ∙ ap (toNumber x) e ∙ dist-y s u j))
         (⊎-elim (λ i. inl (ap (inUnits binary64) (sym e) ∙ i)) (λ i. inr i) (a .even h (narrowOf x) (r .held) k l))
         ∙ sym e
-
-    go : (b : Bool) → (T b → u < limit32) → (T (not b) → limit32 ≤ u) → y ≡ narrowOf x
-    go true l h = in-limit (a .within (l tt)) (r .within (l tt))
-    go false l h = a .beyond (h tt) ∙ sym (r .beyond (h tt))

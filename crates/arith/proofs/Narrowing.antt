@@ -5,15 +5,14 @@ use mathlib.Core.Logic.{_⊎_, inl, inr, ⊎-elim}
 use Prim.Native.Nat.{ℕ, zero, suc, _+_, _-_, _*_, _/_, _%_, _^_, _≤_, _<_, compare}
 use native.Mathlib.Nat.{zero-add, mul-assoc, one-mul, mul-le-mul-left, mul-le-mul-right, mul-pos, le-trans, le-of-eq, lt-of-lt-of-le, lt-of-le-of-lt, le-div-iff-mul-le, div-lt-iff-lt-mul, div-eq-of-lt, mod-eq-of-lt, eq-or-lt-of-le}
 use native.Mathlib.Omega.{arith}
-use mathlib.Core.Bool.{Bool, true, false, not, cond}
-use lib.Dec.{T, ltb, ltb→lt, nltb→le}
+use mathlib.Core.Bool.{Bool, cond}
 use lib.Pow.{pow-add, pow-pos, pow-mono, pow-lt, shl-lt, shr-lt}
 use lib.Ieee.{inf, binary32, binary64, size, nearest, units, round, ofBits, ofFields}
 use lib.Ieee.Digits.{size-le}
 use lib.Ieee.Fits.{round-is, nearest-le}
 use lib.Ieee.Nearest.{closest, closest-same, nearest-ge}
 use Rattle.arith.specs.Rounding.{narrowOf}
-use Rattle.arith.proofs.Values.{size-is, compare-lt}
+use Rattle.arith.proofs.Values.{by-order, size-is, compare-lt}
 use Rattle.arith.proofs.Pack.{pack, units-over, inf-bits}
 use Rattle.arith.proofs.Fields.{value-finite, value-zero, value-top, narrowOf-at, narrowOf-inf}
 
@@ -49,11 +48,7 @@ module _ (D E : ℕ) (lo : 2 ^ 52 ≤ D) (hi : D < 2 ^ 53) (pos : 0 < E) where
       size-le (n / 2 ^ 1074) 24 (div-lt-iff-lt-mul (pow-pos 1074) .1 (lt-of-lt-of-le n-hi (le-trans (pow-mono r) (le-of-eq (pow-add 2 24 1074)))))
 
   drop-is : size (D * 2 ^ (E - 1) * 2 ^ 149 / 2 ^ 1074) - 24 ≡ E - 897
-  drop-is = go (ltb E 897) (ltb→lt E 897) (nltb→le E 897)
-    where
-      go : (b : Bool) → (T b → E < 897) → (T (not b) → 897 ≤ E) → size (D * 2 ^ (E - 1) * 2 ^ 149 / 2 ^ 1074) - 24 ≡ E - 897
-      go true l g = let a : E < 897 = l tt in let z : size (D * 2 ^ (E - 1) * 2 ^ 149 / 2 ^ 1074) ≤ 24 = drop-below a in omega arith
-      go false l g = let a : 897 ≤ E = g tt in let z : size (D * 2 ^ (E - 1) * 2 ^ 149 / 2 ^ 1074) ≡ E - 873 = drop-normal a in omega arith
+  drop-is = by-order 897 E (λ h. omega (arith, drop-normal h)) (λ h. omega (arith, drop-below h))
 
   cross : D * 2 ^ (E - 1) * 2 ^ 149 * 2 ^ (29 + (897 - E)) ≡ D * (2 ^ 1074 * 2 ^ (E - 897))
   cross =
@@ -84,11 +79,7 @@ module _ (D E : ℕ) (lo : 2 ^ 52 ≤ D) (hi : D < 2 ^ 53) (pos : 0 < E) where
       le-trans (le-div-iff-mul-le (pow-pos (29 + (897 - E))) .1 (subst (λ (k : ℕ). 2 ^ 23 * 2 ^ k ≤ D) (sym r) lo)) (nearest-ge (D / u) (compare (D % u * 2) u))
 
   pub narrow-digits : (s : Bool) → E ≤ 1150 → ofBits binary32 (cond s (2 ^ 31) 0 + ((E - 897) * 2 ^ 23 + closest D (2 ^ (29 + (897 - E))))) ≡ round binary32 s (D * 2 ^ (E - 1)) (2 ^ 1074)
-  narrow-digits s h = pack s (closest D (2 ^ (29 + (897 - E)))) (E - 897) kept-hi (go (ltb E 897) (ltb→lt E 897) (nltb→le E 897)) (omega arith) ∙ sym (round-at s)
-    where
-      go : (b : Bool) → (T b → E < 897) → (T (not b) → 897 ≤ E) → (E - 897 ≡ 0) ⊎ (2 ^ 23 ≤ closest D (2 ^ (29 + (897 - E))))
-      go true l g = let a : E < 897 = l tt in inl (omega arith)
-      go false l g = inr (kept-lo (g tt))
+  narrow-digits s h = pack s (closest D (2 ^ (29 + (897 - E)))) (E - 897) kept-hi (by-order 897 E (λ g. inr (kept-lo g)) (λ l. inl (omega arith))) (omega arith) ∙ sym (round-at s)
 
   pub narrow-over : (s : Bool) → 1150 < E → round binary32 s (D * 2 ^ (E - 1)) (2 ^ 1074) ≡ inf s
   narrow-over s h =

@@ -1,11 +1,11 @@
 -- The root of a positive f32 is the nearest f32 to the exact root, and there is never a tie (`nearest-root`). Assumes nothing.
 use mathlib.Core.Path.{_≡_, refl, sym, ap, _∙_, subst}
 use mathlib.Core.Logic.{⊎-elim}
-use mathlib.Core.Bool.{Bool, true, false, not}
+use mathlib.Core.Bool.{true, false}
 use Prim.Native.Nat.{ℕ, suc, _+_, _*_, _/_, _%_, _^_, _≤_, _<_}
 use native.Mathlib.Nat.{eq-or-lt-of-le, le-of-lt, lt-of-lt-of-le, zero-lt-suc, mul-assoc, mul-comm, mul-lt-mul-of-pos-right, pow-suc}
 use native.Mathlib.Omega.{arith}
-use lib.Dec.{T, leb, ltb, leb→le, nleb→lt}
+use lib.Dec.{T, ltb}
 use lib.Pow.{pow-add, pow-pos, pow-mono, shl-lt}
 use lib.Ieee.{Float, nan, inf, fin, binary32, units, size, nearest, fits}
 use lib.Ieee.Digits.{size-le}
@@ -14,7 +14,7 @@ use lib.Ieee.Positive.{num, den, positive, positive-finite, value-pos, first-pos
 use Rattle.arith.specs.Root.{wholeRoot, brought, power, dropped, exactOf, roundExactOf, sqrtOf}
 use Rattle.arith.specs.Units.{inUnits}
 use Rattle.arith.specs.RootNearest.{OnSide, NearestRoot}
-use Rattle.arith.proofs.Values.{value-unique, value-is-finite}
+use Rattle.arith.proofs.Values.{by-order, value-unique, value-is-finite}
 use Rattle.arith.proofs.Short.{short, in-units}
 use Rattle.arith.proofs.RootWhole.{wholeRoot-is}
 use Rattle.arith.proofs.RootBrought.{four-pow}
@@ -134,11 +134,10 @@ root-unique x y z a b =
     flip u v = let e : u + v ≡ v + u = omega arith in ap (λ (n : ℕ). n * n) e
 
     same : (u v w : ℕ) → (v < u → (u + v) * (u + v) < w) → (u < v → w < (u + v) * (u + v)) → (u < v → (v + u) * (v + u) < w) → (v < u → w < (v + u) * (v + u)) → u ≡ v
-    same u v w a b c d = go (leb u v) (leb→le u v) (nleb→lt u v)
+    same u v w a b c d =
+        by-order u v
+        (λ l. ⊎-elim (λ (e : u ≡ v). e) (λ (h : u < v). absurd (clash ((v + u) * (v + u)) ((u + v) * (u + v)) (flip v u) (c h) (b h))) (eq-or-lt-of-le l))
+        (λ g. absurd (clash ((u + v) * (u + v)) ((v + u) * (v + u)) (flip u v) (a g) (d g)))
       where
         clash : (i j : ℕ) → i ≡ j → i < w → w < j → ⊥
         clash i j e l h = omega arith
-
-        go : (t : Bool) → (T t → u ≤ v) → (T (not t) → v < u) → u ≡ v
-        go true l g = ⊎-elim (λ (e : u ≡ v). e) (λ (h : u < v). absurd (clash ((v + u) * (v + u)) ((u + v) * (u + v)) (flip v u) (c h) (b h))) (eq-or-lt-of-le (l tt))
-        go false l g = absurd (clash ((u + v) * (u + v)) ((v + u) * (v + u)) (flip u v) (a (g tt)) (d (g tt)))

@@ -2,12 +2,11 @@
 -- between it and any other. The middle is half their sum, and a number is compared with the root by its square. Assumes nothing.
 use mathlib.Core.Path.{_≡_, sym, ap, _∙_, subst}
 use mathlib.Core.Logic.{_⊎_, inl, inr}
-use mathlib.Core.Bool.{Bool, true, false, not}
 use Prim.Native.Nat.{ℕ, suc, _+_, _-_, _*_, _^_, _≤_, _<_}
 use native.Mathlib.Nat.{le-trans, le-of-eq, le-of-lt, lt-of-lt-of-le, lt-of-le-of-lt, lt-irrefl, mul-le-mul, mul-le-mul-right, mul-assoc, mul-mul-mul-comm, mul-lt-mul-of-pos-right, lt-of-mul-lt-mul-right, mul-pos, add-mul, eq-or-lt-of-le}
 use native.Mathlib.Omega.{arith}
-use lib.Dec.{T, leb, leb→le, nleb→lt}
 use lib.Pow.{pow-add, pow-pos, pow-mono, shl-lt}
+use Rattle.arith.proofs.Values.{by-order}
 use Rattle.arith.proofs.RootDigits.{Kept, sq-lt}
 
 module _ (q k a j : ℕ) (most : a < 2 ^ 24) where
@@ -24,27 +23,23 @@ module _ (q k a j : ℕ) (most : a < 2 ^ 24) where
       lt-of-lt-of-le (shl-lt 24 j most) (le-trans (pow-mono e) (le-of-eq (pow-add 2 23 k)))
 
   pub next-up : 2 ^ 23 ≤ q → q * 2 ^ k < a * 2 ^ j → suc q * 2 ^ k ≤ a * 2 ^ j
-  next-up l h = go (leb k j) (leb→le k j) (nleb→lt k j)
-    where
-      go : (b : Bool) → (T b → k ≤ j) → (T (not b) → j < k) → suc q * 2 ^ k ≤ a * 2 ^ j
-      go true y z =
-          let e = grouped (y tt) in
-          le-trans (mul-le-mul-right (2 ^ k) (lt-of-mul-lt-mul-right (2 ^ k) (subst (λ (x : ℕ). q * 2 ^ k < x) e h))) (le-of-eq (sym e))
-      go false y z = absurd (lt-irrefl (q * 2 ^ k) (lt-of-lt-of-le h (le-trans (le-of-lt (smaller (z tt))) (mul-le-mul-right (2 ^ k) l))))
+  next-up l h =
+      by-order k j
+      (λ y.
+      let e = grouped y in
+      le-trans (mul-le-mul-right (2 ^ k) (lt-of-mul-lt-mul-right (2 ^ k) (subst (λ (x : ℕ). q * 2 ^ k < x) e h))) (le-of-eq (sym e)))
+      (λ z. absurd (lt-irrefl (q * 2 ^ k) (lt-of-lt-of-le h (le-trans (le-of-lt (smaller z)) (mul-le-mul-right (2 ^ k) l)))))
 
   pub next-down : 2 ^ 23 < q → a * 2 ^ j < q * 2 ^ k → a * 2 ^ j ≤ (q - 1) * 2 ^ k
-  next-down l h = go (leb k j) (leb→le k j) (nleb→lt k j)
-    where
-      before : 2 ^ 23 ≤ q - 1
-      before = omega arith
-
-      go : (b : Bool) → (T b → k ≤ j) → (T (not b) → j < k) → a * 2 ^ j ≤ (q - 1) * 2 ^ k
-      go true y z =
-          let e = grouped (y tt) in
-          let c : a * 2 ^ (j - k) < q = lt-of-mul-lt-mul-right (2 ^ k) (subst (λ (x : ℕ). x < q * 2 ^ k) e h) in
-          let d : a * 2 ^ (j - k) ≤ q - 1 = omega arith in
-          le-trans (le-of-eq e) (mul-le-mul-right (2 ^ k) d)
-      go false y z = le-trans (le-of-lt (smaller (z tt))) (mul-le-mul-right (2 ^ k) before)
+  next-down l h =
+      let before : 2 ^ 23 ≤ q - 1 = omega arith in
+      by-order k j
+      (λ y.
+      let e = grouped y in
+      let c : a * 2 ^ (j - k) < q = lt-of-mul-lt-mul-right (2 ^ k) (subst (λ (x : ℕ). x < q * 2 ^ k) e h) in
+      let d : a * 2 ^ (j - k) ≤ q - 1 = omega arith in
+      le-trans (le-of-eq e) (mul-le-mul-right (2 ^ k) d))
+      (λ z. le-trans (le-of-lt (smaller z)) (mul-le-mul-right (2 ^ k) before))
 
 -- a number is nearer to the root of u than z is: u is on its side of the middle, squared
 abbrev pub Nearer : ℕ → ℕ → ℕ → Type 0

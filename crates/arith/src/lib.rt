@@ -1,17 +1,16 @@
 // The arithmetic below the lane: IEEE 754-2019's rounding, square root and change of width, and the
 // leaves of the Rust, one rounding for each operation. The crates above see these contracts only.
 ghost use mathlib.Core.Path.{_≡_};
-ghost use mathlib.Core.Bool.{Bool, cond, not};
-ghost use Prim.Native.Nat.{ℕ, _+_, _-_, _*_, _^_, _<_, _≤_};
-ghost use lib.Dec.{T};
+ghost use mathlib.Core.Bool.{Bool, cond};
+ghost use Prim.Native.Nat.{_+_, _-_, _*_, _^_, _<_, _≤_};
 ghost use lib.Ieee as Ieee;
 ghost use lib.Ieee.{binary32, binary64};
 ghost use lib.IntN.{pos};
 ghost use lib.Ieee.Nearest.{closest};
 ghost use Rattle.arith.specs.Root.{IsRoot, exactOf, roundExactOf, scaled, sqrtOf};
-ghost use Rattle.arith.specs.Rounding.{roundOf, narrowOf, halfUp};
+ghost use Rattle.arith.specs.Rounding.{roundOf, narrowOf};
 ghost use Rattle.arith.specs.Leaves.{absOf, midpointOf, flushOf, maxOf, minOf, cmulConjOf, crossOf, edgeOf, stepOf, wholeOf, widthOf, fskWidthOf, runFixOf, gainOf, leadLenOf};
-ghost use Rattle.arith.specs.Angle.{octant, fold, signed, atan2Of};
+ghost use Rattle.arith.specs.Angle.{octant, atan2Of};
 
 // ---- bit patterns
 

@@ -88,52 +88,15 @@ float-back x h = ap (ofBits binary32) (word-back (toBits binary32 x) (toBits-lt 
 
 pub open-back : (p : Settings) (t : List ℕ) → OpenFits p → decoded (openBytes p ++ t) ≡ Open p
 unfolding decoded settingsOf u32At u64At
-open-back p t h =
-    simp (
-      le-ltb (length (openBytes p ++ t)) 1 (omega arith),
-      le-ltb (length (drop 1 (openBytes p ++ t))) 37 (omega arith),
-      word-back (p .«min_steps») (h .0),
-      word-back (p .«gap_steps») (h .1),
-      word-back (p .«pre_timeout») (h .2),
-      word-back (p .«long_steps») (h .3),
-      word-back (p .«max_pulses») (h .4),
-      float-back (p .alpha) (h .5),
-      float-back (p .«gap_ratio») (h .6),
-      float-back (p .«fsk_delta») (h .7),
-      float-back (p .«fsk_split») (h .8),
-    )
+open-back p t (a, b, c, d, e, f, g, i, j) =
+    simp (le-ltb (length (openBytes p ++ t)) 1 (omega arith), le-ltb (length (drop 1 (openBytes p ++ t))) 37 (omega arith), word-back, float-back)
 
 pub begin-back : (b : BeginArgs) (t : List ℕ) → BeginFits b → decoded (beginBytes b ++ t) ≡ Begin b
 unfolding decoded beginArgsOf historyOf u32At u64At
-begin-back b t h =
-    simp (
-      le-ltb (length (beginBytes b ++ t)) 1 (omega arith),
-      le-ltb (length (drop 1 (beginBytes b ++ t))) 60 (omega arith),
-      index-back (b .index) (h .0),
-      float-back (b .factor) (h .1),
-      float-back (b .envelope) (h .2),
-      float-back (b .x .re) (h .3),
-      float-back (b .x .im) (h .4),
-      float-back (b .before .re) (h .5),
-      float-back (b .before .im) (h .6),
-      float-back (b .history .e1) (h .7),
-      float-back (b .history .e2) (h .8),
-      float-back (b .history .e3) (h .9),
-      float-back (b .history .e4) (h .10),
-      float-back (b .history .e5) (h .11),
-      float-back (b .history .e6) (h .12),
-      float-back (b .history .e7) (h .13),
-    )
+begin-back b t (i, f, e, x, y, p, q, e1, e2, e3, e4, e5, e6, e7) =
+    simp (le-ltb (length (beginBytes b ++ t)) 1 (omega arith), le-ltb (length (drop 1 (beginBytes b ++ t))) 60 (omega arith), index-back, float-back)
 
 pub step-back : (s : StepArgs) (t : List ℕ) → StepFits s → decoded (stepBytes s ++ t) ≡ Step s
 unfolding decoded stepArgsOf u32At u64At
-step-back s t h =
-    simp (
-      le-ltb (length (stepBytes s ++ t)) 1 (omega arith),
-      le-ltb (length (drop 1 (stepBytes s ++ t))) 24 (omega arith),
-      index-back (s .index) (h .0),
-      float-back (s .noise) (h .1),
-      float-back (s .envelope) (h .2),
-      float-back (s .x .re) (h .3),
-      float-back (s .x .im) (h .4),
-    )
+step-back s t (i, n, e, r, m) =
+    simp (le-ltb (length (stepBytes s ++ t)) 1 (omega arith), le-ltb (length (drop 1 (stepBytes s ++ t))) 24 (omega arith), index-back, float-back)

@@ -4,9 +4,9 @@ use mathlib.Core.Bool.{Bool, true, false, cond}
 use mathlib.Core.Path.{_≡_, refl, ap}
 use mathlib.Core.List.{List, [], _∷_, _++_}
 use native.Mathlib.Omega.{arith}
-use lib.ListN.{length, length-append, List·getD-append}
-use lib.Dec.{eqb, ltb}
-use borrow.Author.Tests.{ltb-false, le-ltb}
+use lib.ListN.{length, getD, length-append, List·getD-append}
+use lib.Dec.{eqb, ltb, leb}
+use borrow.Author.Tests.{ltb-false, leb-true, le-ltb}
 use native.Mathlib.Nat.{not-suc-le-zero}
 use Rattle.commands.specs.declared.Command.{Command}
 use Rattle.commands.specs.declared.Command.the-variants.{Open, Begin, Step, Short}
@@ -36,73 +36,37 @@ size-fits (b ∷ o) =
 
 -- ---- bytes that come after a whole command change nothing
 
-u32-more : (o t : List ℕ) (i : ℕ) → i + 4 ≤ length o → u32At (o ++ t) i ≡ u32At o i
-unfolding u32At
-u32-more o t i h =
-    simp (
-      List·getD-append o t 0 i (omega arith),
-      List·getD-append o t 0 (i + 1) (omega arith),
-      List·getD-append o t 0 (i + 2) (omega arith),
-      List·getD-append o t 0 (i + 3) (omega arith),
-    )
+-- of the first n bytes, which are there: a place below n is told by its test, which computes
+module _ (o t : List ℕ) (n : ℕ) (h : n ≤ length o) where
+  byte-more : (i : ℕ) → leb (i + 1) n ≡ true → getD (o ++ t) i 0 ≡ getD o i 0
+  byte-more i e = List·getD-append o t 0 i (omega (arith, leb-true (i + 1) n e))
 
-u64-more : (o t : List ℕ) (i : ℕ) → i + 8 ≤ length o → u64At (o ++ t) i ≡ u64At o i
-unfolding u64At
-u64-more o t i h = simp (u32-more o t i (omega arith), u32-more o t (i + 4) (omega arith))
+  u32-more : (i : ℕ) → leb (i + 4) n ≡ true → u32At (o ++ t) i ≡ u32At o i
+  unfolding u32At
+  u32-more i e =
+      let k : i + 4 ≤ n = leb-true (i + 4) n e in
+      simp (
+        List·getD-append o t 0 i (omega arith),
+        List·getD-append o t 0 (i + 1) (omega arith),
+        List·getD-append o t 0 (i + 2) (omega arith),
+        List·getD-append o t 0 (i + 3) (omega arith),
+      )
+
+  u64-more : (i : ℕ) → leb (i + 4) n ≡ true → leb (i + 4 + 4) n ≡ true → u64At (o ++ t) i ≡ u64At o i
+  unfolding u64At
+  u64-more i e d = simp (u32-more i e, u32-more (i + 4) d)
 
 settings-more : (o t : List ℕ) → 37 ≤ length o → settingsOf (o ++ t) ≡ settingsOf o
 unfolding settingsOf
-settings-more o t h =
-    simp (
-      List·getD-append o t 0 0 (omega arith),
-      u32-more o t 1 (omega arith),
-      u32-more o t 5 (omega arith),
-      u32-more o t 9 (omega arith),
-      u32-more o t 13 (omega arith),
-      u32-more o t 17 (omega arith),
-      u32-more o t 21 (omega arith),
-      u32-more o t 25 (omega arith),
-      u32-more o t 29 (omega arith),
-      u32-more o t 33 (omega arith),
-    )
-
-history-more : (o t : List ℕ) → 60 ≤ length o → historyOf (o ++ t) ≡ historyOf o
-unfolding historyOf
-history-more o t h =
-    simp (
-      u32-more o t 32 (omega arith),
-      u32-more o t 36 (omega arith),
-      u32-more o t 40 (omega arith),
-      u32-more o t 44 (omega arith),
-      u32-more o t 48 (omega arith),
-      u32-more o t 52 (omega arith),
-      u32-more o t 56 (omega arith),
-    )
+settings-more o t h = simp (byte-more o t 37 h, u32-more o t 37 h)
 
 begin-more : (o t : List ℕ) → 60 ≤ length o → beginArgsOf (o ++ t) ≡ beginArgsOf o
-unfolding beginArgsOf
-begin-more o t h =
-    simp (
-      u64-more o t 0 (omega arith),
-      u32-more o t 8 (omega arith),
-      u32-more o t 12 (omega arith),
-      u32-more o t 16 (omega arith),
-      u32-more o t 20 (omega arith),
-      u32-more o t 24 (omega arith),
-      u32-more o t 28 (omega arith),
-      history-more o t h,
-    )
+unfolding beginArgsOf historyOf
+begin-more o t h = simp (u64-more o t 60 h, u32-more o t 60 h)
 
 step-more : (o t : List ℕ) → 24 ≤ length o → stepArgsOf (o ++ t) ≡ stepArgsOf o
 unfolding stepArgsOf
-step-more o t h =
-    simp (
-      u64-more o t 0 (omega arith),
-      u32-more o t 8 (omega arith),
-      u32-more o t 12 (omega arith),
-      u32-more o t 16 (omega arith),
-      u32-more o t 20 (omega arith),
-    )
+step-more o t h = simp (u64-more o t 24 h, u32-more o t 24 h)
 
 within-more : (n : ℕ) (o t : List ℕ) (x y : Command) → n ≤ length o → x ≡ y → within n (o ++ t) x ≡ within n o y
 within-more n o t x y h e =

@@ -71,27 +71,17 @@ fn settings_of(o: &[u8]) -> Settings
     requires { ⌜ 37 ≤ length (now o) ⌝ }
     ensures { λ r. ⌜ r ≡ settingsOf (now (o .entry)) ⌝ }
 {
-    let mode = wide(o[0]);
-    let min_steps = u32_at(o, 1);
-    let gap_steps = u32_at(o, 5);
-    let pre_timeout = u32_at(o, 9);
-    let long_steps = u32_at(o, 13);
-    let max_pulses = u32_at(o, 17);
-    let alpha = f32_at(o, 21);
-    let gap_ratio = f32_at(o, 25);
-    let fsk_delta = f32_at(o, 29);
-    let fsk_split = f32_at(o, 33);
     Settings {
-        mode,
-        min_steps,
-        gap_steps,
-        pre_timeout,
-        long_steps,
-        max_pulses,
-        alpha,
-        gap_ratio,
-        fsk_delta,
-        fsk_split,
+        mode: wide(o[0]),
+        min_steps: u32_at(o, 1),
+        gap_steps: u32_at(o, 5),
+        pre_timeout: u32_at(o, 9),
+        long_steps: u32_at(o, 13),
+        max_pulses: u32_at(o, 17),
+        alpha: f32_at(o, 21),
+        gap_ratio: f32_at(o, 25),
+        fsk_delta: f32_at(o, 29),
+        fsk_split: f32_at(o, 33),
     }
 }
 
@@ -99,21 +89,14 @@ fn history_of(o: &[u8]) -> History
     requires { ⌜ 60 ≤ length (now o) ⌝ }
     ensures { λ r. ⌜ r ≡ historyOf (now (o .entry)) ⌝ }
 {
-    let e1 = f32_at(o, 32);
-    let e2 = f32_at(o, 36);
-    let e3 = f32_at(o, 40);
-    let e4 = f32_at(o, 44);
-    let e5 = f32_at(o, 48);
-    let e6 = f32_at(o, 52);
-    let e7 = f32_at(o, 56);
     History {
-        e1,
-        e2,
-        e3,
-        e4,
-        e5,
-        e6,
-        e7,
+        e1: f32_at(o, 32),
+        e2: f32_at(o, 36),
+        e3: f32_at(o, 40),
+        e4: f32_at(o, 44),
+        e5: f32_at(o, 48),
+        e6: f32_at(o, 52),
+        e7: f32_at(o, 56),
     }
 }
 
@@ -121,19 +104,13 @@ fn begin_args(o: &[u8]) -> BeginArgs
     requires { ⌜ 60 ≤ length (now o) ⌝ }
     ensures { λ r. ⌜ r ≡ beginArgsOf (now (o .entry)) ⌝ }
 {
-    let index = u64_at(o, 0);
-    let factor = f32_at(o, 8);
-    let envelope = f32_at(o, 12);
-    let x = pair_at(o, 16);
-    let before = pair_at(o, 24);
-    let history = history_of(o);
     BeginArgs {
-        index,
-        factor,
-        envelope,
-        x,
-        before,
-        history,
+        index: u64_at(o, 0),
+        factor: f32_at(o, 8),
+        envelope: f32_at(o, 12),
+        x: pair_at(o, 16),
+        before: pair_at(o, 24),
+        history: history_of(o),
     }
 }
 
@@ -141,15 +118,11 @@ fn step_args(o: &[u8]) -> StepArgs
     requires { ⌜ 24 ≤ length (now o) ⌝ }
     ensures { λ r. ⌜ r ≡ stepArgsOf (now (o .entry)) ⌝ }
 {
-    let index = u64_at(o, 0);
-    let noise = f32_at(o, 8);
-    let envelope = f32_at(o, 12);
-    let x = pair_at(o, 16);
     StepArgs {
-        index,
-        noise,
-        envelope,
-        x,
+        index: u64_at(o, 0),
+        noise: f32_at(o, 8),
+        envelope: f32_at(o, 12),
+        x: pair_at(o, 16),
     }
 }
 

@@ -1,6 +1,6 @@
 -- `frame_done` (source document 000): a presence is over; where it was a frame, it counts, and in Auto mode it cuts the train.
 use Prim.Native.Nat.{ℕ}
-use mathlib.Core.Bool.{Bool, true, false, cond}
+use mathlib.Core.Bool.{cond}
 use mathlib.Core.List.{List}
 use lib.Dec.{eqb}
 use lib.Ieee.{Float}

@@ -1,9 +1,9 @@
 // The end of a presence: `end_frame`, `cut_train` and `frame_done` of the Rust.
 ghost use mathlib.Core.Path.{_≡_};
-ghost use Prim.Native.Nat.{_+_, _*_, _-_, _%_, _^_, _<_, _≤_};
-ghost use lib.ListN.{set, length, getD};
+ghost use Prim.Native.Nat.{_+_, _*_, _-_, _<_};
+ghost use lib.ListN.{getD};
 ghost use Rattle.frame.specs.End.{isSplitOf, enoughRunsOf, isFrameOf, lastRunOf, closePairOf, widthsInOf, carrierOf, outOf, endFrameOf};
-ghost use Rattle.frame.specs.Cut.{gapAtOf, keepNextOf, keepFrom, keepBeforeOf, startKeptOf, cutTrainOf};
+ghost use Rattle.frame.specs.Cut.{gapAtOf, keepNextOf, keepBeforeOf, startKeptOf, cutTrainOf};
 ghost use Rattle.frame.specs.Done.{frameDoneOf};
 use arith::C32;
 use arith::Steps;

@@ -1,10 +1,10 @@
 -- `fsk_commit` (source document 000): a frequency run goes into the slots of the frame.
 -- Until the frame ends a slot holds the end of its run after the origin of the frame, in 64ths of a step, and an empty slot the end of the run before.
 use Prim.Native.Nat.{ℕ, _+_, _*_}
-use mathlib.Core.Bool.{Bool, true, false, cond}
+use mathlib.Core.Bool.{Bool, cond}
 use mathlib.Core.List.{List}
 use lib.ListN.{set}
-use lib.Dec.{ltb, leb, eqb}
+use lib.Dec.{leb, eqb}
 use lib.Ieee.{Float, binary64, sub}
 use Rattle.arith.specs.Leaves.{runFixOf, fskWidthOf}
 use Rattle.ook.specs.Counts.{inc}
@@ -29,14 +29,18 @@ upperRunOf «max_pulses» c b fsk =
     (withFull 1 c, fsk)
     (withLast b (withPairs (c .«fsk_n») 1 c), putEndOf fsk (2 * c .«fsk_n») (c .«f_origin») b)
 
+-- the run that ends at b is the second slot of the pair
+abbrev pub closePairOf : Committed → Float → List ℕ → Committed × List ℕ
+closePairOf c b fsk = (withLast b (withPairs (inc (c .«fsk_n»)) 0 c), putEndOf fsk (2 * c .«fsk_n» + 1) (c .«f_origin») b)
+
 -- a run at the lower level is the second slot; where no pair waits, the first one is empty
 unfoldable pub lowerRunOf : ℕ → Committed → Float → Float → List ℕ → Committed × List ℕ
 lowerRunOf «max_pulses» c a b fsk =
     cond (eqb (c .«fsk_open») 0)
     (cond (leb «max_pulses» (c .«fsk_n»))
     (withFull 1 c, fsk)
-    (withLast b (withPairs (inc (c .«fsk_n»)) 0 c), putEndOf (putEndOf fsk (2 * c .«fsk_n») (c .«f_origin») a) (2 * c .«fsk_n» + 1) (c .«f_origin») b))
-    (withLast b (withPairs (inc (c .«fsk_n»)) 0 c), putEndOf fsk (2 * c .«fsk_n» + 1) (c .«f_origin») b)
+    (closePairOf c b (putEndOf fsk (2 * c .«fsk_n») (c .«f_origin») a)))
+    (closePairOf c b fsk)
 
 -- a full frame, and a run of no width, take nothing
 unfoldable pub fskCommitOf : ℕ → Committed → Bool → Float → Float → List ℕ → Committed × List ℕ

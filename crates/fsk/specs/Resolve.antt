@@ -1,7 +1,7 @@
 -- `begin_frame` and `fsk_resolve` (source document 000): a frame begins; its first transition gives the two levels and the end of the first run.
-use Prim.Native.Nat.{ℕ, zero, suc, min, _+_, _*_, _-_, _%_, _^_, _<_, _≤_}
+use Prim.Native.Nat.{ℕ, zero, suc, min, _+_, _-_, _%_, _^_, _<_, _≤_}
 use mathlib.Core.Bool.{Bool, true, false, cond, not}
-use mathlib.Core.Path.{_≡_, refl, _∙_}
+use mathlib.Core.Path.{_≡_, _∙_}
 use mathlib.Core.List.{List}
 use native.Mathlib.Omega.{arith}
 use lib.ListN.{getD}
@@ -108,14 +108,14 @@ openRunsOf «max_pulses» early «first_upper» «ft_run» «t_early» c fsk =
     (record { from = «ft_run»; done = c }, fsk)
 
 -- the second run, of t.second samples; the one before it is committed where it is confirmed at once
-abbrev pub secondRun : Bool → ℕ → Turn → Float → ℕ → ℕ → Runs
-secondRun «first_upper» «fsk_run» t from confirmed «has_prev» = runsOf (t .tc) from (bit (not «first_upper»)) (t .second) confirmed («fsk_run» - t .second) «has_prev»
+abbrev pub secondRunOf : Bool → ℕ → Turn → Float → ℕ → ℕ → Runs
+secondRunOf «first_upper» «fsk_run» t from confirmed «has_prev» = runsOf (t .tc) from (bit (not «first_upper»)) (t .second) confirmed («fsk_run» - t .second) «has_prev»
 
 unfoldable pub settleOf : ℕ → ℕ → Bool → ℕ → Turn → Opening → List ℕ → Ran × List ℕ
 settleOf «max_pulses» «fsk_min» «first_upper» «fsk_run» t o fsk =
     cond (leb «fsk_min» (t .second))
-    (ranBy (secondRun «first_upper» «fsk_run» t (o .from) 1 0) (fskCommitOf «max_pulses» (o .done) «first_upper» (o .from) (t .tc) fsk))
-    (ranOf (secondRun «first_upper» «fsk_run» t (o .from) 0 1) (o .done), fsk)
+    (ranBy (secondRunOf «first_upper» «fsk_run» t (o .from) 1 0) (fskCommitOf «max_pulses» (o .done) «first_upper» (o .from) (t .tc) fsk))
+    (ranOf (secondRunOf «first_upper» «fsk_run» t (o .from) 0 1) (o .done), fsk)
 
 abbrev pub settleBy : ℕ → ℕ → Bool → ℕ → Turn → Opening × List ℕ → Ran × List ℕ
 settleBy «max_pulses» «fsk_min» «first_upper» «fsk_run» t q = settleOf «max_pulses» «fsk_min» «first_upper» «fsk_run» t (q .0) (q .1)

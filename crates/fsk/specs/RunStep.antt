@@ -1,6 +1,6 @@
 -- `fsk_run_step` (source document 000): the run machine of the frequency levels.
 use Prim.Native.Nat.{ℕ}
-use mathlib.Core.Bool.{Bool, true, false, cond, not}
+use mathlib.Core.Bool.{Bool, cond, not}
 use mathlib.Core.List.{List}
 use lib.Dec.{leb, eqb}
 use lib.Ieee.{Float}

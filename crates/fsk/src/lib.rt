@@ -1,10 +1,11 @@
 // The frequency runs of a frame: `fsk_commit`, `fsk_run_step`, `begin_frame` and `fsk_resolve` of the Rust,
 // each over the part of the frame that it changes.
 ghost use mathlib.Core.Path.{_≡_};
-ghost use Prim.Native.Nat.{_+_, _*_, _-_, _%_, _^_, _<_, _≤_, min};
-ghost use Rattle.fsk.specs.Commit.{putEndOf, originOf, countRunOf, upperRunOf, lowerRunOf, fskCommitOf};
+ghost use Prim.Native.Nat.{_+_, _*_, _-_, _<_, _≤_, min};
+ghost use Rattle.fsk.specs.Commit.{putEndOf, originOf, countRunOf, upperRunOf, closePairOf, lowerRunOf, fskCommitOf};
+ghost use Rattle.fsk.specs.Makers.{runsOf};
 ghost use Rattle.fsk.specs.RunStep.{lengthenOf, rejoinOf, beginRunOf, confirmOf, confirmDueOf, fskRunStepOf};
-ghost use Rattle.fsk.specs.Resolve.{beginFrameOf, sliceThrOf, pastOf, firstPastOf, candAtOf, beforeOf, turnAtOf, hiLoOf, otherLevelOf, isEarlyOf, openRunsOf, settleOf, fskResolveOf};
+ghost use Rattle.fsk.specs.Resolve.{beginFrameOf, sliceThrOf, pastOf, firstPastOf, candAtOf, beforeOf, turnAtOf, hiLoOf, otherLevelOf, isEarlyOf, openRunsOf, secondRunOf, settleOf, fskResolveOf};
 use arith::C32;
 use arith::Fix64;
 use arith::Steps;
@@ -137,6 +138,19 @@ fn upper_run(max: u32, c: Committed, b: f64, fsk: &mut [u32]) -> Committed
     d
 }
 
+// The second slot of the pair, which is whole then.
+fn close_pair(c: Committed, b: f64, fsk: &mut [u32]) -> Committed
+    ensures { λ r. ⌜ (r, now (fsk .exit)) ≡ closePairOf c b (now (fsk .entry)) ⌝ }
+{
+    put_end(fsk, 2 * (c.fsk_n as usize) + 1, c.f_origin, b);
+    let n = ook::inc(c.fsk_n);
+    let mut d = c;
+    d.fsk_n = n;
+    d.fsk_open = 0;
+    d.f_last = b;
+    d
+}
+
 fn lower_run(max: u32, c: Committed, a: f64, b: f64, fsk: &mut [u32]) -> Committed
     ensures { λ r. ⌜ (r, now (fsk .exit)) ≡ lowerRunOf max c a b (now (fsk .entry)) ⌝ }
 {
@@ -149,21 +163,9 @@ fn lower_run(max: u32, c: Committed, a: f64, b: f64, fsk: &mut [u32]) -> Committ
             return d;
         }
         put_end(fsk, 2 * (c.fsk_n as usize), c.f_origin, a);
-        put_end(fsk, 2 * (c.fsk_n as usize) + 1, c.f_origin, b);
-        let n = ook::inc(c.fsk_n);
-        let mut d = c;
-        d.fsk_n = n;
-        d.fsk_open = 0;
-        d.f_last = b;
-        return d;
+        return close_pair(c, b, fsk);
     }
-    put_end(fsk, 2 * (c.fsk_n as usize) + 1, c.f_origin, b);
-    let n = ook::inc(c.fsk_n);
-    let mut d = c;
-    d.fsk_n = n;
-    d.fsk_open = 0;
-    d.f_last = b;
-    d
+    close_pair(c, b, fsk)
 }
 
 pub fn fsk_commit(max: u32, c: Committed, upper: bool, a: f64, b: f64, fsk: &mut [u32]) -> Committed
@@ -281,10 +283,31 @@ pub fn fsk_run_step(
     confirm_due(max, fsk_min, q, c, upper, fsk)
 }
 
+// No run yet: the first will start at t.
+fn no_run(t: f64) -> Runs
+    ensures { λ r. ⌜ r ≡ runsOf t t 0 0 1 0 0 ⌝ }
+{
+    Runs {
+        ft_run: t,
+        ft_prev: t,
+        fsk_level: 0,
+        fsk_run: 0,
+        fsk_confirmed: 1,
+        fsk_prev: 0,
+        fsk_has_prev: 0,
+    }
+}
+
 pub fn begin_frame(fr: Frame, t: f64) -> Frame
     ensures { λ r. ⌜ r ≡ beginFrameOf fr t ⌝ }
 {
     let cs = fr.cand.cand_f;
+    let runs = no_run(t);
+    let mut done = fr.done;
+    done.fsk_open = 0;
+    done.fsk_n = 0;
+    done.fsk_runs = 0;
+    done.fsk_full = 0;
     Frame {
         tone: Tone {
             fm: C32 { re: 0.0, im: 0.0 },
@@ -309,23 +332,8 @@ pub fn begin_frame(fr: Frame, t: f64) -> Frame
             f_hi: 0.0,
             f_lo: 0.0,
         },
-        runs: Runs {
-            ft_run: t,
-            ft_prev: t,
-            fsk_level: 0,
-            fsk_run: 0,
-            fsk_confirmed: 1,
-            fsk_prev: 0,
-            fsk_has_prev: 0,
-        },
-        done: Committed {
-            f_origin: fr.done.f_origin,
-            f_last: fr.done.f_last,
-            fsk_open: 0,
-            fsk_n: 0,
-            fsk_runs: 0,
-            fsk_full: 0,
-        },
+        runs,
+        done,
     }
 }
 
@@ -482,7 +490,31 @@ fn open_runs(
     Opening { from, done: c }
 }
 
-// The runs after the first transition: the second has lasted t.second samples.
+// The second run, of t.second samples of the run so far.
+fn second_run(
+    first_upper: bool,
+    run: u32,
+    t: Turn,
+    from: f64,
+    confirmed: u32,
+    has_prev: u32,
+) -> Runs
+    ensures { λ r. ⌜ r ≡ secondRunOf «first_upper» run t from confirmed «has_prev» ⌝ }
+{
+    let level = ook::bit(!first_upper);
+    let prev = sat_sub32(run, t.second);
+    Runs {
+        ft_run: t.tc,
+        ft_prev: from,
+        fsk_level: level,
+        fsk_run: t.second,
+        fsk_confirmed: confirmed,
+        fsk_prev: prev,
+        fsk_has_prev: has_prev,
+    }
+}
+
+// The runs after the first transition: the second is confirmed at once where it is long enough.
 fn settle(
     max: u32,
     fsk_min: u32,
@@ -494,33 +526,14 @@ fn settle(
 ) -> Ran
     ensures { λ r. ⌜ (r, now (fsk .exit)) ≡ settleOf max «fsk_min» «first_upper» run t o (now (fsk .entry)) ⌝ }
 {
-    let level = ook::bit(!first_upper);
-    let prev = sat_sub32(run, t.second);
+    let c = o.done;
     let long = t.second >= fsk_min;
     if long {
-        let c = o.done;
+        let q = second_run(first_upper, run, t, o.from, 1, 0);
         let d = fsk_commit(max, c, first_upper, o.from, t.tc, fsk);
-        let q = Runs {
-            ft_run: t.tc,
-            ft_prev: o.from,
-            fsk_level: level,
-            fsk_run: t.second,
-            fsk_confirmed: 1,
-            fsk_prev: prev,
-            fsk_has_prev: 0,
-        };
         return Ran { runs: q, done: d };
     }
-    let c = o.done;
-    let q = Runs {
-        ft_run: t.tc,
-        ft_prev: o.from,
-        fsk_level: level,
-        fsk_run: t.second,
-        fsk_confirmed: 0,
-        fsk_prev: prev,
-        fsk_has_prev: 1,
-    };
+    let q = second_run(first_upper, run, t, o.from, 0, 1);
     Ran { runs: q, done: c }
 }
 

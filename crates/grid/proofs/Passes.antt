@@ -28,21 +28,33 @@ module _ {S : Type 0} (f : S → Float → S) where
   fold-also true x xs s = refl
   fold-also false x xs s = refl
 
-  pub rest-start : (last : ℕ) (slots : List ℕ) (s : S) → rest f last slots 0 0 s ≡ fold f s (upTo last slots)
-  unfolding rest upTo
-  rest-start last slots s = simp sub-zero
-
-  pub rest-end : (last : ℕ) (slots : List ℕ) (i before : ℕ) (s : S) → last ≤ i → rest f last slots i before s ≡ s
+  rest-end : (last : ℕ) (slots : List ℕ) (i before : ℕ) (s : S) → last ≤ i → rest f last slots i before s ≡ s
   unfolding rest times fold
   rest-end last slots i before s h = let e : last - i ≡ 0 = omega arith in rw e
 
-  pub rest-turn : (last : ℕ) (slots : List ℕ) (i before : ℕ) (s : S) → i < last → last ≤ length slots
+  rest-turn : (last : ℕ) (slots : List ℕ) (i before : ℕ) (s : S) → i < last → last ≤ length slots
       → rest f last slots i before s ≡ rest f last slots (i + 1) (getD slots i 0) (turned f before (getD slots i 0) s)
   unfolding rest times turned
   rest-turn last slots i before s h k =
       let e : last - i ≡ suc (last - (i + 1)) = omega arith in
       let l : i < length slots = omega arith in
       rw (e, drop-cons slots i 0 l, ← add-one i) (fold-also (ltb before (getD slots i 0)) (timeOf (fix (getD slots i 0))) (times (getD slots i 0) (take (last - (i + 1)) (drop (i + 1) slots))) s)
+
+-- the invariant of a loop from the state s₀: what is left of the fold is the whole fold
+pub record Left {S : Type 0} (f : S → Float → S) (s₀ : S) (last : ℕ) (slots : List ℕ) (i before : ℕ) (s : S) : Type 0 where
+  pub same : rest f last slots i before s ≡ fold f s₀ (upTo last slots)
+  pub within : i ≤ last
+
+pub left-start : {S : Type 0} (f : S → Float → S) (s₀ : S) (last : ℕ) (slots : List ℕ) → Left f s₀ last slots 0 0 s₀
+unfolding rest upTo
+left-start f s₀ last slots = record { same = simp sub-zero; within = omega arith }
+
+module _ {S : Type 0} {f : S → Float → S} {s₀ : S} {last : ℕ} {slots : List ℕ} {i before : ℕ} {s : S} (g : Left f s₀ last slots i before s) where
+  pub left-turn : {r : S} → i < last → last ≤ length slots → r ≡ turned f before (getD slots i 0) s → Left f s₀ last slots (i + 1) (getD slots i 0) r
+  left-turn h k e = record { same = rw e (sym (rest-turn f last slots i before s h k) ∙ g .same); within = omega arith }
+
+  pub left-end : last ≤ i → s ≡ fold f s₀ (upTo last slots)
+  left-end h = sym (rest-end f last slots i before s h) ∙ g .same
 
 -- ---- the last rise, from the end
 pub slot-at : (slots : List ℕ) (i : ℕ) → (i ≡ 0 → ⊥) → getD slots (i - 1) 0 ≡ slotBefore 0 slots i
@@ -79,13 +91,12 @@ unfolding fold checkStep
 fails-on a t c [] h = h
 fails-on a t c (x ∷ xs) h = fails-on a t (checkStep a t c x) xs (simp h)
 
-module _ (a t : Float) (last : ℕ) (slots : List ℕ) (i before : ℕ) (c : Check) (e : rest (checkStep a t) last slots i before c ≡ fold (checkStep a t) noCheck (upTo last slots)) where
-  pub check-fails : (d : Check) → i < last → last ≤ length slots → d ≡ turned (checkStep a t) before (getD slots i 0) c → d .ok ≡ false → NoGrid ≡ checkOf (upTo last slots) a t
+module _ (a t : Float) {last : ℕ} {slots : List ℕ} {i before : ℕ} {c : Check} (g : Left (checkStep a t) noCheck last slots i before c) where
+  pub check-fails : {d : Check} → i < last → last ≤ length slots → d ≡ turned (checkStep a t) before (getD slots i 0) c → d .ok ≡ false → NoGrid ≡ checkOf (upTo last slots) a t
   unfolding rest checkOf answerOf
-  check-fails d h k ed f =
-      let turn : rest (checkStep a t) last slots (i + 1) (getD slots i 0) d ≡ fold (checkStep a t) noCheck (upTo last slots) = rw ed (sym (rest-turn (checkStep a t) last slots i before c h k) ∙ e) in
-      sym (simp (ap (λ (z : Check). z .ok) (sym turn) ∙ fails-on a t d (times (getD slots i 0) (take (last - (i + 1)) (drop (i + 1) slots))) f))
+  check-fails {d} h k e f =
+      sym (simp (ap (λ (z : Check). z .ok) (sym (left-turn g h k e .same)) ∙ fails-on a t d (times (getD slots i 0) (take (last - (i + 1)) (drop (i + 1) slots))) f))
 
   pub check-passes : last ≤ i → c .ok ≡ true → On a t (c .cost) ≡ checkOf (upTo last slots) a t
   unfolding checkOf answerOf
-  check-passes h f = rw (← e, rest-end (checkStep a t) last slots i before c h, f)
+  check-passes h f = rw (← left-end g h, f)

@@ -1,10 +1,13 @@
 -- `symbols` and `grid_fit` (document 01, "Grid"): the least-squares grid a + k t of a frame's transitions. Each operation is rounded once, in the Rust's order.
 use mathlib.Core.Bool.{Bool, true, cond, _&&_}
 use mathlib.Core.List.{List}
+use mathlib.Core.Path.{_≡_}
+use Prim.Native.Nat.{ℕ, _≤_}
+use lib.ListN.{length}
 use lib.Ieee.{Float, binary64, add, sub, mul, div, lt, le, ofBits}
 use Rattle.arith.specs.Rounding.{roundOf}
 use Rattle.arith.specs.Leaves.{absOf, maxOf, zero64, one64}
-use Rattle.grid.specs.Slots.{fold}
+use Rattle.grid.specs.Slots.{upTo, fold}
 use Rattle.grid.specs.declared.Prev.{Prev}
 use Rattle.grid.specs.declared.Prev.the-variants.{Unset, At}
 use Rattle.grid.specs.declared.Line.{Line}
@@ -14,6 +17,7 @@ use Rattle.grid.specs.declared.Grid.the-variants.{NoGrid, On}
 use Rattle.grid.specs.declared.Sums.{Sums}
 use Rattle.grid.specs.declared.RunEnd.{RunEnd}
 use Rattle.grid.specs.declared.Check.{Check}
+use Rattle.grid.specs.declared.Fitted.{Fitted}
 
 -- GRID_TOL, 0.25
 abbrev pub gridTol : Float
@@ -114,6 +118,10 @@ checkLine ts (Rising a t) = checkOf ts a t
 unfoldable pub secondOf : List Float → Line → Grid
 secondOf ts NoLine = NoGrid
 secondOf ts (Rising a t) = checkLine ts (fitOf ts t)
+
+-- what a search keeps of the mean: the line of its first fit, and the grid that the second gave
+abbrev pub Known : List ℕ → ℕ → Fitted → Type 0
+Known slots last mean = (last ≤ length slots) × (mean .grid ≡ secondOf (upTo last slots) (mean .line))
 
 unfoldable pub gridFitOf : List Float → Float → Grid
 gridFitOf ts guess = secondOf ts (fitOf ts guess)

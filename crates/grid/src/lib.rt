@@ -4,13 +4,13 @@
 ghost use mathlib.Core.Path.{_≡_};
 ghost use mathlib.Core.Bool.{true, cond, _&&_};
 ghost use Prim.Native.Nat.{_+_, _<_, _≤_};
-ghost use lib.ListN.{length, getD};
+ghost use lib.ListN.{length};
 ghost use lib.Dec.{ltb, eqb};
 ghost use lib.Ieee.{binary64, toBits};
 ghost use Rattle.arith.specs.Leaves.{zero64};
-ghost use Rattle.grid.specs.Slots.{timeOf, slotBefore, lastRise, upTo, fold, turned};
-ghost use Rattle.grid.specs.Fit.{symbolsOf, kAfter, fitStep, noSums, sumsOf, lineWith, lineOf, fitOf, runAfter, checkStep, checkOf, secondOf, gridFitOf};
-ghost use Rattle.grid.specs.Widths.{gridCand, shorterOf, runsStep, noRuns, runsOf, addedOf, meanAfter, meanStep, meanOf, betterOf, triedOf, tryAfter, tryStep, searchOf, gridOf, endOf, clockOf, placeOf, atStart, onGridOf, measuredOf, fskWidthsOf};
+ghost use Rattle.grid.specs.Slots.{timeOf, slotBefore, lastRise, upTo, turned};
+ghost use Rattle.grid.specs.Fit.{symbolsOf, kAfter, fitStep, sumsOf, lineWith, lineOf, fitOf, runAfter, checkStep, checkOf, secondOf, Known, gridFitOf};
+ghost use Rattle.grid.specs.Widths.{gridCand, shorterOf, runsStep, runsOf, addedOf, meanAfter, meanStep, meanOf, betterOf, triedOf, tryAfter, tryStep, searchOf, gridOf, endOf, clockOf, placeOf, atStart, onGridOf, measuredOf, fskWidthsOf};
 
 // The resolution of the run ends kept during an FSK frame: 1 / RUN_FIX steps.
 const RUN_FIX: f64 = 64.0;
@@ -474,7 +474,7 @@ fn same(t: f64, u: f64) -> bool
 // number of symbols, rounded with guess, then once more with the fitted symbol. Where the first fit has the symbol of
 // the mean's first fit, the second is the mean's too, and its grid is known.
 fn grid_fit(slots: &[u32], last: usize, mean: Fitted, guess: f64) -> Grid
-    requires { ⌜ (last ≤ length (now slots)) × (mean .grid ≡ secondOf (upTo last (now slots)) (mean .line)) ⌝ }
+    requires { ⌜ Known (now slots) last mean ⌝ }
     ensures { λ r. ⌜ r ≡ gridFitOf (upTo last (now (slots .entry))) guess ⌝ }
 {
     let first = fit_with(slots, last, guess);
@@ -502,26 +502,20 @@ fn tried_with(
     d: f64,
     x: f64,
 ) -> Tries
-    requires { ⌜ (last ≤ length (now slots)) × (mean .grid ≡ secondOf (upTo last (now slots)) (mean .line)) ⌝ }
+    requires { ⌜ Known (now slots) last mean ⌝ }
     ensures { λ r. ⌜ r ≡ triedOf (one && ltb (s .tried) gridCand) (upTo last (now (slots .entry))) s d x ⌝ }
 {
     let here = Prev::At(x);
     let grid = s.grid;
     let tried = s.tried;
-    if one {
-        if tried < GRID_CAND {
-            let f = grid_fit(slots, last, mean, d);
-            let g = better(grid, f);
-            let next = tried + 1;
-            return Tries {
-                tried: next,
-                grid: g,
-                prev: here,
-            };
-        }
+    let more = both(one, tried < GRID_CAND);
+    if more {
+        let f = grid_fit(slots, last, mean, d);
+        let g = better(grid, f);
+        let next = tried + 1;
         return Tries {
-            tried,
-            grid,
+            tried: next,
+            grid: g,
             prev: here,
         };
     }
@@ -541,7 +535,7 @@ fn try_after(
     x: f64,
     shortest: f64,
 ) -> Tries
-    requires { ⌜ (last ≤ length (now slots)) × (mean .grid ≡ secondOf (upTo last (now slots)) (mean .line)) ⌝ }
+    requires { ⌜ Known (now slots) last mean ⌝ }
     ensures { λ r. ⌜ r ≡ tryAfter prev (upTo last (now (slots .entry))) shortest s x ⌝ }
 {
     match prev {
@@ -559,7 +553,7 @@ fn try_turn(
     v: u32,
     shortest: f64,
 ) -> Tries
-    requires { ⌜ (last ≤ length (now slots)) × (mean .grid ≡ secondOf (upTo last (now slots)) (mean .line)) ⌝ }
+    requires { ⌜ Known (now slots) last mean ⌝ }
     ensures { λ r. ⌜ r ≡ turned (tryStep (upTo last (now (slots .entry))) shortest) before v s ⌝ }
 {
     let up = before < v;
@@ -610,13 +604,9 @@ fn grid_of(slots: &[u32], last: usize, runs: Runs) -> Grid
     ensures { λ r. ⌜ r ≡ gridOf (upTo last (now (slots .entry))) runs ⌝ }
 {
     let m = mean_of(slots, last, runs.shortest);
-    let some = m.n > 0.0;
-    let enough = GRID_MIN <= runs.count;
+    let enough = both(GRID_MIN <= runs.count, m.n > 0.0);
     if enough {
-        if some {
-            return search(slots, last, runs.shortest, m);
-        }
-        return Grid::NoGrid;
+        return search(slots, last, runs.shortest, m);
     }
     Grid::NoGrid
 }

@@ -1,17 +1,17 @@
 -- A sample of a burst, and the burst's beginning, stay within refusal 4's limits: from a burst under way each sample leads to one, or the burst ends.
 use Prim.Native.Nat.{ℕ, zero, suc, _+_, _*_, _-_, _^_, _<_, _≤_}
-use mathlib.Core.Bool.{Bool, true, false, cond}
+use mathlib.Core.Bool.{Bool, true, false}
 use mathlib.Core.Path.{_≡_, refl}
 use mathlib.Core.List.{List}
 use native.Mathlib.Omega.{arith}
 use lib.Dec.{eqb}
 use lib.Ieee.{Float}
-use Rattle.ook.specs.Answers.{nextNumberOf, isStayOf}
+use Rattle.ook.specs.Answers.{isStayOf}
 use Rattle.ook.specs.Params.{fskMinOf}
 use Rattle.ook.specs.Limits.{either, EnvWithin, TrainWithin, OutWithin, empty-within, begin-env-within}
 use Rattle.ook.specs.declared.Settings.{Settings}
 use Rattle.fsk.specs.declared.Frame.{Frame}
-use Rattle.presence.specs.Presence.{snapOf, presenceOf}
+use Rattle.presence.specs.Presence.{presenceOf}
 use Rattle.presence.specs.declared.Pres.{Pres}
 use Rattle.presence.specs.declared.Snapped.{Snapped}
 use Rattle.presence.specs.declared.Present.{Present}
@@ -23,14 +23,13 @@ use Rattle.stages.specs.declared.At.{At}
 use Rattle.stages.specs.declared.Seen.{Seen}
 use Rattle.stages.specs.declared.Acted.{Acted}
 use Rattle.burst.specs.Makers.{withActed, bodyIn, withBody}
-use Rattle.burst.specs.Sample.{snapIfOf, absenceOf, inputsOf, lastOf, presentBy, presentOf, restOf, actedBy, seenBy, sampleOf}
-use Rattle.burst.specs.Lead.{beginBurstOf, leadAtOf, onward, replayFrom, staying}
+use Rattle.burst.specs.Sample.{snapIfOf, absenceOf, inputsOf, lastOf, presentBy, presentOf, restOf, actedBy, sampleOf}
+use Rattle.burst.specs.Lead.{beginBurstOf, leadAtOf, onward, replayFrom}
 use Rattle.burst.specs.declared.Burst.{Burst}
 use Rattle.burst.specs.declared.Lead.{Lead}
 use Rattle.burst.specs.declared.Sampled.{Sampled}
 use Rattle.limits.specs.Fsk.{FrameWithin}
-use Rattle.limits.specs.Frame.{BodyWithin}
-use Rattle.limits.specs.Presence.{PresWithin, Running, PresentWithin, AnswerWithin, presence-within, snap-within}
+use Rattle.limits.specs.Presence.{PresWithin, Running, AnswerWithin, presence-within, snap-within}
 
 -- what holds of a burst at all times, ended or not
 pub record BurstWithin (p : Settings) (b : Burst) : Type 0 where
@@ -58,7 +57,7 @@ module _ (p : Settings) (fits : p .«max_pulses» < 2 ^ 32) where
   last-within on e b ook fsk h r =
       let d : Within (p .«max_pulses») (tailOf p on e (b .env .run) (absenceOf b) (b .high) (b .train) (b .«out_ook») ook) = tail-within p fits on e (b .env .run) (absenceOf b) (b .high) (b .train) (b .«out_ook») ook (h .train-within) (h .ook-within) in
       record {
-        within = record { env-within = h .env-within; train-within = d .train-within; ook-within = d .out-within; fsk-within = h .fsk-within; pres-within = h .pres-within; frame-within = h .frame-within };
+        within = search;
         running = λ z. r;
       }
 
@@ -66,15 +65,7 @@ module _ (p : Settings) (fits : p .«max_pulses» < 2 ^ 32) where
   present-by-within a s b q v h = go (isStayOf (q .0 .next)) refl
     where
       after : BurstWithin p (withBody (q .0 .pres) (q .0 .body) b)
-      after =
-          record {
-            env-within = v;
-            train-within = h .body-within .train-within;
-            ook-within = h .body-within .ook-within;
-            fsk-within = h .body-within .fsk-within;
-            pres-within = h .flags;
-            frame-within = h .body-within .frame-within;
-          }
+      after = search
 
       go : (stay : Bool) → isStayOf (q .0 .next) ≡ stay → StepsWithin p (presentBy p a s b q)
       go true e = rw e (last-within (s .on) (a .e) (withBody (q .0 .pres) (q .0 .body) b) (q .1) (q .2) after (h .running e))
@@ -87,21 +78,13 @@ module _ (p : Settings) (fits : p .«max_pulses» < 2 ^ 32) where
         either (StepsWithin p) (eqb (p .mode) 0)
         (last-within (s .on) (a .e) b ook fsk h r)
         (present-by-within a s b (presenceOf p (inputsOf a ep s b) (b .pres) (bodyIn b) ook fsk) (h .env-within)
-        (presence-within p fits (inputsOf a ep s b) ook small (b .pres) (bodyIn b) fsk r (record { frame-within = h .frame-within; train-within = h .train-within; ook-within = h .ook-within; fsk-within = h .fsk-within })))
+        (presence-within p fits (inputsOf a ep s b) ook small (b .pres) (bodyIn b) fsk r (search)))
 
     acted-within : (a : At) (b : Burst) (s : Seen) (n : Snapped) (fsk : List ℕ) (q : Acted × List ℕ) → BurstWithin p b → ActedWithin (p .«max_pulses») (q .0) → Running (p .«max_pulses») (fskMinOf (p .«min_steps»)) (p .«long_steps») (n .pres) (n .frame) → StepsWithin p (actedBy p a b s n fsk q)
     acted-within a b s n fsk q h d r = go (isStayOf (q .0 .next)) refl
       where
         after : BurstWithin p (withActed (a .e) s n (q .0) b)
-        after =
-            record {
-              env-within = d .env-within;
-              train-within = d .train-within;
-              ook-within = d .out-within;
-              fsk-within = h .fsk-within;
-              pres-within = r .flags;
-              frame-within = r .most;
-            }
+        after = search
 
         go : (stay : Bool) → isStayOf (q .0 .next) ≡ stay → StepsWithin p (actedBy p a b s n fsk q)
         go true e = rw e (rest-within a (b .«e_prev») s (withActed (a .e) s n (q .0) b) (q .1) fsk after r)
@@ -136,18 +119,6 @@ module _ (p : Settings) (fits : p .«max_pulses» < 2 ^ 32) where
   pub begin-burst-within : (high t e : Float) (b : Burst) → BurstWithin p b → BurstWithin p (beginBurstOf high t e b) × Runs p (beginBurstOf high t e b)
   unfolding beginBurstOf
   begin-burst-within high t e b h = (
-    record {
-      env-within = begin-env-within t (b .env) (h .env-within);
-      train-within = empty-within (p .«max_pulses») fits (b .train);
-      ook-within = h .ook-within;
-      fsk-within = h .fsk-within;
-      pres-within = record { level-flag = omega arith; confirmed-flag = omega arith };
-      frame-within = h .frame-within;
-    },
-    record {
-      flags = record { level-flag = omega arith; confirmed-flag = omega arith };
-      most = h .frame-within;
-      present = λ q. let no : ⊥ = omega (arith, q) in elim no [ ];
-      absent = λ q z. let no : ⊥ = omega (arith, z) in elim no [ ];
-    },
+    search (begin-env-within, empty-within, arith),
+    record { flags = omega arith; most = h .frame-within; present = λ q. absurd (omega arith); absent = λ q z. absurd (omega arith) },
   )

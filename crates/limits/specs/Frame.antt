@@ -1,16 +1,13 @@
 -- The end of a presence stays within refusal 4's limits: a frame's end commits at most one run more, and the cut of the train keeps at most what it had.
 use Prim.Native.Nat.{ℕ, zero, suc, _+_, _*_, _-_, _%_, _^_, _<_, _≤_}
-use mathlib.Core.Bool.{Bool, true, false, cond, not}
-use mathlib.Core.Path.{_≡_, refl}
 use mathlib.Core.List.{List}
 use native.Mathlib.Omega.{arith}
 use lib.ListN.{getD}
-use lib.Dec.{ltb, leb, eqb}
+use lib.Dec.{eqb}
 use lib.Ieee.{Float, le, sub, binary64, ofBits}
 use borrow.Author.Tests.{eqb-true, eqb-false}
 use Rattle.arith.specs.declared.C32.{C32}
-use Rattle.ook.specs.Counts.{inc, bit}
-use Rattle.ook.specs.Limits.{either, bit-flag, TrainWithin, OutWithin, empty-within, end-train-within}
+use Rattle.ook.specs.Limits.{either, by-test, bit-flag, TrainWithin, OutWithin, empty-within, end-train-within}
 use Rattle.ook.specs.Train.{withPairs, withEnd, endTrainOf}
 use Rattle.ook.specs.declared.Train.{Train}
 use Rattle.ook.specs.declared.Out.{Out}
@@ -22,11 +19,11 @@ use Rattle.fsk.specs.declared.Runs.{Runs}
 use Rattle.fsk.specs.declared.Frame.{Frame}
 use Rattle.frame.specs.End.{isSplitOf, enoughRunsOf, isFrameOf, lastRunOf, closePairOf, closeBy, framedBy, outOf, endFrameOf}
 use Rattle.frame.specs.Cut.{gapAtOf, keepNextOf, keepFrom, keepBeforeOf, startKeptOf, cutBy, cutTrainOf}
-use Rattle.frame.specs.Done.{frameDoneBy, frameDoneOf}
+use Rattle.frame.specs.Done.{frameDoneOf}
 use Rattle.frame.specs.declared.Framed.{Framed}
 use Rattle.frame.specs.declared.Kept.{Kept}
 use Rattle.frame.specs.declared.Body.{Body}
-use Rattle.limits.specs.Fsk.{by-test, inc-most, CommittedWithin, CommitWithin, FrameWithin, committed-more, commit-within}
+use Rattle.limits.specs.Fsk.{inc-most, CommittedWithin, CommitWithin, FrameWithin, commit-within}
 
 -- ---- end_frame
 
@@ -35,21 +32,21 @@ module _ (max m : ℕ) where
   unfolding lastRunOf
   last-run-within phase r c end fsk h =
       either (CommitWithin max (m + 1)) (eqb phase 0)
-      (commit-within max m c true (r .«ft_run») end fsk h)
+      (search commit-within)
       (either (CommitWithin max (m + 1)) (eqb (r .«fsk_has_prev») 1)
-      (commit-within max m c (not (eqb (r .«fsk_level») 1)) (r .«ft_prev») end fsk h)
-      (commit-within max m c (eqb (r .«fsk_level») 1) (r .«ft_run») end fsk h))
+      (search commit-within)
+      (search commit-within))
 
   close-pair-within : (c : Committed) (fsk : List ℕ) → CommittedWithin max m c → CommitWithin max m (closePairOf c fsk)
   unfolding closePairOf
   close-pair-within c fsk h =
       by-test (CommitWithin max m) (eqb (c .«fsk_open») 1)
-      (λ q. record { open-flag = omega arith; full-flag = h .full-flag; pairs = omega (arith, inc-most (c .«fsk_n»), h .pairs, eqb-true (c .«fsk_open») 1 q); runs-most = h .runs-most })
+      (λ q. omega (arith, inc-most (c .«fsk_n»), eqb-true (c .«fsk_open») 1 q))
       (λ q. h)
 
   out-within : (start end : Float) (c : Committed) (high : Float) (k : Carrier) → CommittedWithin max m c → OutWithin max (outOf start end c high k)
   unfolding outOf
-  out-within start end c high k h = record { state-flag = omega arith; cut-flag = bit-flag (eqb (c .«fsk_full») 1); kind-flag = omega arith; room = omega (arith, h .pairs) }
+  out-within start end c high k h = omega (arith, bit-flag (eqb (c .«fsk_full») 1))
 
 pub record FramedWithin (max least k m : ℕ) (f : Framed) : Type 0 where
   pub frame-within : FrameWithin max least k m (f .frame)
@@ -60,21 +57,10 @@ EndWithin max least k m q = FramedWithin max least k m (q .0)
 
 module _ (p : Settings) (least k m : ℕ) where
   framed-within : (fr : Frame) (high : Float) (pac : C32) (start end : Float) (q : Committed × List ℕ) → FrameWithin (p .«max_pulses») least k m fr → CommitWithin (p .«max_pulses») (m + 1) q → EndWithin (p .«max_pulses») least k (m + 1) (framedBy fr high pac start end q)
-  framed-within fr high pac start end q h d =
-      record {
-        frame-within = record {
-          phase-flag = h .phase-flag;
-          early-flag = h .early-flag;
-          candidates = h .candidates;
-          count = h .count;
-          runs-within = h .runs-within;
-          done-within = d;
-        };
-        out-within = out-within (p .«max_pulses») (m + 1) start end (q .0) high _ d;
-      }
+  framed-within fr high pac start end q h d = search (out-within, arith)
 
   frame-more : (fr : Frame) → FrameWithin (p .«max_pulses») least k m fr → FrameWithin (p .«max_pulses») least k (m + 1) fr
-  frame-more fr h = record { phase-flag = h .phase-flag; early-flag = h .early-flag; candidates = h .candidates; count = h .count; runs-within = h .runs-within; done-within = committed-more (p .«max_pulses») m (fr .done) (h .done-within) }
+  frame-more fr h = search arith
 
   pub end-frame-within : (fr : Frame) (high : Float) (pac : C32) (start end : Float) (out : Out) (fsk : List ℕ) → FrameWithin (p .«max_pulses») least k m fr → OutWithin (p .«max_pulses») out → EndWithin (p .«max_pulses») least k (m + 1) (endFrameOf p fr high pac start end out fsk)
   unfolding endFrameOf
@@ -114,7 +100,7 @@ module _ (max : ℕ) (fits : max < 2 ^ 32) where
   cut-by-within t high out ook s n h o =
       by-test (CutWithin max) (eqb (s .keep) 0)
       (λ q. record { train-within = empty-within max fits t; out-within = o })
-      (λ q. ended-within (withEnd (s .end) (withPairs (s .keep - 1) 1 t)) high out ook (record { started-flag = h .started-flag; open-flag = omega arith; truncated-flag = h .truncated-flag; pulses = omega (arith, eqb-false (s .keep) 0 q) }) o)
+      (λ q. ended-within (withEnd (s .end) (withPairs (s .keep - 1) 1 t)) high out ook (omega (arith, eqb-false (s .keep) 0 q)) o)
 
   pub cut-train-within : (t : Train) (high : Float) (out : Out) (start : Float) (ook : List ℕ) → TrainWithin max t → OutWithin max out → CutWithin max (cutTrainOf t high out start ook)
   unfolding cutTrainOf
@@ -143,6 +129,6 @@ frame-done-within p fits least k m b high pac start end ook fsk h =
     let c : CutWithin (p .«max_pulses») (cutTrainOf (b .train) high (b .«out_ook») start ook) = cut-train-within (p .«max_pulses») fits (b .train) high (b .«out_ook») start ook (h .train-within) (h .ook-within) in
     either (DoneWithin (p .«max_pulses») least k (m + 1)) (eqb (endFrameOf p (b .frame) high pac start end (b .«out_fsk») fsk .0 .«is_fsk») 1)
     (either (DoneWithin (p .«max_pulses») least k (m + 1)) (eqb (p .mode) 2)
-    (record { frame-within = f .frame-within; train-within = c .train-within; ook-within = c .out-within; fsk-within = f .out-within })
-    (record { frame-within = f .frame-within; train-within = h .train-within; ook-within = h .ook-within; fsk-within = f .out-within }))
-    (record { frame-within = f .frame-within; train-within = h .train-within; ook-within = h .ook-within; fsk-within = f .out-within })
+    (search)
+    (search))
+    (search)

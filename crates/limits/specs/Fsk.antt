@@ -1,17 +1,16 @@
 -- What refusal 4 of document 01 asks of a frame, and that each definition leads from there to there: flags stay 0 or 1, pairs plus open stay at most
 -- max_pulses, candidates stay below fsk_min before the first transition, and each count grows by what is stated.
-use Prim.Native.Nat.{ℕ, suc, min, _+_, _*_, _-_, _%_, _^_, _<_, _≤_}
-use mathlib.Core.Bool.{Bool, true, false, cond, not}
-use mathlib.Core.Path.{_≡_, refl}
+use Prim.Native.Nat.{ℕ, _+_, _-_, _<_, _≤_}
+use mathlib.Core.Bool.{Bool, not}
+use mathlib.Core.Path.{_≡_}
 use mathlib.Core.List.{List}
 use native.Mathlib.Omega.{arith}
-use lib.Dec.{ltb, leb, eqb}
+use lib.Dec.{leb, eqb}
 use lib.Ieee.{Float, lt}
 use borrow.Author.Tests.{leb-false, eqb-false}
 use Rattle.arith.specs.Leaves.{fskWidthOf}
 use Rattle.ook.specs.Counts.{inc, bit}
-use Rattle.ook.specs.Limits.{either, bit-flag}
-use Rattle.fsk.specs.Makers.{withFull, withConfirmed, ranOf}
+use Rattle.ook.specs.Limits.{either, by-test, bit-flag}
 use Rattle.fsk.specs.Commit.{countRunOf, upperRunOf, lowerRunOf, fskCommitOf}
 use Rattle.fsk.specs.RunStep.{lengthenOf, rejoinOf, beginRunOf, confirmOf, confirmDueOf, fskRunStepOf}
 use Rattle.fsk.specs.Resolve.{beginFrameOf, isEarlyOf, openRunsOf, turnAtOf, sliceThrOf, hiLoOf, settleOf, fskResolveOf}
@@ -25,11 +24,6 @@ use Rattle.fsk.specs.declared.Opening.{Opening}
 pub inc-most : (n : ℕ) → inc n ≤ n + 1
 unfolding inc
 inc-most n = omega arith
-
--- a test with its outcome in either arm
-pub by-test : {A : Type 0} (P : A → Type 0) (b : Bool) {x y : A} → (b ≡ true → P x) → (b ≡ false → P y) → P (cond b x y)
-by-test P true f g = f refl
-by-test P false f g = g refl
 
 -- at most m runs are committed
 pub record CommittedWithin (max m : ℕ) (c : Committed) : Type 0 where
@@ -52,12 +46,6 @@ pub record FrameWithin (max least k m : ℕ) (fr : Frame) : Type 0 where
   pub runs-within : RunsWithin (fr .runs)
   pub done-within : CommittedWithin max m (fr .done)
 
-pub committed-more : (max m : ℕ) (c : Committed) → CommittedWithin max m c → CommittedWithin max (m + 1) c
-committed-more max m c h = record { open-flag = h .open-flag; full-flag = h .full-flag; pairs = h .pairs; runs-most = omega (arith, h .runs-most) }
-
-pub full-within : (max m : ℕ) (c : Committed) → CommittedWithin max m c → CommittedWithin max m (withFull 1 c)
-full-within max m c h = record { open-flag = h .open-flag; full-flag = omega arith; pairs = h .pairs; runs-most = h .runs-most }
-
 abbrev pub CommitWithin : ℕ → ℕ → Committed × List ℕ → Type 0
 CommitWithin max m q = CommittedWithin max m (q .0)
 
@@ -66,29 +54,29 @@ module _ (max m : ℕ) where
   unfolding upperRunOf
   upper-run-within c b fsk h =
       by-test (CommitWithin max m) (leb max (c .«fsk_n»))
-      (λ t. full-within max m c h)
-      (λ t. record { open-flag = omega arith; full-flag = h .full-flag; pairs = omega (arith, leb-false max (c .«fsk_n») t); runs-most = h .runs-most })
+      (λ t. omega arith)
+      (λ t. omega (arith, leb-false max (c .«fsk_n») t))
 
   lower-run-within : (c : Committed) (a b : Float) (fsk : List ℕ) → CommittedWithin max m c → CommitWithin max m (lowerRunOf max c a b fsk)
   unfolding lowerRunOf
   lower-run-within c a b fsk h =
       by-test (CommitWithin max m) (eqb (c .«fsk_open») 0)
       (λ t. by-test (CommitWithin max m) (leb max (c .«fsk_n»))
-      (λ u. full-within max m c h)
-      (λ u. record { open-flag = omega arith; full-flag = h .full-flag; pairs = omega (arith, inc-most (c .«fsk_n»), leb-false max (c .«fsk_n») u); runs-most = h .runs-most }))
-      (λ t. record { open-flag = omega arith; full-flag = h .full-flag; pairs = omega (arith, inc-most (c .«fsk_n»), h .pairs, eqb-false (c .«fsk_open») 0 t); runs-most = h .runs-most })
+      (λ u. omega arith)
+      (λ u. omega (arith, inc-most (c .«fsk_n»), leb-false max (c .«fsk_n») u)))
+      (λ t. omega (arith, inc-most (c .«fsk_n»), eqb-false (c .«fsk_open») 0 t))
 
 module _ (max m : ℕ) where
   count-run-within : (c : Committed) (a : Float) → CommittedWithin max m c → CommittedWithin max (m + 1) (countRunOf c a)
   unfolding countRunOf
-  count-run-within c a h = record { open-flag = h .open-flag; full-flag = h .full-flag; pairs = h .pairs; runs-most = omega (arith, inc-most (c .«fsk_runs»), h .runs-most) }
+  count-run-within c a h = omega (arith, inc-most (c .«fsk_runs»))
 
   -- a commit counts at most one run
   pub commit-within : (c : Committed) (upper : Bool) (a b : Float) (fsk : List ℕ) → CommittedWithin max m c → CommitWithin max (m + 1) (fskCommitOf max c upper a b fsk)
   unfolding fskCommitOf
   commit-within c upper a b fsk h =
-      either (CommitWithin max (m + 1)) (eqb (c .«fsk_full») 1) (committed-more max m c h)
-      (either (CommitWithin max (m + 1)) (eqb (fskWidthOf a b .0) 0) (committed-more max m c h)
+      either (CommitWithin max (m + 1)) (eqb (c .«fsk_full») 1) (omega arith)
+      (either (CommitWithin max (m + 1)) (eqb (fskWidthOf a b .0) 0) (omega arith)
       (either (CommitWithin max (m + 1)) upper
       (upper-run-within max (m + 1) (countRunOf c a) b fsk (count-run-within c a h))
       (lower-run-within max (m + 1) (countRunOf c a) a b fsk (count-run-within c a h))))
@@ -104,23 +92,23 @@ StepWithin max m q = RanWithin max m (q .0)
 
 pub lengthen-within : (r : Runs) → RunsWithin r → RunsWithin (lengthenOf r)
 unfolding lengthenOf
-lengthen-within r h = record { level-flag = h .level-flag; confirmed-flag = h .confirmed-flag; has-prev-flag = h .has-prev-flag }
+lengthen-within r h = omega arith
 
 rejoin-within : (r : Runs) (upper : Bool) → RunsWithin (rejoinOf r (bit upper))
 unfolding rejoinOf
-rejoin-within r upper = record { level-flag = bit-flag upper; confirmed-flag = omega arith; has-prev-flag = omega arith }
+rejoin-within r upper = omega (arith, bit-flag upper)
 
 begin-run-within : (r : Runs) (upper : Bool) (tc : Float) → RunsWithin (beginRunOf r (bit upper) tc)
 unfolding beginRunOf
-begin-run-within r upper tc = record { level-flag = bit-flag upper; confirmed-flag = omega arith; has-prev-flag = omega arith }
+begin-run-within r upper tc = omega (arith, bit-flag upper)
 
 module _ (max m : ℕ) where
   confirm-within : (r : Runs) (c : Committed) (upper : Bool) (fsk : List ℕ) → RunsWithin r → CommittedWithin max m c → StepWithin max (m + 1) (confirmOf max r c upper fsk)
   unfolding confirmOf
   confirm-within r c upper fsk h d =
       either (StepWithin max (m + 1)) (eqb (r .«fsk_has_prev») 1)
-      (record { runs-within = record { level-flag = h .level-flag; confirmed-flag = omega arith; has-prev-flag = omega arith }; done-within = commit-within max m c (not upper) (r .«ft_prev») (r .«ft_run») fsk d })
-      (record { runs-within = record { level-flag = h .level-flag; confirmed-flag = omega arith; has-prev-flag = h .has-prev-flag }; done-within = committed-more max m c d })
+      (search (commit-within, arith))
+      (search arith)
 
   confirm-due-within : (least : ℕ) (r : Runs) (c : Committed) (upper : Bool) (fsk : List ℕ) → RunsWithin r → CommittedWithin max m c → StepWithin max (m + 1) (confirmDueOf max least r c upper fsk)
   unfolding confirmDueOf
@@ -128,8 +116,8 @@ module _ (max m : ℕ) where
       either (StepWithin max (m + 1)) (eqb (r .«fsk_confirmed») 0)
       (either (StepWithin max (m + 1)) (leb least (r .«fsk_run»))
       (confirm-within r c upper fsk h d)
-      (record { runs-within = h; done-within = committed-more max m c d }))
-      (record { runs-within = h; done-within = committed-more max m c d })
+      (search arith))
+      (search arith)
 
   -- a step commits at most one run
   pub run-step-within : (least : ℕ) (r : Runs) (c : Committed) (upper : Bool) (tc : Float) (fsk : List ℕ) → RunsWithin r → CommittedWithin max m c → StepWithin max (m + 1) (fskRunStepOf max least r c upper tc fsk)
@@ -140,7 +128,7 @@ module _ (max m : ℕ) where
       (confirm-due-within least (lengthenOf r) c upper fsk (lengthen-within r h) d)
       (either (StepWithin max (m + 1)) (eqb (r .«fsk_confirmed») 0)
       (either (StepWithin max (m + 1)) (eqb (r .«fsk_has_prev») 1)
-      (record { runs-within = rejoin-within r upper; done-within = committed-more max m c d })
+      (search (rejoin-within, arith))
       begun)
       begun)
 
@@ -148,15 +136,7 @@ module _ (max m : ℕ) where
 
 pub begin-frame-within : (max least : ℕ) (fr : Frame) (t : Float) → 0 < least → FrameWithin max least 0 0 (beginFrameOf fr t)
 unfolding beginFrameOf
-begin-frame-within max least fr t h =
-    record {
-      phase-flag = omega arith;
-      early-flag = omega arith;
-      candidates = λ q. h;
-      count = omega arith;
-      runs-within = record { level-flag = omega arith; confirmed-flag = omega arith; has-prev-flag = omega arith };
-      done-within = record { open-flag = omega arith; full-flag = omega arith; pairs = omega arith; runs-most = omega arith };
-    }
+begin-frame-within max least fr t h = search arith
 
 -- the first transition commits at most two runs
 
@@ -167,14 +147,14 @@ module _ (max m : ℕ) where
   open-runs-within : (early up : Bool) (from t : Float) (c : Committed) (fsk : List ℕ) → CommittedWithin max m c → OpeningWithin max (m + 1) (openRunsOf max early up from t c fsk)
   unfolding openRunsOf
   open-runs-within early up from t c fsk h =
-      either (OpeningWithin max (m + 1)) early (commit-within max m c (not up) from t fsk h) (committed-more max m c h)
+      either (OpeningWithin max (m + 1)) early (commit-within max m c (not up) from t fsk h) (omega arith)
 
   settle-within : (least : ℕ) (up : Bool) (run : ℕ) (t : Turn) (o : Opening) (fsk : List ℕ) → CommittedWithin max m (o .done) → StepWithin max (m + 1) (settleOf max least up run t o fsk)
   unfolding settleOf
   settle-within least up run t o fsk h =
       either (StepWithin max (m + 1)) (leb least (t .second))
-      (record { runs-within = record { level-flag = bit-flag (not up); confirmed-flag = omega arith; has-prev-flag = omega arith }; done-within = commit-within max m (o .done) up (o .from) (t .tc) fsk h })
-      (record { runs-within = record { level-flag = bit-flag (not up); confirmed-flag = omega arith; has-prev-flag = omega arith }; done-within = committed-more max m (o .done) h })
+      (search (commit-within, bit-flag (not up), arith))
+      (search (bit-flag (not up), arith))
 
 abbrev pub SampleWithin : ℕ → ℕ → ℕ → ℕ → Frame × List ℕ → Type 0
 SampleWithin max least k m q = FrameWithin max least k m (q .0)
@@ -187,11 +167,4 @@ resolve-within max least k m fr f idx fsk e n d =
     let lo : Float = hiLoOf up (fr .mean .«f_ref») f .«f_lo» in
     let opened : Opening × List ℕ = openRunsOf max (isEarlyOf (fr .early) up hi lo (fr .runs .«ft_run»)) up (fr .runs .«ft_run») (fr .early .«t_early») (fr .done) fsk in
     let s : StepWithin max (m + 1 + 1) (settleOf max least up (fr .runs .«fsk_run») (turnAtOf up (sliceThrOf up hi lo) (fr .cand) f idx) (opened .0) (opened .1)) = settle-within max (m + 1) least up (fr .runs .«fsk_run») _ (opened .0) (opened .1) (open-runs-within max m _ up (fr .runs .«ft_run») (fr .early .«t_early») (fr .done) fsk d) in
-    record {
-      phase-flag = omega arith;
-      early-flag = e;
-      candidates = λ q. omega arith;
-      count = n;
-      runs-within = s .runs-within;
-      done-within = s .done-within;
-    }
+    search arith

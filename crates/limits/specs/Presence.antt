@@ -1,52 +1,39 @@
 -- Presence stays within refusal 4's limits. The counts of a frame are bounded by the length of its presence, which ends at long_steps:
 -- while the carrier is present, and in a short absence, a frame has at most one counted sample and two committed runs for each sample of its presence.
-use Prim.Native.Nat.{ℕ, zero, suc, min, _+_, _*_, _-_, _^_, _<_, _≤_}
+use Prim.Native.Nat.{ℕ, _+_, _*_, _-_, _^_, _<_, _≤_}
 use mathlib.Core.Bool.{Bool, true, false, cond}
-use mathlib.Core.Path.{_≡_, refl, _∙_, sym}
+use mathlib.Core.Path.{_≡_, refl, sym}
 use mathlib.Core.List.{List}
 use native.Mathlib.Omega.{arith}
 use lib.Dec.{ltb, leb, eqb}
 use lib.IntN.{pos}
 use lib.Ieee.{Float, add, sub, binary64, ofInt}
 use borrow.Author.Tests.{eqb-true, eqb-false, ltb-false}
-use Rattle.arith.specs.declared.C32.{C32}
 use Rattle.arith.specs.Leaves.{one64, edgeOf, crossOf}
-use Rattle.ook.specs.Counts.{satAddOf, bit}
-use Rattle.ook.specs.Answers.{nextNumberOf, isStayOf}
+use Rattle.ook.specs.Counts.{satAddOf}
+use Rattle.ook.specs.Answers.{isStayOf}
 use Rattle.ook.specs.Params.{fskMinOf}
-use Rattle.ook.specs.Limits.{either}
-use Rattle.ook.specs.Train.{endTrainOf}
+use Rattle.ook.specs.Limits.{by-test}
 use Rattle.ook.specs.declared.Settings.{Settings}
-use Rattle.ook.specs.declared.Next.the-variants.{Stay, IdleAt}
-use Rattle.fsk.specs.Resolve.{beginFrameOf}
 use Rattle.fsk.specs.Makers.{withStart, withRuns}
 use Rattle.fsk.specs.declared.Frame.{Frame}
 use Rattle.slicer.specs.Tone.{upperOf}
-use Rattle.frame.specs.Done.{withFrame, frameDoneOf}
+use Rattle.frame.specs.Done.{frameDoneOf}
 use Rattle.frame.specs.declared.Body.{Body}
 use Rattle.presence.specs.Move as move
 use Rattle.presence.specs.Move.{presThrOf, lengthenOf, rejoinOf, beginRunOf, movePresOf, extendOf, moveFrameOf}
-use Rattle.presence.specs.Presence.{sliceIfOf, advanceAt, advanceOf, dueOf, sureIfOf, endsOf, endOf, endIfOf, longOf, fullBody, endTrainBy, endCarrierOf, carrierIfOf, carrierBy, confirmBy, afterAdvance, presenceOf, nearStartOf, snapOf}
+use Rattle.presence.specs.Presence.{sliceIfOf, advanceAt, advanceOf, dueOf, sureIfOf, endsOf, endOf, endIfOf, longOf, fullBody, endCarrierOf, carrierIfOf, carrierBy, confirmBy, afterAdvance, presenceOf, nearStartOf, snapOf}
 use Rattle.presence.specs.declared.Pres.{Pres}
 use Rattle.presence.specs.declared.Inputs.{Inputs}
-use Rattle.presence.specs.declared.Advanced.{Advanced}
 use Rattle.presence.specs.declared.Present.{Present}
 use Rattle.presence.specs.declared.Snapped.{Snapped}
-use Rattle.limits.specs.Fsk.{by-test, CommittedWithin, FrameWithin, SampleWithin, begin-frame-within, full-within}
+use Rattle.limits.specs.Fsk.{FrameWithin, begin-frame-within}
 use Rattle.limits.specs.Slicer.{fsk-min-above, sample-within}
 use Rattle.limits.specs.Frame.{BodyWithin, DoneWithin, ended-within, frame-done-within}
 
 -- larger bounds hold too
-pub frame-up : (max least k m k′ m′ : ℕ) (fr : Frame) → k ≤ k′ → m ≤ m′ → FrameWithin max least k m fr → FrameWithin max least k′ m′ fr
-frame-up max least k m k′ m′ fr i j h =
-    record {
-      phase-flag = h .phase-flag;
-      early-flag = h .early-flag;
-      candidates = h .candidates;
-      count = omega (arith, h .count);
-      runs-within = h .runs-within;
-      done-within = record { open-flag = h .done-within .open-flag; full-flag = h .done-within .full-flag; pairs = h .done-within .pairs; runs-most = omega (arith, h .done-within .runs-most) };
-    }
+frame-up : {max least k m k′ m′ : ℕ} {fr : Frame} → k ≤ k′ → m ≤ m′ → FrameWithin max least k m fr → FrameWithin max least k′ m′ fr
+frame-up i j h = search arith
 
 pub record PresWithin (s : Pres) : Type 0 where
   pub level-flag : s .«p_level» ≤ 1
@@ -59,12 +46,9 @@ pub record Running (max least long : ℕ) (s : Pres) (fr : Frame) : Type 0 where
   pub present : s .«p_level» ≡ 1 → (s .«p_run» ≤ long) × FrameWithin max least (s .«p_run») (2 * s .«p_run») fr
   pub absent : s .«p_level» ≡ 0 → s .«p_confirmed» ≡ 0 → (s .«p_prev» ≤ long) × FrameWithin max least (s .«p_prev») (2 * s .«p_prev») fr
 
--- a flag is 0 or 1
-not-one : (n : ℕ) → n ≤ 1 → eqb 1 n ≡ false → n ≡ 0
-not-one n h q = let z : 1 ≡ n → ⊥ = eqb-false 1 n q in omega (arith, z)
-
-not-zero : (n : ℕ) → n ≤ 1 → eqb 0 n ≡ false → n ≡ 1
-not-zero n h q = let z : 0 ≡ n → ⊥ = eqb-false 0 n q in omega (arith, z)
+-- of two flags that differ each is the other's opposite
+opposite : (a n : ℕ) → a ≤ 1 → n ≤ 1 → eqb a n ≡ false → n ≡ 1 - a
+opposite a n g h q = let z : a ≡ n → ⊥ = eqb-false a n q in omega (arith, z)
 
 -- ---- the move of the presence, and what it does to the frame
 
@@ -92,11 +76,11 @@ module _ (max least long : ℕ) (small : long ≤ 2 ^ 24) (some : 0 < least) (s 
       let b : s .«p_run» ≤ long = now .0 in
       rw q (record { k = s .«p_run»; is-on = one; sure-flag = h .flags .confirmed-flag; low = b; longer = omega arith; frame-within = now .1 })
   on-moved false true q r =
-      let zero′ : s .«p_level» ≡ 0 = not-one (s .«p_level») (h .flags .level-flag) q in
+      let zero′ : s .«p_level» ≡ 0 = opposite 1 (s .«p_level») (omega arith) (h .flags .level-flag) q in
       let now = h .absent zero′ (eqb-true (s .«p_confirmed») 0 r) in
       let b : s .«p_prev» ≤ long = now .0 in
       let f = now .1 in
-      rw (q, r) (record { k = s .«p_prev»; is-on = refl; sure-flag = omega arith; low = b; longer = omega arith; frame-within = record { phase-flag = f .phase-flag; early-flag = f .early-flag; candidates = f .candidates; count = f .count; runs-within = record { level-flag = f .runs-within .level-flag; confirmed-flag = f .runs-within .confirmed-flag; has-prev-flag = f .runs-within .has-prev-flag }; done-within = f .done-within } })
+      rw (q, r) (record { k = s .«p_prev»; is-on = refl; sure-flag = omega arith; low = b; longer = omega arith; frame-within = search arith })
   on-moved false false q r = rw (q, r) (record { k = 0; is-on = refl; sure-flag = omega arith; low = omega arith; longer = omega arith; frame-within = begin-frame-within max least fr tc some })
 
   off-moved : (same short : Bool) → eqb 0 (s .«p_level») ≡ same → eqb (s .«p_confirmed») 0 ≡ short → OffMoved max least long (movePresOf s 0 tc) (moveFrameOf s false 0 tc fr)
@@ -104,8 +88,8 @@ module _ (max least long : ℕ) (small : long ≤ 2 ^ 24) (some : 0 < least) (s 
   off-moved true short q r =
       let none : s .«p_level» ≡ 0 = sym (eqb-true 0 (s .«p_level») q) in
       rw q (record { is-off = none; sure-flag = h .flags .confirmed-flag; most = h .most; absent = h .absent none })
-  off-moved false true q r = rw (q, r) (record { is-off = refl; sure-flag = omega arith; most = h .most; absent = λ z. let no : ⊥ = omega (arith, z) in elim no [ ] })
-  off-moved false false q r = rw (q, r) (record { is-off = refl; sure-flag = omega arith; most = h .most; absent = λ z. h .present (not-zero (s .«p_level») (h .flags .level-flag) q) })
+  off-moved false true q r = rw (q, r) (record { is-off = refl; sure-flag = omega arith; most = h .most; absent = λ z. absurd (omega arith) })
+  off-moved false false q r = rw (q, r) (record { is-off = refl; sure-flag = omega arith; most = h .most; absent = λ z. h .present (opposite 0 (s .«p_level») (omega arith) (h .flags .level-flag) q) })
 
 -- ---- what the sample answers
 
@@ -117,8 +101,8 @@ pub record PresentWithin (max least long : ℕ) (r : Present) : Type 0 where
 abbrev pub AnswerWithin : ℕ → ℕ → ℕ → Present × List ℕ × List ℕ → Type 0
 AnswerWithin max least long q = PresentWithin max least long (q .0)
 
-body-up : (max least k m k′ m′ : ℕ) (b : Body) → k ≤ k′ → m ≤ m′ → BodyWithin max least k m b → BodyWithin max least k′ m′ b
-body-up max least k m k′ m′ b i j h = record { frame-within = frame-up max least k m k′ m′ (b .frame) i j (h .frame-within); train-within = h .train-within; ook-within = h .ook-within; fsk-within = h .fsk-within }
+body-up : {max least k m k′ m′ : ℕ} {b : Body} → k ≤ k′ → m ≤ m′ → BodyWithin max least k m b → BodyWithin max least k′ m′ b
+body-up i j h = search arith
 
 due-open : (s : Pres) (n : ℕ) → dueOf s n ≡ true → s .«p_confirmed» ≡ 0
 unfolding dueOf
@@ -126,39 +110,28 @@ due-open s n q = go (eqb (s .«p_confirmed») 0) refl q
   where
     go : (b : Bool) → eqb (s .«p_confirmed») 0 ≡ b → cond b (leb n (s .«p_run»)) false ≡ true → s .«p_confirmed» ≡ 0
     go true r z = eqb-true (s .«p_confirmed») 0 r
-    go false r z = let no : _≡_ {A = ℕ} 0 1 = cc in let no′ : ⊥ = omega arith in elim no′ [ ]
+    go false r z = let no : _≡_ {A = ℕ} 0 1 = cc in absurd (omega arith)
 
 -- the carrier is off: nothing more is counted, and a confirmed absence may end the frame
 off-answer : (p : Settings) (a : Inputs) (least : ℕ) (s : Pres) (b : Body) (ook fsk : List ℕ) → s .«p_level» ≡ 0 → s .«p_confirmed» ≤ 1 → BodyWithin (p .«max_pulses») least (p .«long_steps» + 1) (2 * p .«long_steps» + 3) b → (s .«p_confirmed» ≡ 0 → (s .«p_prev» ≤ p .«long_steps») × FrameWithin (p .«max_pulses») least (s .«p_prev») (2 * s .«p_prev») (b .frame)) → AnswerWithin (p .«max_pulses») least (p .«long_steps») (carrierIfOf p a false s b ook fsk)
 unfolding carrierIfOf longOf
 off-answer p a least s b ook fsk none sure h f =
     record {
-      flags = record { level-flag = omega arith; confirmed-flag = sure };
+      flags = omega arith;
       body-within = h;
-      running = λ z. record {
-        flags = record { level-flag = omega arith; confirmed-flag = sure };
-        most = h .frame-within;
-        present = λ o. let no : ⊥ = omega arith in elim no [ ];
-        absent = λ o. f;
-      };
+      running = λ z. record { flags = omega arith; most = h .frame-within; present = λ o. absurd (omega arith); absent = λ o. f };
     }
 
 module _ (p : Settings) (fits : p .«max_pulses» < 2 ^ 32) (a : Inputs) (ook : List ℕ) where
   end-carrier-within : (least k m : ℕ) (t : Float) (b : Body) (fsk : List ℕ) → BodyWithin (p .«max_pulses») least k m b → DoneWithin (p .«max_pulses») least k (m + 1) (endCarrierOf p a t b ook fsk)
   unfolding endCarrierOf
   end-carrier-within least k m t b fsk h =
-      let f = h .frame-within in
-      let full : BodyWithin (p .«max_pulses») least k m (fullBody b) = record {
-        frame-within = record { phase-flag = f .phase-flag; early-flag = f .early-flag; candidates = f .candidates; count = f .count; runs-within = f .runs-within; done-within = full-within (p .«max_pulses») m (b .frame .done) (f .done-within) };
-        train-within = h .train-within;
-        ook-within = h .ook-within;
-        fsk-within = h .fsk-within;
-      } in
+      let full : BodyWithin (p .«max_pulses») least k m (fullBody b) = search arith in
       let e : Float = add binary64 (ofInt binary64 (pos (a .idx))) one64 in
       let d : DoneWithin (p .«max_pulses») least k (m + 1) (frameDoneOf p (fullBody b) (a .high) (a .pac) t e ook fsk) = frame-done-within p fits least k m (fullBody b) (a .high) (a .pac) t e ook fsk full in
       let q : Body × List ℕ × List ℕ = frameDoneOf p (fullBody b) (a .high) (a .pac) t e ook fsk in
       let n = ended-within (p .«max_pulses») fits (q .0 .train) (a .high) (q .0 .«out_ook») (q .1) (d .train-within) (d .ook-within) in
-      record { frame-within = d .frame-within; train-within = n .train-within; ook-within = n .out-within; fsk-within = d .fsk-within }
+      search
 
   -- the carrier is on
   carrier-on : (least : ℕ) (s : Pres) (b : Body) (fsk : List ℕ) → s .«p_level» ≡ 1 → s .«p_confirmed» ≤ 1 → BodyWithin (p .«max_pulses») least (p .«long_steps» + 1) (2 * p .«long_steps» + 2) b → FrameWithin (p .«max_pulses») least (s .«p_run») (2 * s .«p_run») (b .frame) → AnswerWithin (p .«max_pulses») least (p .«long_steps») (carrierIfOf p a true s b ook fsk)
@@ -166,18 +139,18 @@ module _ (p : Settings) (fits : p .«max_pulses» < 2 ^ 32) (a : Inputs) (ook : 
   carrier-on least s b fsk one sure h f =
       by-test (AnswerWithin (p .«max_pulses») least (p .«long_steps»)) (ltb (p .«long_steps») (s .«p_run»))
       (λ q. record {
-        flags = record { level-flag = omega arith; confirmed-flag = sure };
-        body-within = body-up (p .«max_pulses») least (p .«long_steps» + 1) (2 * p .«long_steps» + 2 + 1) (p .«long_steps» + 1) (2 * p .«long_steps» + 3) _ (omega arith) (omega arith) (end-carrier-within least (p .«long_steps» + 1) (2 * p .«long_steps» + 2) (s .«p_t_run») b fsk h);
-        running = λ z. let no : _≡_ {A = ℕ} 0 1 = cc in let no′ : ⊥ = omega arith in elim no′ [ ];
+        flags = omega arith;
+        body-within = body-up (omega arith) (omega arith) (end-carrier-within least (p .«long_steps» + 1) (2 * p .«long_steps» + 2) (s .«p_t_run») b fsk h);
+        running = λ z. let no : _≡_ {A = ℕ} 0 1 = cc in absurd (omega arith);
       })
       (λ q. record {
-        flags = record { level-flag = omega arith; confirmed-flag = sure };
-        body-within = body-up (p .«max_pulses») least (p .«long_steps» + 1) (2 * p .«long_steps» + 2) (p .«long_steps» + 1) (2 * p .«long_steps» + 3) b (omega arith) (omega arith) h;
+        flags = omega arith;
+        body-within = body-up (omega arith) (omega arith) h;
         running = λ z. record {
-          flags = record { level-flag = omega arith; confirmed-flag = sure };
-          most = frame-up (p .«max_pulses») least (p .«long_steps» + 1) (2 * p .«long_steps» + 2) (p .«long_steps» + 1) (2 * p .«long_steps» + 3) (b .frame) (omega arith) (omega arith) (h .frame-within);
+          flags = omega arith;
+          most = frame-up (omega arith) (omega arith) (h .frame-within);
           present = λ o. (ltb-false (p .«long_steps») (s .«p_run») q, f);
-          absent = λ o. let no : ⊥ = omega arith in elim no [ ];
+          absent = λ o. absurd (omega arith);
         };
       })
 
@@ -192,15 +165,15 @@ module _ (p : Settings) (fits : p .«max_pulses» < 2 ^ 32) (a : Inputs) (ook : 
   off-sure least s b fsk none h low f = go (leb (p .«min_steps») (s .«p_prev»))
     where
       never : {A : Type 0} → _≡_ {A = ℕ} 1 0 → A
-      never q = let no : ⊥ = omega arith in elim no [ ]
+      never q = absurd (omega arith)
 
       end : Float
       end = endOf (a .level) (a .«c_run») (s .«p_t_run»)
 
       done : DoneWithin (p .«max_pulses») least (p .«long_steps» + 1) (2 * p .«long_steps» + 3) (frameDoneOf p b (a .high) (a .pac) (s .«p_t_prev») end ook fsk)
       done =
-          body-up (p .«max_pulses») least (s .«p_prev») (2 * s .«p_prev» + 1) (p .«long_steps» + 1) (2 * p .«long_steps» + 3) _ (omega arith) (omega arith)
-          (frame-done-within p fits least (s .«p_prev») (2 * s .«p_prev») b (a .high) (a .pac) (s .«p_t_prev») end ook fsk (record { frame-within = f; train-within = h .train-within; ook-within = h .ook-within; fsk-within = h .fsk-within }))
+          body-up (omega arith) (omega arith)
+          (frame-done-within p fits least (s .«p_prev») (2 * s .«p_prev») b (a .high) (a .pac) (s .«p_t_prev») end ook fsk (search))
 
       go : (ends : Bool) → AnswerWithin (p .«max_pulses») least (p .«long_steps») (carrierBy p a false (sureIfOf true s) (endIfOf ends p a s b ook fsk))
       go true = off-answer p a least _ _ _ _ none (omega arith) done (λ z. never z)
@@ -228,17 +201,12 @@ module _ (p : Settings) (fits : p .«max_pulses» < 2 ^ 32) (a : Inputs) (ook : 
           let low : o .k ≤ p .«long_steps» = o .low in
           let longer : o .k + 1 ≤ movePresOf s 1 tc .«p_run» = o .longer in
           after-on (fskMinOf (p .«min_steps»)) (movePresOf s 1 tc) _ _ (dueOf (movePresOf s 1 tc) (p .«min_steps»)) (o .is-on) (o .sure-flag)
-          (record {
-            frame-within = frame-up (p .«max_pulses») (fskMinOf (p .«min_steps»)) (o .k + 1) (2 * o .k + 1 + 1) (p .«long_steps» + 1) (2 * p .«long_steps» + 2) _ (omega arith) (omega arith) f;
-            train-within = v .train-within;
-            ook-within = v .ook-within;
-            fsk-within = v .fsk-within;
-          })
-          (frame-up (p .«max_pulses») (fskMinOf (p .«min_steps»)) (o .k + 1) (2 * o .k + 1 + 1) (movePresOf s 1 tc .«p_run») (2 * movePresOf s 1 tc .«p_run») _ (omega arith) (omega arith) f)
+          (search (frame-up, arith))
+          (frame-up (omega arith) (omega arith) f)
       go false tc =
           let o = off-moved (p .«max_pulses») (fskMinOf (p .«min_steps»)) (p .«long_steps») small (fsk-min-above (p .«min_steps»)) s (b .frame) tc h (eqb 0 (s .«p_level»)) (eqb (s .«p_confirmed») 0) refl refl in
           after-off (fskMinOf (p .«min_steps»)) (movePresOf s 0 tc) _ _ (dueOf (movePresOf s 0 tc) (p .«min_steps»)) refl (o .is-off) (o .sure-flag)
-          (record { frame-within = o .most; train-within = v .train-within; ook-within = v .ook-within; fsk-within = v .fsk-within })
+          (search)
           (o .absent)
 
 -- begin_run of the envelope changes times only
@@ -247,20 +215,12 @@ unfolding snapOf
 snap-within max least long s fr tc h = go (nearStartOf (s .«p_level») (fr .«fsk_phase») (fr .done .«fsk_runs») (sub binary64 tc (s .«p_t_run»)))
   where
     moved : (k m : ℕ) → FrameWithin max least k m fr → FrameWithin max least k m (withRuns (withStart tc (fr .runs)) fr)
-    moved k m f =
-        record {
-          phase-flag = f .phase-flag;
-          early-flag = f .early-flag;
-          candidates = f .candidates;
-          count = f .count;
-          runs-within = record { level-flag = f .runs-within .level-flag; confirmed-flag = f .runs-within .confirmed-flag; has-prev-flag = f .runs-within .has-prev-flag };
-          done-within = f .done-within;
-        }
+    moved k m f = search arith
 
     go : (near : Bool) → Running max least long (cond {A = Snapped} near (record { pres = move.withStart tc s; frame = withRuns (withStart tc (fr .runs)) fr }) (record { pres = s; frame = fr }) .pres) (cond {A = Snapped} near (record { pres = move.withStart tc s; frame = withRuns (withStart tc (fr .runs)) fr }) (record { pres = s; frame = fr }) .frame)
     go true =
         record {
-          flags = record { level-flag = h .flags .level-flag; confirmed-flag = h .flags .confirmed-flag };
+          flags = omega arith;
           most = moved (long + 1) (2 * long + 3) (h .most);
           present = λ q. (h .present q .0, moved (s .«p_run») (2 * s .«p_run») (h .present q .1));
           absent = λ q z. (h .absent q z .0, moved (s .«p_prev») (2 * s .«p_prev») (h .absent q z .1));
@@ -269,4 +229,4 @@ snap-within max least long s fr tc h = go (nearStartOf (s .«p_level») (fr .«f
 
 -- the bounds are below 2 ^ 27, the limit of refusal 4
 pub below-limit : (long : ℕ) → long ≤ 2 ^ 24 → (long + 1 ≤ 2 ^ 27) × (2 * long + 3 ≤ 2 ^ 27)
-below-limit long h = (omega arith, omega arith)
+below-limit long h = omega arith

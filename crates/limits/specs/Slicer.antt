@@ -1,17 +1,15 @@
 -- A sample of the slicer stays within refusal 4's limits: fsk_cnt grows by at most 1, and fsk_runs by at most 2.
-use Prim.Native.Nat.{ℕ, suc, min, max, _+_, _/_, _<_, _≤_}
-use mathlib.Core.Bool.{Bool, true, false, cond}
+use Prim.Native.Nat.{ℕ, max, _+_, _<_, _≤_}
 use mathlib.Core.Path.{_≡_, refl}
 use mathlib.Core.List.{List}
 use native.Mathlib.Omega.{arith}
-use lib.Dec.{ltb, leb, eqb}
+use lib.Dec.{ltb, eqb}
 use lib.Ieee.{Float}
 use borrow.Author.Tests.{ltb-true}
 use Rattle.arith.specs.declared.C32.{C32}
 use Rattle.arith.specs.Leaves.{edgeOf, crossOf}
-use Rattle.ook.specs.Counts.{inc}
 use Rattle.ook.specs.Params.{fskMinOf}
-use Rattle.ook.specs.Limits.{either}
+use Rattle.ook.specs.Limits.{either, by-test}
 use Rattle.ook.specs.declared.Settings.{Settings}
 use Rattle.fsk.specs.Makers.{meanOf}
 use Rattle.fsk.specs.Resolve.{sliceThrOf}
@@ -21,9 +19,9 @@ use Rattle.fsk.specs.declared.Early.{Early}
 use Rattle.fsk.specs.declared.Tone.{Tone}
 use Rattle.fsk.specs.declared.Frame.{Frame}
 use Rattle.slicer.specs.Tone.{toneOf, upperOf}
-use Rattle.slicer.specs.Seek.{seedOf, averageOf, pushCandOf, restartEarlyOf, clearOf, farFromOf}
-use Rattle.slicer.specs.Sample.{seekFrameOf, restartOf, awayOf, seekBy, seekOf, trackOf, fskSampleOf}
-use Rattle.limits.specs.Fsk.{by-test, inc-most, FrameWithin, SampleWithin, committed-more, lengthen-within, run-step-within, resolve-within}
+use Rattle.slicer.specs.Seek.{seedOf, averageOf, restartEarlyOf, clearOf, farFromOf}
+use Rattle.slicer.specs.Sample.{seekFrameOf, restartOf, awayOf, seekOf, trackOf, fskSampleOf}
+use Rattle.limits.specs.Fsk.{inc-most, FrameWithin, SampleWithin, lengthen-within, run-step-within, resolve-within}
 
 pub fsk-min-above : (steps : ℕ) → 0 < fskMinOf steps
 fsk-min-above steps = omega arith
@@ -47,15 +45,7 @@ clear-cand c = refl
 module _ (max least k m : ℕ) where
   seek-frame-within : (fr : Frame) (t : Tone) (mn : Mean) (c : Cand) (e : Early) → FrameWithin max least k m fr → c .«fsk_cand» < least → mn .«fsk_cnt» ≤ k + 1 → e .early ≤ 1 → FrameWithin max least (k + 1) (m + 1 + 1) (seekFrameOf fr t mn c e)
   unfolding seekFrameOf
-  seek-frame-within fr t mn c e h few n flag =
-      record {
-        phase-flag = h .phase-flag;
-        early-flag = flag;
-        candidates = λ q. few;
-        count = n;
-        runs-within = lengthen-within (fr .runs) (h .runs-within);
-        done-within = committed-more max (m + 1) (fr .done) (committed-more max m (fr .done) (h .done-within));
-      }
+  seek-frame-within fr t mn c e h few n flag = search (lengthen-within, arith)
 
   away-within : (fr : Frame) (t : Tone) (mn : Mean) (c : Cand) (idx : ℕ) (fsk : List ℕ) → 0 < least → FrameWithin max least k m fr → mn .«fsk_cnt» ≤ k → SampleWithin max least (k + 1) (m + 1 + 1) (awayOf max least fr t mn c idx fsk)
   unfolding awayOf restartOf seekFrameOf
@@ -81,14 +71,7 @@ module _ (p : Settings) (least k m : ℕ) where
   track-within fr t idx fsk h =
       let s = run-step-within (p .«max_pulses») m least (fr .runs) (fr .done) (upperOf (eqb (fr .runs .«fsk_level») 1) (t .«f_prev») (sliceThrOf (eqb (fr .runs .«fsk_level») 1) (fr .levels .«f_hi») (fr .levels .«f_lo»)))
       (edgeOf idx (crossOf (fr .tone .«f_prev») (t .«f_prev») (sliceThrOf (eqb (fr .runs .«fsk_level») 1) (fr .levels .«f_hi») (fr .levels .«f_lo»)))) fsk (h .runs-within) (h .done-within) in
-      record {
-        phase-flag = h .phase-flag;
-        early-flag = h .early-flag;
-        candidates = h .candidates;
-        count = omega (arith, h .count);
-        runs-within = s .runs-within;
-        done-within = committed-more (p .«max_pulses») (m + 1) _ (s .done-within);
-      }
+      search arith
 
 pub sample-within : (k m : ℕ) (p : Settings) (fr : Frame) (high : Float) (d : C32) (e : Float) (idx : ℕ) (fsk : List ℕ) → FrameWithin (p .«max_pulses») (fskMinOf (p .«min_steps»)) k m fr → SampleWithin (p .«max_pulses») (fskMinOf (p .«min_steps»)) (k + 1) (m + 1 + 1) (fskSampleOf p fr high d e idx fsk)
 unfolding fskSampleOf

@@ -3,7 +3,7 @@ ghost use mathlib.Core.Path.{_≡_};
 ghost use mathlib.Core.List.{List, [], _∷_, _++_};
 ghost use Prim.Native.Nat.{ℕ, _+_, _*_, _≤_, _<_};
 ghost use lib.ListN.{length};
-ghost use Rattle.lines.specs.Line.{decimal, number, float, kind, carrier, widths, span, trainHead, trainTail, trainLine, recordLine, idleLine, carrierLine, refusedLine, callText, maxSlots, trainRoom, callRoom, largerOf, hasRoom, writtenCall, Put, Spelled};
+ghost use Rattle.lines.specs.Line.{decimal, number, float, kind, carrier, widths, span, trainHead, trainTail, trainLine, recordLine, idleLine, carrierLine, refusedLine, callText, maxSlots, trainRoom, largerOf, hasRoom, writtenCall, Put, Spelled};
 ghost use Rattle.lines.specs.Line.{glyph as Line·glyph};
 ghost use Rattle.ook.specs.declared.Carrier.the-variants as Carrier;
 use lane::Reply;

@@ -1,9 +1,8 @@
 -- Whole numbers of 32 bits as the Rust adds them, and the float constants that several parts use.
-use Prim.Native.Nat.{ℕ, suc, min, _+_, _-_, _%_, _^_, _<_, _≤_}
+use Prim.Native.Nat.{ℕ, min, _+_, _-_, _%_, _^_, _<_}
 use mathlib.Core.Bool.{Bool, cond}
 use mathlib.Core.Path.{_≡_}
 use native.Mathlib.Nat.{mod-eq-of-lt}
-use native.Mathlib.Omega.{arith}
 use Rattle.arith.specs.declared.C32.{C32}
 use Rattle.arith.specs.Leaves.{zero32}
 

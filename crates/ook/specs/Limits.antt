@@ -19,7 +19,7 @@ use Rattle.ook.specs.declared.Pushed.{Pushed}
 use Rattle.ook.specs.declared.Next.{Next}
 use Rattle.ook.specs.declared.Next.the-variants.{Idle}
 use Rattle.ook.specs.declared.Done.{Done}
-use Rattle.ook.specs.Counts.{inc, inc-exact, bit}
+use Rattle.ook.specs.Counts.{inc-exact, bit}
 use Rattle.ook.specs.Run.{lengthenOf, rejoinOf, beginRunOf, advanceOf, beginEnvOf}
 use Rattle.ook.specs.Train.{withStarted, withEnd, withLongest, longerOf, zeroSteps, stayBy, endBy, pushPulseOf, pushedBy, closeGapOf, emptyTrainOf, finishOf, endTrainOf, pulseDoneOf}
 
@@ -27,6 +27,11 @@ use Rattle.ook.specs.Train.{withStarted, withEnd, withLongest, longerOf,
 pub either : {A : Type 0} (P : A → Type 0) (b : Bool) {x y : A} → P x → P y → P (cond b x y)
 either P true p q = p
 either P false p q = q
+
+-- a test with its outcome in either arm
+pub by-test : {A : Type 0} (P : A → Type 0) (b : Bool) {x y : A} → (b ≡ true → P x) → (b ≡ false → P y) → P (cond b x y)
+by-test P true f g = f refl
+by-test P false f g = g refl
 
 pub bit-flag : (b : Bool) → bit b ≤ 1
 bit-flag true = omega arith
@@ -53,15 +58,15 @@ pub record OutWithin (max : ℕ) (o : Out) : Type 0 where
 
 pub lengthen-within : (s : Env) → EnvWithin s → EnvWithin (lengthenOf s)
 unfolding lengthenOf
-lengthen-within s h = record { level-flag = h .level-flag; confirmed-flag = h .confirmed-flag; pending-flag = h .pending-flag }
+lengthen-within s h = omega arith
 
 pub rejoin-within : (s : Env) (on : Bool) → EnvWithin (rejoinOf s on)
 unfolding rejoinOf
-rejoin-within s on = record { level-flag = bit-flag on; confirmed-flag = omega arith; pending-flag = omega arith }
+rejoin-within s on = omega (arith, bit-flag on)
 
 pub begin-run-within : (s : Env) (tc : Float) (idx : ℕ) (on : Bool) → EnvWithin (beginRunOf s tc idx on)
 unfolding beginRunOf
-begin-run-within s tc idx on = record { level-flag = bit-flag on; confirmed-flag = omega arith; pending-flag = omega arith }
+begin-run-within s tc idx on = omega (arith, bit-flag on)
 
 pub advance-within : (s : Env) (on : Bool) (tc : Float) (idx : ℕ) → EnvWithin s → EnvWithin (advanceOf s on tc idx)
 unfolding advanceOf
@@ -71,42 +76,33 @@ advance-within s on tc idx h =
 
 pub begin-env-within : (t : Float) (s : Env) → EnvWithin s → EnvWithin (beginEnvOf t s)
 unfolding beginEnvOf
-begin-env-within t s h = record { level-flag = omega arith; confirmed-flag = omega arith; pending-flag = h .pending-flag }
+begin-env-within t s h = omega arith
 
 -- the train
 
 module _ (max : ℕ) where
   pub push-within : (t : Train) (pac : C32) (len : Steps) (ook : List ℕ) → TrainWithin max t → TrainWithin max (pushPulseOf max t pac len ook .0 .train)
   unfolding pushPulseOf
-  push-within t pac len ook h = go (leb max (t .«ook_n»)) refl
-    where
-      go : (b : Bool) → leb max (t .«ook_n») ≡ b → TrainWithin max (pushPulseOf max t pac len ook .0 .train)
-      go true q = rw q (record { started-flag = h .started-flag; open-flag = h .open-flag; truncated-flag = omega arith; pulses = h .pulses })
-      go false q = rw q (record { started-flag = h .started-flag; open-flag = omega arith; truncated-flag = h .truncated-flag; pulses = omega (arith, leb-false max (t .«ook_n») q) })
+  push-within t pac len ook h =
+      by-test (λ (q : Pushed × List ℕ). TrainWithin max (q .0 .train)) (leb max (t .«ook_n»)) (λ q. omega arith) (λ q. omega (arith, leb-false max (t .«ook_n») q))
 
   module _ (fits : max < 2 ^ 32) where
     pub close-gap-within : (t : Train) (gap : Steps) (ook : List ℕ) → TrainWithin max t → TrainWithin max (closeGapOf t gap ook .0)
     unfolding closeGapOf
-    close-gap-within t gap ook h = go (eqb (t .«open») 1) refl
-      where
-        go : (b : Bool) → eqb (t .«open») 1 ≡ b → TrainWithin max (closeGapOf t gap ook .0)
-        go true q =
-            let one : t .«open» ≡ 1 = eqb-true (t .«open») 1 q in
-            let e : inc (t .«ook_n») ≡ t .«ook_n» + 1 = inc-exact (t .«ook_n») (omega (arith, h .pulses)) in
-            rw q (record { started-flag = h .started-flag; open-flag = omega arith; truncated-flag = h .truncated-flag; pulses = rw e (omega (arith, h .pulses)) })
-        go false q = rw q h
+    close-gap-within t gap ook h =
+        by-test (λ (q : Train × List ℕ). TrainWithin max (q .0)) (eqb (t .«open») 1)
+        (λ q. let one : t .«open» ≡ 1 = eqb-true (t .«open») 1 q in omega (arith, inc-exact (t .«ook_n») (omega arith)))
+        (λ q. h)
 
     pub empty-within : (t : Train) → TrainWithin max (emptyTrainOf t)
     unfolding emptyTrainOf
-    empty-within t = record { started-flag = omega arith; open-flag = omega arith; truncated-flag = omega arith; pulses = omega arith }
+    empty-within t = omega arith
 
     pub finish-within : (t : Train) (high : Float) (out : Out) → TrainWithin max t → OutWithin max out → TrainWithin max (finishOf t high out .train) × OutWithin max (finishOf t high out .out)
     unfolding finishOf
     finish-within t high out h o = (
       empty-within t,
-      either (OutWithin max) (ltb 0 (t .«ook_n»))
-          (record { state-flag = omega arith; cut-flag = bit-flag (eqb (t .truncated) 1); kind-flag = omega arith; room = omega (arith, h .pulses) })
-          o,
+      either (OutWithin max) (ltb 0 (t .«ook_n»)) (omega (arith, bit-flag (eqb (t .truncated) 1))) o,
     )
 
     -- a train that ended is within the limits, and so is its record
@@ -126,19 +122,15 @@ end-within max fits next t high out ook h o = record { train-within = end-train-
 
 module _ (p : Settings) (fits : p .«max_pulses» < 2 ^ 32) where
   pushed-within : (high : Float) (out : Out) (q : Pushed × List ℕ) → TrainWithin (p .«max_pulses») (q .0 .train) → OutWithin (p .«max_pulses») out → DoneWithin (p .«max_pulses») (pushedBy high out q .0)
-  pushed-within high out q h o = go (q .0 .fits) refl
-    where
-      go : (b : Bool) → q .0 .fits ≡ b → DoneWithin (p .«max_pulses») (pushedBy high out q .0)
-      go true e = rw e (stay-within (p .«max_pulses») (q .0 .train) out (q .1) h o)
-      go false e = rw e (end-within (p .«max_pulses») fits Idle (q .0 .train) high out (q .1) h o)
+  pushed-within high out q h o =
+      either (λ (d : Done × List ℕ). DoneWithin (p .«max_pulses») (d .0)) (q .0 .fits)
+      (stay-within (p .«max_pulses») (q .0 .train) out (q .1) h o)
+      (end-within (p .«max_pulses») fits Idle (q .0 .train) high out (q .1) h o)
 
   pub pulse-done-within : (t : Train) (pac : C32) (high : Float) (out : Out) (len : Steps) (end : Float) (ook : List ℕ) → TrainWithin (p .«max_pulses») t → OutWithin (p .«max_pulses») out → DoneWithin (p .«max_pulses») (pulseDoneOf p t pac high out len end ook .0)
   unfolding pulseDoneOf
-  pulse-done-within t pac high out len end ook h o = go (eqb (p .mode) 1) refl
-    where
-      kept : TrainWithin (p .«max_pulses») (withLongest (longerOf (t .longest) len) (withEnd (stepOf end) t))
-      kept = record { started-flag = h .started-flag; open-flag = h .open-flag; truncated-flag = h .truncated-flag; pulses = h .pulses }
-
-      go : (b : Bool) → eqb (p .mode) 1 ≡ b → DoneWithin (p .«max_pulses») (pulseDoneOf p t pac high out len end ook .0)
-      go true q = rw q (stay-within (p .«max_pulses») (withStarted 0 (withEnd (stepOf end) t)) out ook (record { started-flag = omega arith; open-flag = h .open-flag; truncated-flag = h .truncated-flag; pulses = h .pulses }) o)
-      go false q = rw q (pushed-within high out (pushPulseOf (p .«max_pulses») (withLongest (longerOf (t .longest) len) (withEnd (stepOf end) t)) pac len ook) (push-within (p .«max_pulses») _ pac len ook kept) o)
+  pulse-done-within t pac high out len end ook h o =
+      let n : Train = withLongest (longerOf (t .longest) len) (withEnd (stepOf end) t) in
+      either (λ (d : Done × List ℕ). DoneWithin (p .«max_pulses») (d .0)) (eqb (p .mode) 1)
+      (stay-within (p .«max_pulses») (withStarted 0 (withEnd (stepOf end) t)) out ook (omega arith) o)
+      (pushed-within high out (pushPulseOf (p .«max_pulses») n pac len ook) (push-within (p .«max_pulses») n pac len ook (omega arith)) o)

@@ -2,7 +2,7 @@
 use Prim.Native.Nat.{ℕ, zero, suc, min, max, _-_, _%_, _<_, _≤_}
 use mathlib.Core.Bool.{Bool, cond}
 use mathlib.Core.List.{List}
-use mathlib.Core.Path.{_≡_, refl}
+use mathlib.Core.Path.{_≡_}
 use native.Mathlib.Omega.{arith}
 use lib.ListN.{getD}
 use lib.Dec.{leb}

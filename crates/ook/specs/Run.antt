@@ -1,6 +1,6 @@
 -- The run of the envelope: `begin_run`, and what `sample` does to the run with each level (source document 000).
 use Prim.Native.Nat.{ℕ}
-use mathlib.Core.Bool.{Bool, true, false, cond, not}
+use mathlib.Core.Bool.{Bool, false, cond, not}
 use lib.Dec.{eqb}
 use lib.Ieee.{Float}
 use Rattle.arith.specs.declared.C32.{C32}

@@ -18,8 +18,8 @@ use Rattle.ook.specs.declared.Ended.{Ended}
 use Rattle.ook.specs.declared.Done.{Done}
 use Rattle.ook.specs.declared.Settings.{Settings}
 use Rattle.ook.specs.declared.Next.{Next}
-use Rattle.ook.specs.declared.Next.the-variants.{Stay, Idle, IdleAt}
-use Rattle.ook.specs.declared.Carrier.the-variants.{Angle, Vector}
+use Rattle.ook.specs.declared.Next.the-variants.{Stay, Idle}
+use Rattle.ook.specs.declared.Carrier.the-variants.{Vector}
 
 -- the makers: a train from its fields, and with some of its fields changed
 abbrev pub trainOf : ℕ → ℕ → ℕ → ℕ → ℕ → Steps → ℕ → C32 → Train

@@ -1,9 +1,8 @@
 // The OOK part of the lane: the run of the envelope, its refined edges, and the train of its pulses,
 // each struct by value. What the whole lane shares (settings, answers, records) is declared here.
 ghost use mathlib.Core.Path.{_≡_};
-ghost use mathlib.Core.Bool.{Bool, cond};
-ghost use Prim.Native.Nat.{_+_, _*_, _-_, _<_, _≤_, min, max};
-ghost use lib.ListN.{set, length};
+ghost use Prim.Native.Nat.{_+_, _*_, _-_, _<_, min, max};
+ghost use lib.ListN.{set};
 ghost use Rattle.arith.specs.Leaves.{edgeOf, crossOf};
 ghost use Rattle.ook.specs.Counts.{satAddOf};
 ghost use Rattle.ook.specs.Counts as counts;
@@ -11,7 +10,7 @@ ghost use Rattle.ook.specs.Answers.{nextNumberOf, nextEnvelopeOf, isStay
 ghost use Rattle.ook.specs.Params.{fskMinOf, refineAtOf};
 ghost use Rattle.ook.specs.Run.{lengthenOf, rejoinOf, beginRunOf, beginsOf, advanceOf, zeroIf, pacRunOf, beginEnvOf};
 ghost use Rattle.ook.specs.Refine.{refineLevelOf, refineLoOf, excessOf, bestAt, splitAt, bestSplitOf, refineInOf, refineOf};
-ghost use Rattle.ook.specs.Train.{pushPulseOf, closeGapOf, emptyTrainOf, finishOf, endTrainOf, longerOf, pulseDoneOf, gapRatioExceededOf};
+ghost use Rattle.ook.specs.Train.{pushPulseOf, closeGapOf, emptyTrainOf, finishOf, endTrainOf, longerOf, pushedBy, pulseDoneOf, gapRatioExceededOf};
 use arith::C32;
 use arith::Steps;
 
@@ -561,6 +560,29 @@ fn longer(longest: Steps, len: Steps) -> Steps
     longest
 }
 
+// After the push of a pulse: the burst stays, or the train is full and ends.
+fn after_push(q: Pushed, high: f32, out: Out, ook: &mut [u32]) -> Done
+    ensures { λ r. ⌜ (r, now (ook .exit)) ≡ pushedBy high out (q, now (ook .entry)) ⌝ }
+{
+    let t = q.train;
+    let fits = q.fits;
+    if fits {
+        return Done {
+            next: Next::Stay,
+            train: t,
+            out,
+        };
+    }
+    let e = end_train(t, high, out, ook);
+    let et = e.train;
+    let eo = e.out;
+    Done {
+        next: Next::Idle,
+        train: et,
+        out: eo,
+    }
+}
+
 pub fn pulse_done(
     p: Settings,
     t: Train,
@@ -588,23 +610,7 @@ pub fn pulse_done(
     let long = longer(old, len);
     n.longest = long;
     let q = push_pulse(p.max_pulses, n, pac, len, ook);
-    let qt = q.train;
-    let fits = q.fits;
-    if fits {
-        return Done {
-            next: Next::Stay,
-            train: qt,
-            out,
-        };
-    }
-    let e = end_train(qt, high, out, ook);
-    let et = e.train;
-    let eo = e.out;
-    Done {
-        next: Next::Idle,
-        train: et,
-        out: eo,
-    }
+    after_push(q, high, out, ook)
 }
 
 pub fn gap_ratio_exceeded(gap_ratio: f32, longest: Steps, n: u32) -> bool

@@ -1,8 +1,8 @@
 -- `fsk_sample` (source document 000): one sample of the frequency slicer.
 use Prim.Native.Nat.{ℕ}
-use mathlib.Core.Bool.{Bool, true, false, cond}
+use mathlib.Core.Bool.{Bool, cond}
 use mathlib.Core.List.{List}
-use lib.Dec.{ltb, leb, eqb}
+use lib.Dec.{ltb, eqb}
 use lib.Ieee.{Float}
 use Rattle.arith.specs.Leaves.{edgeOf, crossOf}
 use Rattle.arith.specs.declared.C32.{C32}

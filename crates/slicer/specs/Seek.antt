@@ -1,11 +1,10 @@
 -- `fsk_sample` before the first transition (source document 000): the mean of the first level, and the candidates of the second.
 use Prim.Native.Nat.{ℕ, min, _+_, _-_, _%_, _^_}
-use mathlib.Core.Bool.{Bool, true, false, cond}
-use mathlib.Core.List.{List}
+use mathlib.Core.Bool.{Bool, cond}
 use lib.ListN.{set, getD}
-use lib.Dec.{ltb, leb, eqb}
+use lib.Dec.{ltb, eqb}
 use lib.IntN.{pos}
-use lib.Ieee.{Float, nan, binary32, binary64, add, sub, mul, div, lt, le, ofInt}
+use lib.Ieee.{Float, nan, binary32, add, sub, div, lt, ofInt}
 use Rattle.arith.specs.Leaves.{zero32, midpointOf, edgeOf, crossOf, absOf}
 use Rattle.ook.specs.Counts.{inc}
 use Rattle.fsk.specs.Makers.{meanOf, candOf, earlyOf}

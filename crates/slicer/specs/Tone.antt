@@ -1,6 +1,5 @@
 -- `fsk_sample` (source document 000): the frequency of a sample, and the two levels that follow it.
-use Prim.Native.Nat.{ℕ}
-use mathlib.Core.Bool.{Bool, true, false, cond}
+use mathlib.Core.Bool.{Bool, cond}
 use lib.Ieee.{Float, binary32, add, sub, mul, lt, le, ofBits}
 use Rattle.arith.specs.Leaves.{gainOf, maxOf, flushOf}
 use Rattle.arith.specs.Angle.{atan2Of}

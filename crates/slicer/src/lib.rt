@@ -1,6 +1,6 @@
 // The frequency slicer: `fsk_sample` of the Rust.
 ghost use mathlib.Core.Path.{_≡_};
-ghost use Prim.Native.Nat.{_+_, _*_, _-_, _%_, _^_, _<_, _≤_, min};
+ghost use Prim.Native.Nat.{_+_, _*_, _-_, _<_, min};
 ghost use lib.ListN.{set};
 ghost use Rattle.slicer.specs.Tone.{lowPassOf, toneOf, upperOf, followOf};
 ghost use Rattle.slicer.specs.Seek.{seedOf, averageOf, startOf, beforeIfOf, pushCandOf, restartAtOf, restartEarlyOf, clearOf, farFromOf};

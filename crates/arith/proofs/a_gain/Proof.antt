@@ -16,12 +16,6 @@ nothing x h = omega arith
 float-to-bits-exp : tie.Need-float-to-bits-exp
 float-to-bits-exp c = above-plain (ofBits binary32 0x0da2_4260) (mul binary32 (c .before .args .e) (c .before .args .e)) (c .if1 .taken)
 
-sub-result : tie.Need-sub-result
-sub-result c = search needs
-
-mul-result : tie.Need-mul-result
-mul-result c = search needs
-
 float-from-bits-result : tie.Need-float-from-bits-result
 float-from-bits-result c = plain-bits-plus _ (omega arith)
 
@@ -39,12 +33,4 @@ returns-3 c = simp (c .if1 .left)
 
 pub a-gain-spec : {M : Type 1} → statement M
 a-gain-spec =
-    tie.close
-    (tie.spec
-    float-to-bits-exp
-    sub-result
-    mul-result
-    float-from-bits-result
-    returns
-    returns-2
-    returns-3)
+    tie.close (tie.spec float-to-bits-exp (search needs) (search needs) float-from-bits-result returns returns-2 returns-3)

@@ -6,14 +6,10 @@ use Rattle.arith.proofs.Nan.{is-nan, no-nan, nan-written32}
 use Rattle.arith.proofs.bits_of_f32.Statement.{statement}
 use Rattle.arith.proofs.bits_of_f32.Tie as tie
 
-returns : tie.Need-returns
-returns c = sym (ap (toBits binary32) (is-nan (c .before .args .x) (c .if1 .taken)) ∙ nan-written32)
-
-float-to-bits-result : tie.Need-float-to-bits-result
-float-to-bits-result c = no-nan (c .before .args .x) (c .if1 .left)
-
-returns-2 : tie.Need-returns-2
-returns-2 c = search needs
-
 pub bits-of-f32-spec : {M : Type 1} → statement M
-bits-of-f32-spec = tie.close (tie.spec returns float-to-bits-result returns-2)
+bits-of-f32-spec =
+    tie.close
+    (tie.spec
+    (λ c. sym (ap (toBits binary32) (is-nan (c .before .args .x) (c .if1 .taken)) ∙ nan-written32))
+    (λ c. no-nan (c .before .args .x) (c .if1 .left))
+    (search needs))

@@ -6,12 +6,6 @@ use borrow.Author.Needs.{needs}
 use Rattle.arith.proofs.closest_div.Statement.{statement}
 use Rattle.arith.proofs.closest_div.Tie as tie
 
-div-q : tie.Need-div-q
-div-q c = search needs
-
-rem-rest : tie.Need-rem-rest
-rem-rest c = search needs
-
 sub-over : tie.Need-sub-over
 sub-over c = omega (arith, mod-lt (c .args .v) (c .pre .1))
 
@@ -32,5 +26,4 @@ returns-3 c = closest-tie (c .before .before .args .v) (c .before .before .args 
 
 pub closest-div-spec : {M : Type 1} → statement M
 closest-div-spec =
-    tie.close
-    (tie.spec div-q rem-rest sub-over add-result add-result-2 returns returns-2 returns-3)
+    tie.close (tie.spec (search needs) (search needs) sub-over add-result add-result-2 returns returns-2 returns-3)

@@ -4,12 +4,6 @@ use borrow.Author.Needs.{needs}
 use Rattle.arith.proofs.cross.Statement.{statement}
 use Rattle.arith.proofs.cross.Tie as tie
 
-abs-requires : tie.Need-abs-requires
-abs-requires c κs = search needs
-
-widen-requires : tie.Need-widen-requires
-widen-requires c κs = search needs
-
 returns : tie.Need-returns
 unfolding crossOf
 returns c = simp (← c .before .before .before .abs .ensures, c .before .before .if1 .taken, ← c .before .widen .ensures, c .if2 .taken)
@@ -28,4 +22,4 @@ returns-4 c = simp (← c .before .abs .ensures, c .if1 .left)
 
 pub cross-spec : {M : Type 1} → statement M
 cross-spec =
-    tie.close (tie.spec abs-requires widen-requires returns returns-2 returns-3 returns-4)
+    tie.close (tie.spec (search needs) (search needs) returns returns-2 returns-3 returns-4)

@@ -26,35 +26,11 @@ root-fits n r h i =
 sub-s : tie.Need-sub-s
 sub-s c = leading-le 32 (c .args .a)
 
-add-p : tie.Need-add-p
-add-p c = search needs
-
-add-p-2 : tie.Need-add-p-2
-add-p-2 c = search needs
-
-add-n : tie.Need-add-n
-add-n c = search needs
-
-add-n-2 : tie.Need-add-n-2
-add-n-2 c = search needs
-
-sub-n : tie.Need-sub-n
-sub-n c = search needs
-
-cast-n : tie.Need-cast-n
-cast-n c = search needs
-
-shl-n : tie.Need-shl-n
-shl-n c = search needs
-
 whole-root-requires : tie.Need-whole-root-requires
 whole-root-requires c κs = in-range c
 
 cast-t7 : tie.Need-cast-t7
 cast-t7 c = record { fits = root-fits _ (c .whole-root .result) (in-range (c .before) .1) (c .whole-root .ensures .0) }
-
-mul-t9 : tie.Need-mul-t9
-mul-t9 c = search needs
 
 returns : tie.Need-returns
 returns c =
@@ -68,16 +44,5 @@ returns c =
 pub exact-of-spec : {M : Type 1} → statement M
 exact-of-spec =
     tie.close
-    (tie.spec
-    sub-s
-    add-p
-    add-p-2
-    add-n
-    add-n-2
-    sub-n
-    cast-n
-    shl-n
-    whole-root-requires
-    cast-t7
-    mul-t9
-    returns)
+    (tie.spec sub-s (search needs) (search needs) (search needs) (search needs) (search needs) (search needs) (search needs)
+    whole-root-requires cast-t7 (search needs) returns)

@@ -6,15 +6,6 @@ use Rattle.arith.proofs.RootSteps.{read-low, read-high, read-scaled}
 use Rattle.arith.proofs.exact_root.Statement.{statement}
 use Rattle.arith.proofs.exact_root.Tie as tie
 
-exact-of-requires : tie.Need-exact-of-requires
-exact-of-requires c κs = search needs
-
-add-exact-of : tie.Need-add-exact-of
-add-exact-of c = search needs
-
-exact-of-requires-2 : tie.Need-exact-of-requires-2
-exact-of-requires-2 c κs = search needs
-
 returns : tie.Need-returns
 returns c =
     let s = c .before .before in
@@ -27,4 +18,4 @@ returns-2 c =
 
 pub exact-root-spec : {M : Type 1} → statement M
 exact-root-spec =
-    tie.close (tie.spec exact-of-requires add-exact-of exact-of-requires-2 returns returns-2)
+    tie.close (tie.spec (search needs) (search needs) (search needs) returns returns-2)

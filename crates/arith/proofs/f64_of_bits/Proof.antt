@@ -6,14 +6,10 @@ use Rattle.arith.proofs.Nan.{nan-read, plain-read, zero-by-zero}
 use Rattle.arith.proofs.f64_of_bits.Statement.{statement}
 use Rattle.arith.proofs.f64_of_bits.Tie as tie
 
-returns : tie.Need-returns
-returns c = zero-by-zero binary64 ∙ sym (nan-read binary64 (c .before .args .n) (c .if1 .taken))
-
-float-from-bits-result : tie.Need-float-from-bits-result
-float-from-bits-result c = plain-read binary64 (c .before .args .n) (c .if1 .left)
-
-returns-2 : tie.Need-returns-2
-returns-2 c = search needs
-
 pub f64-of-bits-spec : {M : Type 1} → statement M
-f64-of-bits-spec = tie.close (tie.spec returns float-from-bits-result returns-2)
+f64-of-bits-spec =
+    tie.close
+    (tie.spec
+    (λ c. zero-by-zero binary64 ∙ sym (nan-read binary64 (c .before .args .n) (c .if1 .taken)))
+    (λ c. plain-read binary64 (c .before .args .n) (c .if1 .left))
+    (search needs))

@@ -4,16 +4,10 @@ use borrow.Author.Needs.{needs}
 use Rattle.arith.proofs.flush_denormal.Statement.{statement}
 use Rattle.arith.proofs.flush_denormal.Tie as tie
 
-abs-requires : tie.Need-abs-requires
-abs-requires c κs = search needs
-
-returns : tie.Need-returns
-unfolding flushOf
-returns c = simp (← c .before .abs .ensures, c .if1 .taken)
-
-returns-2 : tie.Need-returns-2
-unfolding flushOf
-returns-2 c = simp (← c .before .abs .ensures, c .if1 .left)
-
 pub flush-denormal-spec : {M : Type 1} → statement M
-flush-denormal-spec = tie.close (tie.spec abs-requires returns returns-2)
+unfolding flushOf
+flush-denormal-spec =
+    tie.close
+    (tie.spec (search needs)
+    (λ c. simp (← c .before .abs .ensures, c .if1 .taken))
+    (λ c. simp (← c .before .abs .ensures, c .if1 .left)))

@@ -3,14 +3,10 @@ use Rattle.arith.proofs.Nan.{nan-true, nan-false}
 use Rattle.arith.proofs.max.Statement.{statement}
 use Rattle.arith.proofs.max.Tie as tie
 
-returns : tie.Need-returns
-returns c = simp (nan-true (c .before .args .a) (c .if1 .taken))
-
-returns-2 : tie.Need-returns-2
-returns-2 c = simp (nan-false (c .before .before .args .a) (c .before .if1 .left), c .if2 .taken)
-
-returns-3 : tie.Need-returns-3
-returns-3 c = simp (nan-false (c .before .before .args .a) (c .before .if1 .left), c .if2 .left)
-
 pub max-spec : {M : Type 1} → statement M
-max-spec = tie.close (tie.spec returns returns-2 returns-3)
+max-spec =
+    tie.close
+    (tie.spec
+    (λ c. simp (nan-true (c .before .args .a) (c .if1 .taken)))
+    (λ c. simp (nan-false (c .before .before .args .a) (c .before .if1 .left), c .if2 .taken))
+    (λ c. simp (nan-false (c .before .before .args .a) (c .before .if1 .left), c .if2 .left)))

@@ -4,18 +4,6 @@ use borrow.Author.Needs.{needs}
 use Rattle.arith.proofs.midpoint.Statement.{statement}
 use Rattle.arith.proofs.midpoint.Tie as tie
 
-widen-requires : tie.Need-widen-requires
-widen-requires c κs = search needs
-
-widen-requires-2 : tie.Need-widen-requires-2
-widen-requires-2 c κs = search needs
-
-narrow-requires : tie.Need-narrow-requires
-narrow-requires c κs = search needs
-
-returns : tie.Need-returns
-unfolding midpointOf
-returns c = cc
-
 pub midpoint-spec : {M : Type 1} → statement M
-midpoint-spec = tie.close (tie.spec widen-requires widen-requires-2 narrow-requires returns)
+unfolding midpointOf
+midpoint-spec = tie.close (tie.spec (search needs) (search needs) (search needs) (λ c. cc))

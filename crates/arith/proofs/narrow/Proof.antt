@@ -33,9 +33,6 @@ narrow-fields-requires c κs =
 float-from-bits-result : tie.Need-float-from-bits-result
 float-from-bits-result c = plain-bits-plus (c .before .narrow-fields .result) (c .before .narrow-fields .ensures .1)
 
-add-result : tie.Need-add-result
-add-result c = search needs
-
 float-from-bits-result-2 : tie.Need-float-from-bits-result-2
 float-from-bits-result-2 c = plain-bits-minus (c .before .narrow-fields .result) (c .before .narrow-fields .ensures .1)
 
@@ -55,12 +52,5 @@ returns-3 c =
 pub narrow-spec : {M : Type 1} → statement M
 narrow-spec =
     tie.close
-    (tie.spec
-    returns
-    float-to-bits-b
-    narrow-fields-requires
-    float-from-bits-result
-    add-result
-    float-from-bits-result-2
-    returns-2
+    (tie.spec returns float-to-bits-b narrow-fields-requires float-from-bits-result (search needs) float-from-bits-result-2 returns-2
     returns-3)

@@ -4,11 +4,5 @@ use borrow.Author.Needs.{needs}
 use Rattle.arith.proofs.power.Statement.{statement}
 use Rattle.arith.proofs.power.Tie as tie
 
-shl-result : tie.Need-shl-result
-shl-result c = search needs
-
-returns : tie.Need-returns
-returns c = one-shl (c .args .j) (c .pre)
-
 pub power-spec : {M : Type 1} → statement M
-power-spec = tie.close (tie.spec shl-result returns)
+power-spec = tie.close (tie.spec (search needs) (λ c. one-shl (c .args .j) (c .pre)))

@@ -30,9 +30,6 @@ returns-2 c =
     let s = c .before .before in
     sym (whole-already (s .args .x) (held s) (no-nan (s .args .x) (c .before .if1 .left)) (c .if2 .taken))
 
-whole-fields-requires : tie.Need-whole-fields-requires
-whole-fields-requires c κs = search needs
-
 int-to-float-r : tie.Need-int-to-float-r
 unfolding inFloat
 int-to-float-r c = le→leb (c .before .whole-fields .result) (2 ^ 53) (c .before .whole-fields .ensures .1)
@@ -54,12 +51,4 @@ returns-4 c =
 
 pub round-spec : {M : Type 1} → statement M
 round-spec =
-    tie.close
-    (tie.spec
-    returns
-    float-to-bits-b
-    returns-2
-    whole-fields-requires
-    int-to-float-r
-    returns-3
-    returns-4)
+    tie.close (tie.spec returns float-to-bits-b returns-2 (search needs) int-to-float-r returns-3 returns-4)

@@ -3,11 +3,5 @@ use borrow.Author.Needs.{needs}
 use Rattle.arith.proofs.run_fix.Statement.{statement}
 use Rattle.arith.proofs.run_fix.Tie as tie
 
-whole-requires : tie.Need-whole-requires
-whole-requires c κs = search needs
-
-returns : tie.Need-returns
-returns c = cc
-
 pub run-fix-spec : {M : Type 1} → statement M
-run-fix-spec = tie.close (tie.spec whole-requires returns)
+run-fix-spec = tie.close (tie.spec (search needs) (λ c. cc))

@@ -79,14 +79,5 @@ returns-6 c =
 pub sqrt-spec : {M : Type 1} → statement M
 sqrt-spec =
     tie.close
-    (tie.spec
-    returns
-    float-to-bits-b
-    returns-2
-    returns-3
-    returns-4
-    returns-5
-    exact-root-requires
-    round-exact-requires
-    float-from-bits-result
-    returns-6)
+    (tie.spec returns float-to-bits-b returns-2 returns-3 returns-4 returns-5 exact-root-requires round-exact-requires
+    float-from-bits-result returns-6)

@@ -7,14 +7,8 @@ use borrow.Author.Needs.{needs}
 use Rattle.arith.proofs.step_of.Statement.{statement}
 use Rattle.arith.proofs.step_of.Tie as tie
 
-round-requires : tie.Need-round-requires
-round-requires c κs = search needs
-
-to-u64-requires : tie.Need-to-u64-requires
-to-u64-requires c κs = search needs
-
 returns : tie.Need-returns
 returns c = c .to-u64 .ensures ∙ ap (toUnsigned 64) (c .before .round .ensures) ∙ cast-roundOf 64 (c .before .before .args .t) (subst T (sym (c .before .before .good .0 .1)) tt)
 
 pub step-of-spec : {M : Type 1} → statement M
-step-of-spec = tie.close (tie.spec round-requires to-u64-requires returns)
+step-of-spec = tie.close (tie.spec (search needs) (search needs) returns)

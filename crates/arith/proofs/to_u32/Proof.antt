@@ -5,17 +5,9 @@ use borrow.Author.Needs.{needs}
 use Rattle.arith.proofs.to_u32.Statement.{statement}
 use Rattle.arith.proofs.to_u32.Tie as tie
 
-to-u64-requires : tie.Need-to-u64-requires
-to-u64-requires c κs = search needs
-
-cast-result : tie.Need-cast-result
-cast-result c = search needs
-
-returns : tie.Need-returns
-returns c = omega (arith, c .before .to-u64 .ensures, to32 (c .before .before .args .x))
-
-returns-2 : tie.Need-returns-2
-returns-2 c = omega (arith, c .before .to-u64 .ensures, to32 (c .before .before .args .x))
-
 pub to-u32-spec : {M : Type 1} → statement M
-to-u32-spec = tie.close (tie.spec to-u64-requires cast-result returns returns-2)
+to-u32-spec =
+    tie.close
+    (tie.spec (search needs) (search needs)
+    (λ c. omega (arith, c .before .to-u64 .ensures, to32 (c .before .before .args .x)))
+    (λ c. omega (arith, c .before .to-u64 .ensures, to32 (c .before .before .args .x))))

@@ -7,14 +7,8 @@ use borrow.Author.Needs.{needs}
 use Rattle.arith.proofs.whole.Statement.{statement}
 use Rattle.arith.proofs.whole.Tie as tie
 
-round-requires : tie.Need-round-requires
-round-requires c κs = search needs
-
-to-u32-requires : tie.Need-to-u32-requires
-to-u32-requires c κs = search needs
-
 returns : tie.Need-returns
 returns c = c .to-u32 .ensures ∙ ap (toUnsigned 32) (c .before .round .ensures) ∙ cast-roundOf 32 (c .before .before .args .x) (subst T (sym (c .before .before .good .0 .1)) tt)
 
 pub whole-spec : {M : Type 1} → statement M
-whole-spec = tie.close (tie.spec round-requires to-u32-requires returns)
+whole-spec = tie.close (tie.spec (search needs) (search needs) returns)

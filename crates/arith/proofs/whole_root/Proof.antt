@@ -41,15 +41,4 @@ returns c = done (c .before .before .args .n) (c .before .loop .r) (c .before .l
 
 pub whole-root-spec : {M : Type 1} → statement M
 whole-root-spec =
-    tie.close
-    (tie.spec
-    Inv-loop
-    μ-loop
-    loop-holds
-    add-t
-    mul-if1
-    loop-less
-    loop-again
-    loop-less-2
-    loop-again-2
-    returns)
+    tie.close (tie.spec Inv-loop μ-loop loop-holds add-t mul-if1 loop-less loop-again loop-less-2 loop-again-2 returns)

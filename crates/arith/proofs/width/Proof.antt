@@ -3,11 +3,5 @@ use borrow.Author.Needs.{needs}
 use Rattle.arith.proofs.width.Statement.{statement}
 use Rattle.arith.proofs.width.Tie as tie
 
-whole-requires : tie.Need-whole-requires
-whole-requires c κs = search needs
-
-returns : tie.Need-returns
-returns c = cc
-
 pub width-spec : {M : Type 1} → statement M
-width-spec = tie.close (tie.spec whole-requires returns)
+width-spec = tie.close (tie.spec (search needs) (λ c. cc))

@@ -8,18 +8,9 @@ returns : tie.Need-returns
 unfolding decoded
 returns c = simp (lt-ltb _ _ (c .if1 .taken))
 
-shared-slice-read-b : tie.Need-shared-slice-read-b
-shared-slice-read-b c = search needs
-
-after-requires : tie.Need-after-requires
-after-requires c κs = search needs
-
 returns-2 : tie.Need-returns-2
 unfolding decoded
 returns-2 c = simp (le-ltb _ _ (c .before .before .before .before .if1 .left), ← c .before .before .after .ensures, c .before .if2 .taken, lt-ltb _ _ (c .if3 .taken))
-
-settings-of-requires : tie.Need-settings-of-requires
-settings-of-requires c κs = search needs
 
 returns-3 : tie.Need-returns-3
 unfolding decoded
@@ -29,9 +20,6 @@ returns-4 : tie.Need-returns-4
 unfolding decoded
 returns-4 c = simp (le-ltb _ _ (c .before .before .before .before .before .if1 .left), ← c .before .before .before .after .ensures, c .before .before .if2 .left, c .before .if4 .taken, lt-ltb _ _ (c .if5 .taken))
 
-begin-args-requires : tie.Need-begin-args-requires
-begin-args-requires c κs = search needs
-
 returns-5 : tie.Need-returns-5
 unfolding decoded
 returns-5 c = simp (le-ltb _ _ (c .before .before .before .before .before .before .if1 .left), ← c .before .before .before .before .after .ensures, c .before .before .before .if2 .left, c .before .before .if4 .taken, le-ltb _ _ (c .before .if5 .left), ← c .begin-args .ensures)
@@ -39,9 +27,6 @@ returns-5 c = simp (le-ltb _ _ (c .before .before .before .before .before .befor
 returns-6 : tie.Need-returns-6
 unfolding decoded
 returns-6 c = simp (le-ltb _ _ (c .before .before .before .before .before .before .if1 .left), ← c .before .before .before .before .after .ensures, c .before .before .before .if2 .left, c .before .before .if4 .left, c .before .if6 .taken, lt-ltb _ _ (c .if7 .taken))
-
-step-args-requires : tie.Need-step-args-requires
-step-args-requires c κs = search needs
 
 returns-7 : tie.Need-returns-7
 unfolding decoded
@@ -54,17 +39,5 @@ returns-8 c = simp (le-ltb _ _ (c .before .before .before .before .before .if1 .
 pub decode-spec : {M : Type 1} → statement M
 decode-spec =
     tie.close
-    (tie.spec
-    returns
-    shared-slice-read-b
-    after-requires
-    returns-2
-    settings-of-requires
-    returns-3
-    returns-4
-    begin-args-requires
-    returns-5
-    returns-6
-    step-args-requires
-    returns-7
-    returns-8)
+    (tie.spec returns (search needs) (search needs) returns-2 (search needs) returns-3 returns-4 (search needs) returns-5 returns-6
+    (search needs) returns-7 returns-8)

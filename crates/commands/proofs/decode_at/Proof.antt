@@ -4,14 +4,5 @@ use borrow.Author.Needs.{needs}
 use Rattle.commands.proofs.decode_at.Statement.{statement}
 use Rattle.commands.proofs.decode_at.Tie as tie
 
-after-requires : tie.Need-after-requires
-after-requires c κs = search needs
-
-decode-requires : tie.Need-decode-requires
-decode-requires c κs = search needs
-
-returns : tie.Need-returns
-returns c = c .decode .ensures ∙ ap decoded (c .before .after .ensures)
-
 pub decode-at-spec : {M : Type 1} → statement M
-decode-at-spec = tie.close (tie.spec after-requires decode-requires returns)
+decode-at-spec = tie.close (tie.spec (search needs) (search needs) (λ c. c .decode .ensures ∙ ap decoded (c .before .after .ensures)))

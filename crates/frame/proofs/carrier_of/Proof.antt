@@ -4,16 +4,6 @@ use borrow.Author.Needs.{needs}
 use Rattle.frame.proofs.carrier_of.Statement.{statement}
 use Rattle.frame.proofs.carrier_of.Tie as tie
 
-midpoint-requires : tie.Need-midpoint-requires
-midpoint-requires c κs = search needs
-
-returns : tie.Need-returns
-unfolding carrierOf
-returns c = simp (c .before .if1 .taken, ← c .midpoint .ensures)
-
-returns-2 : tie.Need-returns-2
-unfolding carrierOf
-returns-2 c = simp (c .if1 .left)
-
 pub carrier-of-spec : {M : Type 1} → statement M
-carrier-of-spec = tie.close (tie.spec midpoint-requires returns returns-2)
+unfolding carrierOf
+carrier-of-spec = tie.close (tie.spec (search needs) (λ c. simp (c .before .if1 .taken, ← c .midpoint .ensures)) (λ c. simp (c .if1 .left)))

@@ -4,22 +4,10 @@ use borrow.Author.Needs.{needs}
 use Rattle.frame.proofs.gap_at.Statement.{statement}
 use Rattle.frame.proofs.gap_at.Tie as tie
 
-mul-get : tie.Need-mul-get
-mul-get c = search needs
-
-add-get : tie.Need-add-get
-add-get c = search needs
-
-get-requires : tie.Need-get-requires
-get-requires c κs = search needs
-
-returns : tie.Need-returns
-unfolding gapAtOf
-returns c = simp (c .before .if1 .taken, ← c .get .ensures)
-
-returns-2 : tie.Need-returns-2
-unfolding gapAtOf
-returns-2 c = simp (c .if1 .left)
-
 pub gap-at-spec : {M : Type 1} → statement M
-gap-at-spec = tie.close (tie.spec mul-get add-get get-requires returns returns-2)
+unfolding gapAtOf
+gap-at-spec =
+    tie.close
+    (tie.spec (search needs) (search needs) (search needs)
+    (λ c. simp (c .before .if1 .taken, ← c .get .ensures))
+    (λ c. simp (c .if1 .left)))

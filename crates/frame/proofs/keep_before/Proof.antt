@@ -13,36 +13,12 @@ Inv-loop ook n total from limit s₀ k₀ s k = keepFrom ook n limit (total - k)
 abbrev μ-loop : tie.MeasureT-loop
 μ-loop ook n total from limit s₀ k₀ s k = total - k
 
-start-kept-requires : tie.Need-start-kept-requires Inv-loop μ-loop
-start-kept-requires c κs = search needs
-
 loop-holds : tie.Need-loop-holds Inv-loop μ-loop
 unfolding keepBeforeOf
 loop-holds c = simp (unary-clauses, c .start-kept .ensures)
 
 returns : tie.Need-returns Inv-loop μ-loop
 returns c = sym (kept-over _ _ _ _ _ _ (c .before .before .loop-test .taken) (c .if1 .taken)) ∙ c .before .before .before .loop .inv
-
-cast-get : tie.Need-cast-get Inv-loop μ-loop
-cast-get c = search needs
-
-mul-get : tie.Need-mul-get Inv-loop μ-loop
-mul-get c = search needs
-
-get-requires : tie.Need-get-requires Inv-loop μ-loop
-get-requires c κs = search needs
-
-gap-at-requires : tie.Need-gap-at-requires Inv-loop μ-loop
-gap-at-requires c κs = search needs
-
-keep-next-requires : tie.Need-keep-next-requires Inv-loop μ-loop
-keep-next-requires c κs = search needs
-
-add-k : tie.Need-add-k Inv-loop μ-loop
-add-k c = search needs
-
-loop-less : tie.Need-loop-less Inv-loop μ-loop
-loop-less c = search needs
 
 loop-again : tie.Need-loop-again Inv-loop μ-loop
 loop-again c = sym (kept-next _ _ _ _ _ _ _ _ _ (c .before .before .before .before .before .loop-test .taken) (c .before .before .before .if1 .left) (c .before .before .get .ensures) (c .before .gap-at .ensures) (c .keep-next .ensures)) ∙ c .before .before .before .before .before .before .loop .inv
@@ -53,18 +29,5 @@ returns-2 c = sym (kept-end _ _ _ _ _ _ (c .loop-test .left)) ∙ c .before .loo
 pub keep-before-spec : {M : Type 1} → statement M
 keep-before-spec =
     tie.close
-    (tie.spec
-    Inv-loop
-    μ-loop
-    start-kept-requires
-    loop-holds
-    returns
-    cast-get
-    mul-get
-    get-requires
-    gap-at-requires
-    keep-next-requires
-    add-k
-    loop-less
-    loop-again
-    returns-2)
+    (tie.spec Inv-loop μ-loop (search needs) loop-holds returns (search needs) (search needs) (search needs) (search needs) (search needs)
+    (search needs) (search needs) loop-again returns-2)

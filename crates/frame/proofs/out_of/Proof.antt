@@ -4,18 +4,9 @@ use borrow.Author.Needs.{needs}
 use Rattle.frame.proofs.out_of.Statement.{statement}
 use Rattle.frame.proofs.out_of.Tie as tie
 
-step-of-requires : tie.Need-step-of-requires
-step-of-requires c κs = search needs
-
-step-of-requires-2 : tie.Need-step-of-requires-2
-step-of-requires-2 c κs = search needs
-
-bit-requires : tie.Need-bit-requires
-bit-requires c κs = search needs
-
 returns : tie.Need-returns
 unfolding outOf
 returns c = simp (← c .before .before .before .step-of .ensures, ← c .before .before .step-of2 .ensures, ← c .bit .ensures)
 
 pub out-of-spec : {M : Type 1} → statement M
-out-of-spec = tie.close (tie.spec step-of-requires step-of-requires-2 bit-requires returns)
+out-of-spec = tie.close (tie.spec (search needs) (search needs) (search needs) returns)

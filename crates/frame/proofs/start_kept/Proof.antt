@@ -4,12 +4,6 @@ use borrow.Author.Needs.{needs}
 use Rattle.frame.proofs.start_kept.Statement.{statement}
 use Rattle.frame.proofs.start_kept.Tie as tie
 
-u64-to-f64-requires : tie.Need-u64-to-f64-requires
-u64-to-f64-requires c κs = search needs
-
-returns : tie.Need-returns
-unfolding startKeptOf
-returns c = simp (← c .u64-to-f64 .ensures)
-
 pub start-kept-spec : {M : Type 1} → statement M
-start-kept-spec = tie.close (tie.spec u64-to-f64-requires returns)
+unfolding startKeptOf
+start-kept-spec = tie.close (tie.spec (search needs) (λ c. simp (← c .u64-to-f64 .ensures)))

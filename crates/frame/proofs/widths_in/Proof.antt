@@ -7,17 +7,8 @@ use borrow.Author.Needs.{needs}
 use Rattle.frame.proofs.widths_in.Statement.{statement}
 use Rattle.frame.proofs.widths_in.Tie as tie
 
-slice-relend-prefix-fsk-widths : tie.Need-slice-relend-prefix-fsk-widths
-slice-relend-prefix-fsk-widths c = search needs
-
 slice-aggregate-fsk-widths : tie.Need-slice-aggregate-fsk-widths
 slice-aggregate-fsk-widths c = sym (length-take-le _ _ (c .before .if1 .taken))
-
-fsk-widths-requires : tie.Need-fsk-widths-requires
-fsk-widths-requires c κs = search needs
-
-same-length : tie.Need-same-length
-same-length c = search needs
 
 returns : tie.Need-returns
 unfolding widthsInOf
@@ -29,11 +20,4 @@ returns-2 c = simp (lt-leb _ _ (c .if1 .left))
 
 pub widths-in-spec : {M : Type 1} → statement M
 widths-in-spec =
-    tie.close
-    (tie.spec
-    slice-relend-prefix-fsk-widths
-    slice-aggregate-fsk-widths
-    fsk-widths-requires
-    same-length
-    returns
-    returns-2)
+    tie.close (tie.spec (search needs) slice-aggregate-fsk-widths (search needs) (search needs) returns returns-2)

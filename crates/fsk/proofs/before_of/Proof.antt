@@ -8,15 +8,9 @@ returns : tie.Need-returns
 unfolding beforeOf
 returns c = simp (c .if1 .taken)
 
-sat-sub32-requires : tie.Need-sat-sub32-requires
-sat-sub32-requires c κs = search needs
-
-cand-at-requires : tie.Need-cand-at-requires
-cand-at-requires c κs = search needs
-
 returns-2 : tie.Need-returns-2
 unfolding beforeOf
 returns-2 c = simp (c .before .before .if1 .left, ← c .before .sat-sub32 .ensures, ← c .cand-at .ensures)
 
 pub before-of-spec : {M : Type 1} → statement M
-before-of-spec = tie.close (tie.spec returns sat-sub32-requires cand-at-requires returns-2)
+before-of-spec = tie.close (tie.spec returns (search needs) (search needs) returns-2)

@@ -1,12 +1,9 @@
 -- `fsk::begin_frame` meets its contract: the definition, field by field. Assumes nothing.
-use mathlib.Core.Path.{refl}
 use Rattle.fsk.specs.Resolve.{beginFrameOf}
+use borrow.Author.Needs.{needs}
 use Rattle.fsk.proofs.begin_frame.Statement.{statement}
 use Rattle.fsk.proofs.begin_frame.Tie as tie
 
-returns : tie.Need-returns
-unfolding beginFrameOf
-returns c = refl
-
 pub begin-frame-spec : {M : Type 1} → statement M
-begin-frame-spec = tie.close (tie.spec returns)
+unfolding beginFrameOf
+begin-frame-spec = tie.close (tie.spec (search needs) (λ c. simp (← c .before .no-run .ensures)))

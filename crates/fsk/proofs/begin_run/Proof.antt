@@ -4,9 +4,6 @@ use Rattle.fsk.specs.RunStep.{beginRunOf}
 use Rattle.fsk.proofs.begin_run.Statement.{statement}
 use Rattle.fsk.proofs.begin_run.Tie as tie
 
-returns : tie.Need-returns
-unfolding beginRunOf
-returns c = refl
-
 pub begin-run-spec : {M : Type 1} → statement M
-begin-run-spec = tie.close (tie.spec returns)
+unfolding beginRunOf
+begin-run-spec = tie.close (tie.spec (λ c. refl))

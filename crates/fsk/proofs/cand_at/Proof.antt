@@ -5,19 +5,7 @@ use borrow.Author.Needs.{needs}
 use Rattle.fsk.proofs.cand_at.Statement.{statement}
 use Rattle.fsk.proofs.cand_at.Tie as tie
 
-mul-result : tie.Need-mul-result
-mul-result c = search needs
-
-array-read-result : tie.Need-array-read-result
-array-read-result c = search needs
-
-returns : tie.Need-returns
-unfolding candAtOf
-returns c = simp (lt-ltb _ _ (c .if1 .taken))
-
-returns-2 : tie.Need-returns-2
-unfolding candAtOf
-returns-2 c = simp (le-ltb _ _ (c .if1 .left))
-
 pub cand-at-spec : {M : Type 1} → statement M
-cand-at-spec = tie.close (tie.spec mul-result array-read-result returns returns-2)
+unfolding candAtOf
+cand-at-spec =
+    tie.close (tie.spec (search needs) (search needs) (λ c. simp (lt-ltb _ _ (c .if1 .taken))) (λ c. simp (le-ltb _ _ (c .if1 .left))))

@@ -4,12 +4,6 @@ use borrow.Author.Needs.{needs}
 use Rattle.fsk.proofs.confirm_due.Statement.{statement}
 use Rattle.fsk.proofs.confirm_due.Tie as tie
 
-confirm-requires : tie.Need-confirm-requires
-confirm-requires c κs = search needs
-
-same-length : tie.Need-same-length
-same-length c = search needs
-
 returns : tie.Need-returns
 unfolding confirmDueOf
 returns c = simp (c .before .before .before .before .before .before .if1 .taken, c .before .before .before .before .if2 .taken, ← c .before .before .confirm .ensures)
@@ -23,4 +17,4 @@ unfolding confirmDueOf
 returns-3 c = simp (c .if1 .left)
 
 pub confirm-due-spec : {M : Type 1} → statement M
-confirm-due-spec = tie.close (tie.spec confirm-requires same-length returns returns-2 returns-3)
+confirm-due-spec = tie.close (tie.spec (search needs) (search needs) returns returns-2 returns-3)

@@ -4,12 +4,6 @@ use borrow.Author.Needs.{needs}
 use Rattle.fsk.proofs.is_early.Statement.{statement}
 use Rattle.fsk.proofs.is_early.Tie as tie
 
-other-level-requires : tie.Need-other-level-requires
-other-level-requires c κs = search needs
-
-abs-requires : tie.Need-abs-requires
-abs-requires c κs = search needs
-
 returns : tie.Need-returns
 unfolding isEarlyOf
 returns c = simp (c .before .before .before .before .if1 .taken, ← c .before .before .before .other-level .ensures, ← c .before .before .abs .ensures, c .before .if2 .taken)
@@ -24,4 +18,4 @@ returns-3 c = simp (c .if1 .left)
 
 pub is-early-spec : {M : Type 1} → statement M
 is-early-spec =
-    tie.close (tie.spec other-level-requires abs-requires returns returns-2 returns-3)
+    tie.close (tie.spec (search needs) (search needs) returns returns-2 returns-3)

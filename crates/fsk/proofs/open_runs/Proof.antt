@@ -4,12 +4,6 @@ use borrow.Author.Needs.{needs}
 use Rattle.fsk.proofs.open_runs.Statement.{statement}
 use Rattle.fsk.proofs.open_runs.Tie as tie
 
-fsk-commit-requires : tie.Need-fsk-commit-requires
-fsk-commit-requires c κs = search needs
-
-same-length : tie.Need-same-length
-same-length c = search needs
-
 returns : tie.Need-returns
 unfolding openRunsOf
 returns c = simp (c .before .before .before .before .if1 .taken, ← c .before .before .fsk-commit .ensures)
@@ -19,4 +13,4 @@ unfolding openRunsOf
 returns-2 c = simp (c .if1 .left)
 
 pub open-runs-spec : {M : Type 1} → statement M
-open-runs-spec = tie.close (tie.spec fsk-commit-requires same-length returns returns-2)
+open-runs-spec = tie.close (tie.spec (search needs) (search needs) returns returns-2)

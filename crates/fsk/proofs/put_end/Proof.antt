@@ -6,18 +6,9 @@ use borrow.Author.Needs.{needs}
 use Rattle.fsk.proofs.put_end.Statement.{statement}
 use Rattle.fsk.proofs.put_end.Tie as tie
 
-run-fix-requires : tie.Need-run-fix-requires
-run-fix-requires c κs = search needs
-
-put-requires : tie.Need-put-requires
-put-requires c κs = search needs
-
-same-length : tie.Need-same-length
-same-length c = search needs
-
 returns : tie.Need-returns
 unfolding putEndOf
 returns c = simp (← ap (λ (w : Fix64). w .0) (c .before .before .before .before .run-fix .ensures), ← c .before .before .put .ensures)
 
 pub put-end-spec : {M : Type 1} → statement M
-put-end-spec = tie.close (tie.spec run-fix-requires put-requires same-length returns)
+put-end-spec = tie.close (tie.spec (search needs) (search needs) (search needs) returns)

@@ -4,16 +4,10 @@ use borrow.Author.Needs.{needs}
 use Rattle.fsk.proofs.slice_thr.Statement.{statement}
 use Rattle.fsk.proofs.slice_thr.Tie as tie
 
-midpoint-requires : tie.Need-midpoint-requires
-midpoint-requires c κs = search needs
-
-returns : tie.Need-returns
-unfolding sliceThrOf
-returns c = simp (← c .before .midpoint .ensures, c .if1 .taken)
-
-returns-2 : tie.Need-returns-2
-unfolding sliceThrOf
-returns-2 c = simp (← c .before .midpoint .ensures, c .if1 .left)
-
 pub slice-thr-spec : {M : Type 1} → statement M
-slice-thr-spec = tie.close (tie.spec midpoint-requires returns returns-2)
+unfolding sliceThrOf
+slice-thr-spec =
+    tie.close
+    (tie.spec (search needs)
+    (λ c. simp (← c .before .midpoint .ensures, c .if1 .taken))
+    (λ c. simp (← c .before .midpoint .ensures, c .if1 .left)))

@@ -8,22 +8,10 @@ returns : tie.Need-returns
 unfolding upperRunOf
 returns c = simp (c .if1 .taken)
 
-cast-put-end : tie.Need-cast-put-end
-cast-put-end c = search needs
-
-mul-put-end : tie.Need-mul-put-end
-mul-put-end c = search needs
-
-put-end-requires : tie.Need-put-end-requires
-put-end-requires c κs = search needs
-
-same-length : tie.Need-same-length
-same-length c = search needs
-
 returns-2 : tie.Need-returns-2
 unfolding upperRunOf
 returns-2 c = simp (c .before .before .before .before .before .if1 .left, ← c .before .before .put-end .ensures)
 
 pub upper-run-spec : {M : Type 1} → statement M
 upper-run-spec =
-    tie.close (tie.spec returns cast-put-end mul-put-end put-end-requires same-length returns-2)
+    tie.close (tie.spec returns (search needs) (search needs) (search needs) (search needs) returns-2)

@@ -3,13 +3,6 @@ use Rattle.grid.specs.Widths.{addedOf}
 use Rattle.grid.proofs.added.Statement.{statement}
 use Rattle.grid.proofs.added.Tie as tie
 
-returns : tie.Need-returns
-unfolding addedOf
-returns c = simp (c .before .before .if1 .taken)
-
-returns-2 : tie.Need-returns-2
-unfolding addedOf
-returns-2 c = simp (c .if1 .left)
-
 pub added-spec : {M : Type 1} → statement M
-added-spec = tie.close (tie.spec returns returns-2)
+unfolding addedOf
+added-spec = tie.close (tie.spec (λ c. simp (c .before .before .if1 .taken)) (λ c. simp (c .if1 .left)))

@@ -4,21 +4,6 @@ use borrow.Author.Needs.{needs}
 use Rattle.grid.proofs.better.Statement.{statement}
 use Rattle.grid.proofs.better.Tie as tie
 
-enum-told : tie.Need-enum-told
-enum-told c = search needs
-
-enum-known-g : tie.Need-enum-known-g
-enum-known-g c = search needs
-
-enum-told-2 : tie.Need-enum-told-2
-enum-told-2 c = search needs
-
-enum-known-grid : tie.Need-enum-known-grid
-enum-known-grid c = search needs
-
-pick-grid-requires : tie.Need-pick-grid-requires
-pick-grid-requires c κs = search needs
-
 returns : tie.Need-returns
 returns c = better-none _ _ (c .enum-told .given .1)
 
@@ -30,13 +15,4 @@ returns-3 c = better-on _ _ _ _ _ _ _ _ _ (c .before .before .grid .given .1) (c
 
 pub better-spec : {M : Type 1} → statement M
 better-spec =
-    tie.close
-    (tie.spec
-    enum-told
-    enum-known-g
-    enum-told-2
-    enum-known-grid
-    pick-grid-requires
-    returns
-    returns-2
-    returns-3)
+    tie.close (tie.spec (search needs) (search needs) (search needs) (search needs) (search needs) returns returns-2 returns-3)

@@ -5,12 +5,6 @@ use borrow.Author.Needs.{needs}
 use Rattle.grid.proofs.check_turn.Statement.{statement}
 use Rattle.grid.proofs.check_turn.Tie as tie
 
-time-of-requires : tie.Need-time-of-requires
-time-of-requires c κs = search needs
-
-check-step-requires : tie.Need-check-step-requires
-check-step-requires c κs = search needs
-
 returns : tie.Need-returns
 unfolding checkStep turned
 returns c = simp (c .before .before .if1 .taken, ← c .before .time-of .ensures, ← c .check-step .ensures)
@@ -20,4 +14,4 @@ unfolding checkStep turned
 returns-2 c = simp (c .if1 .left)
 
 pub check-turn-spec : {M : Type 1} → statement M
-check-turn-spec = tie.close (tie.spec time-of-requires check-step-requires returns returns-2)
+check-turn-spec = tie.close (tie.spec (search needs) (search needs) returns returns-2)

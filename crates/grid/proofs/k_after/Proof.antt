@@ -4,22 +4,6 @@ use borrow.Author.Needs.{needs}
 use Rattle.grid.proofs.k_after.Statement.{statement}
 use Rattle.grid.proofs.k_after.Tie as tie
 
-enum-known-prev : tie.Need-enum-known-prev
-enum-known-prev c = search needs
-
-symbols-requires : tie.Need-symbols-requires
-symbols-requires c κs = search needs
-
-enum-told : tie.Need-enum-told
-enum-told c = search needs
-
-returns : tie.Need-returns
-unfolding kAfter
-returns c = cc
-
-returns-2 : tie.Need-returns-2
-unfolding kAfter
-returns-2 c = cc
-
 pub k-after-spec : {M : Type 1} → statement M
-k-after-spec = tie.close (tie.spec enum-known-prev symbols-requires enum-told returns returns-2)
+unfolding kAfter
+k-after-spec = tie.close (tie.spec (search needs) (search needs) (search needs) (λ c. cc) (λ c. cc))

@@ -4,25 +4,9 @@ use borrow.Author.Needs.{needs}
 use Rattle.grid.proofs.mean_after.Statement.{statement}
 use Rattle.grid.proofs.mean_after.Tie as tie
 
-enum-known-prev : tie.Need-enum-known-prev
-enum-known-prev c = search needs
-
-added-requires : tie.Need-added-requires
-added-requires c κs = search needs
-
-enum-told : tie.Need-enum-told
-enum-told c = search needs
-
-added-requires-2 : tie.Need-added-requires-2
-added-requires-2 c κs = search needs
-
-returns : tie.Need-returns
-returns c = mean-at _ _ _ _ _ _ (c .before .before .prev .given .1) (c .added .ensures)
-
-returns-2 : tie.Need-returns-2
-returns-2 c = mean-unset _ _ _ _ _ (c .before .enum-told .given .1) (c .added2 .ensures)
-
 pub mean-after-spec : {M : Type 1} → statement M
 mean-after-spec =
     tie.close
-    (tie.spec enum-known-prev added-requires enum-told added-requires-2 returns returns-2)
+    (tie.spec (search needs) (search needs) (search needs) (search needs)
+    (λ c. mean-at _ _ _ _ _ _ (c .before .before .prev .given .1) (c .added .ensures))
+    (λ c. mean-unset _ _ _ _ _ (c .before .enum-told .given .1) (c .added2 .ensures)))

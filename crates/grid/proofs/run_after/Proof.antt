@@ -4,18 +4,6 @@ use borrow.Author.Needs.{needs}
 use Rattle.grid.proofs.run_after.Statement.{statement}
 use Rattle.grid.proofs.run_after.Tie as tie
 
-enum-known-prev : tie.Need-enum-known-prev
-enum-known-prev c = search needs
-
-symbols-requires : tie.Need-symbols-requires
-symbols-requires c κs = search needs
-
-abs64-requires : tie.Need-abs64-requires
-abs64-requires c κs = search needs
-
-enum-told : tie.Need-enum-told
-enum-told c = search needs
-
 returns : tie.Need-returns
 returns c = run-at _ _ _ _ _ _ _ (c .before .before .before .prev .given .1) (c .before .symbols .ensures) (c .abs64 .ensures)
 
@@ -24,5 +12,4 @@ returns-2 c = run-unset _ _ _ _ (c .enum-told .given .1)
 
 pub run-after-spec : {M : Type 1} → statement M
 run-after-spec =
-    tie.close
-    (tie.spec enum-known-prev symbols-requires abs64-requires enum-told returns returns-2)
+    tie.close (tie.spec (search needs) (search needs) (search needs) (search needs) returns returns-2)

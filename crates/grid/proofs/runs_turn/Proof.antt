@@ -5,15 +5,6 @@ use borrow.Author.Needs.{needs}
 use Rattle.grid.proofs.runs_turn.Statement.{statement}
 use Rattle.grid.proofs.runs_turn.Tie as tie
 
-time-of-requires : tie.Need-time-of-requires
-time-of-requires c κs = search needs
-
-shorter-of-requires : tie.Need-shorter-of-requires
-shorter-of-requires c κs = search needs
-
-add-t11 : tie.Need-add-t11
-add-t11 c = search needs
-
 returns : tie.Need-returns
 unfolding runsStep turned
 returns c = simp (c .before .before .before .if1 .taken, ← c .before .before .time-of .ensures, ← c .before .shorter-of .ensures)
@@ -24,4 +15,4 @@ returns-2 c = simp (c .if1 .left)
 
 pub runs-turn-spec : {M : Type 1} → statement M
 runs-turn-spec =
-    tie.close (tie.spec time-of-requires shorter-of-requires add-t11 returns returns-2)
+    tie.close (tie.spec (search needs) (search needs) (search needs) returns returns-2)

@@ -6,12 +6,6 @@ use borrow.Author.Needs.{needs}
 use Rattle.grid.proofs.same.Statement.{statement}
 use Rattle.grid.proofs.same.Tie as tie
 
-bits-of-f64-requires : tie.Need-bits-of-f64-requires
-bits-of-f64-requires c κs = search needs
-
-bits-of-f64-requires-2 : tie.Need-bits-of-f64-requires-2
-bits-of-f64-requires-2 c κs = search needs
-
 returns : tie.Need-returns
 returns c = (
   simp (← c .before .bits-of-f64 .ensures, ← c .bits-of-f642 .ensures),
@@ -19,4 +13,4 @@ returns c = (
 )
 
 pub same-spec : {M : Type 1} → statement M
-same-spec = tie.close (tie.spec bits-of-f64-requires bits-of-f64-requires-2 returns)
+same-spec = tie.close (tie.spec (search needs) (search needs) returns)

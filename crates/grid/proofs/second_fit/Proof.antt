@@ -4,29 +4,11 @@ use borrow.Author.Needs.{needs}
 use Rattle.grid.proofs.second_fit.Statement.{statement}
 use Rattle.grid.proofs.second_fit.Tie as tie
 
-enum-known-first : tie.Need-enum-known-first
-enum-known-first c = search needs
-
-enum-told : tie.Need-enum-told
-enum-told c = search needs
-
 returns : tie.Need-returns
 returns c = no-first _ _ (c .enum-told .given .1)
 
-fit-with-requires : tie.Need-fit-with-requires
-fit-with-requires c κs = search needs
-
-enum-known-second : tie.Need-enum-known-second
-enum-known-second c = search needs
-
-enum-told-2 : tie.Need-enum-told-2
-enum-told-2 c = search needs
-
 returns-2 : tie.Need-returns-2
 returns-2 c = no-second _ _ _ _ _ (c .before .before .before .before .first .given .1) (c .before .before .fit-with .ensures) (c .enum-told2 .given .1)
-
-grid-check-requires : tie.Need-grid-check-requires
-grid-check-requires c κs = search needs
 
 returns-3 : tie.Need-returns-3
 returns-3 c = both-fits _ _ _ _ _ _ _ _ (c .before .before .before .before .before .before .first .given .1) (c .before .before .before .before .fit-with .ensures) (c .before .before .second .given .1) (c .grid-check .ensures)
@@ -34,13 +16,4 @@ returns-3 c = both-fits _ _ _ _ _ _ _ _ (c .before .before .before .before .befo
 pub second-fit-spec : {M : Type 1} → statement M
 second-fit-spec =
     tie.close
-    (tie.spec
-    enum-known-first
-    enum-told
-    returns
-    fit-with-requires
-    enum-known-second
-    enum-told-2
-    returns-2
-    grid-check-requires
-    returns-3)
+    (tie.spec (search needs) (search needs) returns (search needs) (search needs) (search needs) returns-2 (search needs) returns-3)

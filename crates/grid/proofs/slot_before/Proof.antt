@@ -4,21 +4,6 @@ use borrow.Author.Needs.{needs}
 use Rattle.grid.proofs.slot_before.Statement.{statement}
 use Rattle.grid.proofs.slot_before.Tie as tie
 
-returns : tie.Need-returns
-returns c = search needs
-
-sub-result : tie.Need-sub-result
-sub-result c = search needs
-
-mul-result : tie.Need-mul-result
-mul-result c = search needs
-
-shared-slice-read-result : tie.Need-shared-slice-read-result
-shared-slice-read-result c = search needs
-
-returns-2 : tie.Need-returns-2
-returns-2 c = slot-at _ _ (c .before .if1 .left)
-
 pub slot-before-spec : {M : Type 1} → statement M
 slot-before-spec =
-    tie.close (tie.spec returns sub-result mul-result shared-slice-read-result returns-2)
+    tie.close (tie.spec (λ c. search needs) (search needs) (search needs) (search needs) (λ c. slot-at _ _ (c .before .if1 .left)))

@@ -4,31 +4,9 @@ use borrow.Author.Needs.{needs}
 use Rattle.grid.proofs.try_after.Statement.{statement}
 use Rattle.grid.proofs.try_after.Tie as tie
 
-enum-known-prev : tie.Need-enum-known-prev
-enum-known-prev c = search needs
-
-tried-with-requires : tie.Need-tried-with-requires
-tried-with-requires c κs = search needs
-
-enum-told : tie.Need-enum-told
-enum-told c = search needs
-
-tried-with-requires-2 : tie.Need-tried-with-requires-2
-tried-with-requires-2 c κs = search needs
-
-returns : tie.Need-returns
-returns c = try-at _ _ _ _ _ _ _ (c .before .before .prev .given .1) (c .tried-with .ensures)
-
-returns-2 : tie.Need-returns-2
-returns-2 c = try-unset _ _ _ _ _ _ (c .before .enum-told .given .1) (c .tried-with2 .ensures)
-
 pub try-after-spec : {M : Type 1} → statement M
 try-after-spec =
     tie.close
-    (tie.spec
-    enum-known-prev
-    tried-with-requires
-    enum-told
-    tried-with-requires-2
-    returns
-    returns-2)
+    (tie.spec (search needs) (λ c κs. search needs) (search needs) (λ c κs. search needs)
+    (λ c. try-at _ _ _ _ _ _ _ (c .before .before .prev .given .1) (c .tried-with .ensures))
+    (λ c. try-unset _ _ _ _ _ _ (c .before .enum-told .given .1) (c .tried-with2 .ensures)))

@@ -24,60 +24,16 @@ abbrev widths-in-below : ℕ → In 2 widths-in-kinds.ps
 widths-in-below t =
     and 2 widths-in-kinds.ps (falls 2 widths-in-kinds.ps _<_ μ-widths-in t) widths-in.Pre
 
-widths-in-slice-relend-prefix-widths-by :
-    (t : ℕ) → widths-in-lts.Need-slice-relend-prefix-widths-by (widths-by-reads.Asked, widths-by-reads.Learnt, widths-in-below t, widths-in.Post, widths-large-reads.Asked, widths-large-reads.Learnt) (widths-in-at t) widths-in.Post
-widths-in-slice-relend-prefix-widths-by t c = search needs
-
-widths-in-slice-aggregate-widths-by : (t : ℕ) → widths-in-lts.Need-slice-aggregate-widths-by (widths-by-reads.Asked, widths-by-reads.Learnt, widths-in-below t, widths-in.Post, widths-large-reads.Asked, widths-large-reads.Learnt) (widths-in-at t) widths-in.Post
-widths-in-slice-aggregate-widths-by t c = sym (length-take-le _ _ (c .before .before .if1 .taken))
-
-widths-in-widths-by-requires : (t : ℕ) → widths-in-lts.Need-widths-by-requires (widths-by-reads.Asked, widths-by-reads.Learnt, widths-in-below t, widths-in.Post, widths-large-reads.Asked, widths-large-reads.Learnt) (widths-in-at t) widths-in.Post
-widths-in-widths-by-requires t c κs = c .before .before .before .before .before .pre .1 .0 ∙ ap (λ (k : ℕ). 4 * k) (sym (length-take-le _ _ (c .before .before .if1 .taken)))
-
-widths-in-same-length : (t : ℕ) → widths-in-lts.Need-same-length (widths-by-reads.Asked, widths-by-reads.Learnt, widths-in-below t, widths-in.Post, widths-large-reads.Asked, widths-large-reads.Learnt) (widths-in-at t) widths-in.Post
-widths-in-same-length t c = search needs
-
-widths-in-same-length-2 : (t : ℕ) → widths-in-lts.Need-same-length-2 (widths-by-reads.Asked, widths-by-reads.Learnt, widths-in-below t, widths-in.Post, widths-large-reads.Asked, widths-large-reads.Learnt) (widths-in-at t) widths-in.Post
-widths-in-same-length-2 t c = search needs
-
-widths-in-returns : (t : ℕ) → widths-in-lts.Need-returns (widths-by-reads.Asked, widths-by-reads.Learnt, widths-in-below t, widths-in.Post, widths-large-reads.Asked, widths-large-reads.Learnt) (widths-in-at t) widths-in.Post
-widths-in-returns t c = search needs
-
-widths-in-slice-aggregate-widths-in : (t : ℕ) → widths-in-lts.Need-slice-aggregate-widths-in (widths-by-reads.Asked, widths-by-reads.Learnt, widths-in-below t, widths-in.Post, widths-large-reads.Asked, widths-large-reads.Learnt) (widths-in-at t) widths-in.Post
-widths-in-slice-aggregate-widths-in t c = search needs
-
-widths-in-widths-in-requires : (t : ℕ) → widths-in-lts.Need-widths-in-requires (widths-by-reads.Asked, widths-by-reads.Learnt, widths-in-below t, widths-in.Post, widths-large-reads.Asked, widths-large-reads.Learnt) (widths-in-at t) widths-in.Post
-widths-in-widths-in-requires t c κs = search needs
-
-widths-in-same-length-3 : (t : ℕ) → widths-in-lts.Need-same-length-3 (widths-by-reads.Asked, widths-by-reads.Learnt, widths-in-below t, widths-in.Post, widths-large-reads.Asked, widths-large-reads.Learnt) (widths-in-at t) widths-in.Post
-widths-in-same-length-3 t c = search needs
-
-widths-in-returns-2 : (t : ℕ) → widths-in-lts.Need-returns-2 (widths-by-reads.Asked, widths-by-reads.Learnt, widths-in-below t, widths-in.Post, widths-large-reads.Asked, widths-large-reads.Learnt) (widths-in-at t) widths-in.Post
-widths-in-returns-2 t c = search needs
-
-widths-in-widths-large-requires : (t : ℕ) → widths-in-lts.Need-widths-large-requires (widths-by-reads.Asked, widths-by-reads.Learnt, widths-in-below t, widths-in.Post, widths-large-reads.Asked, widths-large-reads.Learnt) (widths-in-at t) widths-in.Post
-widths-in-widths-large-requires t c κs = search needs
-
-widths-in-same-length-4 : (t : ℕ) → widths-in-lts.Need-same-length-4 (widths-by-reads.Asked, widths-by-reads.Learnt, widths-in-below t, widths-in.Post, widths-large-reads.Asked, widths-large-reads.Learnt) (widths-in-at t) widths-in.Post
-widths-in-same-length-4 t c = search needs
-
-widths-in-returns-3 : (t : ℕ) → widths-in-lts.Need-returns-3 (widths-by-reads.Asked, widths-by-reads.Learnt, widths-in-below t, widths-in.Post, widths-large-reads.Asked, widths-large-reads.Learnt) (widths-in-at t) widths-in.Post
-widths-in-returns-3 t c = search needs
-
 pub +widths-in-spec : {M : Type 1} → statement M
-+widths-in-spec = close μ-widths-in λ t. widths-in-lts.spec (widths-by-reads.Asked, widths-by-reads.Learnt, widths-in-below t, widths-in.Post, widths-large-reads.Asked, widths-large-reads.Learnt)
++widths-in-spec =
+    close μ-widths-in λ t.
+    widths-in-lts.spec
+    (widths-by-reads.Asked, widths-by-reads.Learnt, widths-in-below t, widths-in.Post, widths-large-reads.Asked, widths-large-reads.Learnt)
     (widths-in-at t)
     widths-in.Post
-    (widths-in-slice-relend-prefix-widths-by t)
-    (widths-in-slice-aggregate-widths-by t)
-    (widths-in-widths-by-requires t)
-    (widths-in-same-length t)
-    (widths-in-same-length-2 t)
-    (widths-in-returns t)
-    (widths-in-slice-aggregate-widths-in t)
-    (widths-in-widths-in-requires t)
-    (widths-in-same-length-3 t)
-    (widths-in-returns-2 t)
-    (widths-in-widths-large-requires t)
-    (widths-in-same-length-4 t)
-    (widths-in-returns-3 t)
+    (search needs)
+    (λ c. sym (length-take-le _ _ (c .before .before .if1 .taken)))
+    (λ c κs. c .before .before .before .before .before .pre .1 .0 ∙ ap (λ (k : ℕ). 4 * k) (sym (length-take-le _ _ (c .before .before .if1 .taken))))
+    (search needs) (search needs) (λ c. search needs)
+    (search needs) (search needs) (search needs) (λ c. search needs)
+    (search needs) (search needs) (λ c. search needs)

@@ -3,27 +3,9 @@ use borrow.Author.Needs.{needs}
 use Rattle.leaves.proofs.leaf_atan2_fast.Statement.{statement}
 use Rattle.leaves.proofs.leaf_atan2_fast.Tie as tie
 
-f32-of-bits-requires : tie.Need-f32-of-bits-requires
-f32-of-bits-requires c κs = search needs
-
-f32-of-bits-requires-2 : tie.Need-f32-of-bits-requires-2
-f32-of-bits-requires-2 c κs = search needs
-
-atan2-fast-requires : tie.Need-atan2-fast-requires
-atan2-fast-requires c κs = search needs
-
-bits-of-f32-requires : tie.Need-bits-of-f32-requires
-bits-of-f32-requires c κs = search needs
-
 returns : tie.Need-returns
 returns c = simp (← c .before .before .before .f32-of-bits .ensures, ← c .before .before .f32-of-bits2 .ensures, ← c .before .atan2-fast .ensures, ← c .bits-of-f32 .ensures)
 
 pub leaf-atan2-fast-spec : {M : Type 1} → statement M
 leaf-atan2-fast-spec =
-    tie.close
-    (tie.spec
-    f32-of-bits-requires
-    f32-of-bits-requires-2
-    atan2-fast-requires
-    bits-of-f32-requires
-    returns)
+    tie.close (tie.spec (search needs) (search needs) (search needs) (search needs) returns)

@@ -5,18 +5,9 @@ use borrow.Author.Needs.{needs}
 use Rattle.leaves.proofs.leaf_fsk_width.Statement.{statement}
 use Rattle.leaves.proofs.leaf_fsk_width.Tie as tie
 
-f64-of-bits-requires : tie.Need-f64-of-bits-requires
-f64-of-bits-requires c κs = search needs
-
-f64-of-bits-requires-2 : tie.Need-f64-of-bits-requires-2
-f64-of-bits-requires-2 c κs = search needs
-
-fsk-width-requires : tie.Need-fsk-width-requires
-fsk-width-requires c κs = search needs
-
 returns : tie.Need-returns
 returns c = ap (λ (x : Steps). x .0) (c .fsk-width .ensures) ∙ simp (← c .before .before .f64-of-bits .ensures, ← c .before .f64-of-bits2 .ensures)
 
 pub leaf-fsk-width-spec : {M : Type 1} → statement M
 leaf-fsk-width-spec =
-    tie.close (tie.spec f64-of-bits-requires f64-of-bits-requires-2 fsk-width-requires returns)
+    tie.close (tie.spec (search needs) (search needs) (search needs) returns)

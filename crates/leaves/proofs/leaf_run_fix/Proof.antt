@@ -5,14 +5,8 @@ use borrow.Author.Needs.{needs}
 use Rattle.leaves.proofs.leaf_run_fix.Statement.{statement}
 use Rattle.leaves.proofs.leaf_run_fix.Tie as tie
 
-f64-of-bits-requires : tie.Need-f64-of-bits-requires
-f64-of-bits-requires c κs = search needs
-
-run-fix-requires : tie.Need-run-fix-requires
-run-fix-requires c κs = search needs
-
-returns : tie.Need-returns
-returns c = ap (λ (x : Fix64). x .0) (c .run-fix .ensures) ∙ simp (← c .before .f64-of-bits .ensures)
-
 pub leaf-run-fix-spec : {M : Type 1} → statement M
-leaf-run-fix-spec = tie.close (tie.spec f64-of-bits-requires run-fix-requires returns)
+leaf-run-fix-spec =
+    tie.close
+    (tie.spec (search needs) (search needs)
+    (λ c. ap (λ (x : Fix64). x .0) (c .run-fix .ensures) ∙ simp (← c .before .f64-of-bits .ensures)))

@@ -3,14 +3,6 @@ use borrow.Author.Needs.{needs}
 use Rattle.leaves.proofs.leaf_step_of.Statement.{statement}
 use Rattle.leaves.proofs.leaf_step_of.Tie as tie
 
-f64-of-bits-requires : tie.Need-f64-of-bits-requires
-f64-of-bits-requires c κs = search needs
-
-step-of-requires : tie.Need-step-of-requires
-step-of-requires c κs = search needs
-
-returns : tie.Need-returns
-returns c = simp (← c .before .f64-of-bits .ensures, ← c .step-of .ensures)
-
 pub leaf-step-of-spec : {M : Type 1} → statement M
-leaf-step-of-spec = tie.close (tie.spec f64-of-bits-requires step-of-requires returns)
+leaf-step-of-spec =
+    tie.close (tie.spec (search needs) (search needs) (λ c. simp (← c .before .f64-of-bits .ensures, ← c .step-of .ensures)))

@@ -3,14 +3,5 @@ use borrow.Author.Needs.{needs}
 use Rattle.leaves.proofs.leaf_to_u32.Statement.{statement}
 use Rattle.leaves.proofs.leaf_to_u32.Tie as tie
 
-f64-of-bits-requires : tie.Need-f64-of-bits-requires
-f64-of-bits-requires c κs = search needs
-
-to-u32-requires : tie.Need-to-u32-requires
-to-u32-requires c κs = search needs
-
-returns : tie.Need-returns
-returns c = simp (← c .before .f64-of-bits .ensures, ← c .to-u32 .ensures)
-
 pub leaf-to-u32-spec : {M : Type 1} → statement M
-leaf-to-u32-spec = tie.close (tie.spec f64-of-bits-requires to-u32-requires returns)
+leaf-to-u32-spec = tie.close (tie.spec (search needs) (search needs) (λ c. simp (← c .before .f64-of-bits .ensures, ← c .to-u32 .ensures)))

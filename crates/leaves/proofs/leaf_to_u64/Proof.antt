@@ -3,14 +3,5 @@ use borrow.Author.Needs.{needs}
 use Rattle.leaves.proofs.leaf_to_u64.Statement.{statement}
 use Rattle.leaves.proofs.leaf_to_u64.Tie as tie
 
-f64-of-bits-requires : tie.Need-f64-of-bits-requires
-f64-of-bits-requires c κs = search needs
-
-to-u64-requires : tie.Need-to-u64-requires
-to-u64-requires c κs = search needs
-
-returns : tie.Need-returns
-returns c = simp (← c .before .f64-of-bits .ensures, ← c .to-u64 .ensures)
-
 pub leaf-to-u64-spec : {M : Type 1} → statement M
-leaf-to-u64-spec = tie.close (tie.spec f64-of-bits-requires to-u64-requires returns)
+leaf-to-u64-spec = tie.close (tie.spec (search needs) (search needs) (λ c. simp (← c .before .f64-of-bits .ensures, ← c .to-u64 .ensures)))

@@ -3,14 +3,6 @@ use borrow.Author.Needs.{needs}
 use Rattle.leaves.proofs.leaf_u32_to_f32.Statement.{statement}
 use Rattle.leaves.proofs.leaf_u32_to_f32.Tie as tie
 
-u32-to-f32-requires : tie.Need-u32-to-f32-requires
-u32-to-f32-requires c κs = search needs
-
-bits-of-f32-requires : tie.Need-bits-of-f32-requires
-bits-of-f32-requires c κs = search needs
-
-returns : tie.Need-returns
-returns c = simp (← c .before .u32-to-f32 .ensures, ← c .bits-of-f32 .ensures)
-
 pub leaf-u32-to-f32-spec : {M : Type 1} → statement M
-leaf-u32-to-f32-spec = tie.close (tie.spec u32-to-f32-requires bits-of-f32-requires returns)
+leaf-u32-to-f32-spec =
+    tie.close (tie.spec (search needs) (search needs) (λ c. simp (← c .before .u32-to-f32 .ensures, ← c .bits-of-f32 .ensures)))

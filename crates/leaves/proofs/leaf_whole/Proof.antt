@@ -3,14 +3,5 @@ use borrow.Author.Needs.{needs}
 use Rattle.leaves.proofs.leaf_whole.Statement.{statement}
 use Rattle.leaves.proofs.leaf_whole.Tie as tie
 
-f64-of-bits-requires : tie.Need-f64-of-bits-requires
-f64-of-bits-requires c κs = search needs
-
-whole-requires : tie.Need-whole-requires
-whole-requires c κs = search needs
-
-returns : tie.Need-returns
-returns c = simp (← c .before .f64-of-bits .ensures, ← c .whole .ensures)
-
 pub leaf-whole-spec : {M : Type 1} → statement M
-leaf-whole-spec = tie.close (tie.spec f64-of-bits-requires whole-requires returns)
+leaf-whole-spec = tie.close (tie.spec (search needs) (search needs) (λ c. simp (← c .before .f64-of-bits .ensures, ← c .whole .ensures)))

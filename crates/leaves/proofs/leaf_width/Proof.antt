@@ -5,18 +5,9 @@ use borrow.Author.Needs.{needs}
 use Rattle.leaves.proofs.leaf_width.Statement.{statement}
 use Rattle.leaves.proofs.leaf_width.Tie as tie
 
-f64-of-bits-requires : tie.Need-f64-of-bits-requires
-f64-of-bits-requires c κs = search needs
-
-f64-of-bits-requires-2 : tie.Need-f64-of-bits-requires-2
-f64-of-bits-requires-2 c κs = search needs
-
-width-requires : tie.Need-width-requires
-width-requires c κs = search needs
-
 returns : tie.Need-returns
 returns c = ap (λ (x : Steps). x .0) (c .width .ensures) ∙ simp (← c .before .before .f64-of-bits .ensures, ← c .before .f64-of-bits2 .ensures)
 
 pub leaf-width-spec : {M : Type 1} → statement M
 leaf-width-spec =
-    tie.close (tie.spec f64-of-bits-requires f64-of-bits-requires-2 width-requires returns)
+    tie.close (tie.spec (search needs) (search needs) (search needs) returns)

@@ -6,20 +6,11 @@ use borrow.Author.Needs.{needs}
 use Rattle.lines.proofs.call_lines.Statement.{statement}
 use Rattle.lines.proofs.call_lines.Tie as tie
 
-larger-requires : tie.Need-larger-requires
-larger-requires c κs = search needs
-
-has-room-requires : tie.Need-has-room-requires
-has-room-requires c κs = search needs
-
 put-call-requires : tie.Need-put-call-requires
 put-call-requires c κs =
     let a = c .before .before .before .before .before .before .before .args in
     parts-fit (length (a .fs .now)) (length (a .os .now)) (length (a .text .now)) (a .at)
     (simp (← c .before .before .before .larger .ensures, ← c .before .before .has-room .ensures, c .before .if1 .taken))
-
-same-length : tie.Need-same-length
-same-length c = search needs
 
 returns : tie.Need-returns
 unfolding writtenCall
@@ -35,5 +26,4 @@ returns-2 c = simp (← c .before .before .larger .ensures, ← c .before .has-r
 
 pub call-lines-spec : {M : Type 1} → statement M
 call-lines-spec =
-    tie.close
-    (tie.spec larger-requires has-room-requires put-call-requires same-length returns returns-2)
+    tie.close (tie.spec (search needs) (search needs) put-call-requires (search needs) returns returns-2)

@@ -4,23 +4,12 @@ use borrow.Author.Needs.{needs}
 use Rattle.lines.proofs.has_room.Statement.{statement}
 use Rattle.lines.proofs.has_room.Tie as tie
 
-returns : tie.Need-returns
-unfolding hasRoom
-returns c = simp (lt-ltb _ _ (c .if1 .taken))
-
-returns-2 : tie.Need-returns-2
-unfolding hasRoom
-returns-2 c = simp (le-ltb _ _ (c .before .if1 .left), lt-ltb _ _ (c .if2 .taken))
-
-mul-result : tie.Need-mul-result
-mul-result c = search needs
-
-add-result : tie.Need-add-result
-add-result c = search needs
-
-returns-3 : tie.Need-returns-3
-unfolding hasRoom
-returns-3 c = simp (le-ltb _ _ (c .before .if1 .left), le-ltb _ _ (c .if2 .left))
-
 pub has-room-spec : {M : Type 1} → statement M
-has-room-spec = tie.close (tie.spec returns returns-2 mul-result add-result returns-3)
+unfolding hasRoom
+has-room-spec =
+    tie.close
+    (tie.spec
+    (λ c. simp (lt-ltb _ _ (c .if1 .taken)))
+    (λ c. simp (le-ltb _ _ (c .before .if1 .left), lt-ltb _ _ (c .if2 .taken)))
+    (search needs) (search needs)
+    (λ c. simp (le-ltb _ _ (c .before .if1 .left), le-ltb _ _ (c .if2 .left))))

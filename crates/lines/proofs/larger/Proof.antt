@@ -2,11 +2,5 @@ use borrow.Author.Tests.{lt-ltb, le-ltb}
 use Rattle.lines.proofs.larger.Statement.{statement}
 use Rattle.lines.proofs.larger.Tie as tie
 
-returns : tie.Need-returns
-returns c = simp (lt-ltb _ _ (c .if1 .taken))
-
-returns-2 : tie.Need-returns-2
-returns-2 c = simp (le-ltb _ _ (c .if1 .left))
-
 pub larger-spec : {M : Type 1} → statement M
-larger-spec = tie.close (tie.spec returns returns-2)
+larger-spec = tie.close (tie.spec (λ c. simp (lt-ltb _ _ (c .if1 .taken))) (λ c. simp (le-ltb _ _ (c .if1 .left))))

@@ -4,18 +4,6 @@ use borrow.Author.Needs.{needs}
 use Rattle.lines.proofs.put_byte.Statement.{statement}
 use Rattle.lines.proofs.put_byte.Tie as tie
 
-slice-write-text : tie.Need-slice-write-text
-slice-write-text c = search needs
-
-add-result : tie.Need-add-result
-add-result c = search needs
-
-same-length : tie.Need-same-length
-same-length c = search needs
-
-returns : tie.Need-returns
-unfolding put
-returns c = record { text = refl; near = search needs }
-
 pub put-byte-spec : {M : Type 1} → statement M
-put-byte-spec = tie.close (tie.spec slice-write-text add-result same-length returns)
+unfolding put
+put-byte-spec = tie.close (tie.spec (search needs) (search needs) (search needs) (λ c. record { text = refl; near = search needs }))

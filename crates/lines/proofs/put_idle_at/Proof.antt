@@ -4,24 +4,6 @@ use borrow.Author.Needs.{needs}
 use Rattle.lines.proofs.put_idle_at.Statement.{statement}
 use Rattle.lines.proofs.put_idle_at.Tie as tie
 
-slice-aggregate-put-bytes : tie.Need-slice-aggregate-put-bytes
-slice-aggregate-put-bytes c = search needs
-
-put-bytes-requires : tie.Need-put-bytes-requires
-put-bytes-requires c κs = search needs
-
-put-number-requires : tie.Need-put-number-requires
-put-number-requires c κs = search needs
-
-put-float-requires : tie.Need-put-float-requires
-put-float-requires c κs = search needs
-
-put-byte-requires : tie.Need-put-byte-requires
-put-byte-requires c κs = search needs
-
-same-length : tie.Need-same-length
-same-length c = search needs
-
 returns : tie.Need-returns
 unfolding carrierLine
 returns c = within 48 (search needs)
@@ -32,12 +14,4 @@ returns c = within 48 (search needs)
 
 pub put-idle-at-spec : {M : Type 1} → statement M
 put-idle-at-spec =
-    tie.close
-    (tie.spec
-    slice-aggregate-put-bytes
-    put-bytes-requires
-    put-number-requires
-    put-float-requires
-    put-byte-requires
-    same-length
-    returns)
+    tie.close (tie.spec (search needs) (search needs) (search needs) (search needs) (search needs) (search needs) returns)

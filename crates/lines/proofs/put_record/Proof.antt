@@ -4,12 +4,6 @@ use borrow.Author.Needs.{needs}
 use Rattle.lines.proofs.put_record.Statement.{statement}
 use Rattle.lines.proofs.put_record.Tie as tie
 
-put-train-requires : tie.Need-put-train-requires
-put-train-requires c κs = search needs
-
-same-length : tie.Need-same-length
-same-length c = search needs
-
 returns : tie.Need-returns
 unfolding recordLine
 returns c = same (simp (c .before .before .before .before .if1 .taken)) (c .before .before .put-train .ensures)
@@ -19,4 +13,4 @@ unfolding recordLine
 returns-2 c = same (simp (c .if1 .left)) (put-none _ _ _)
 
 pub put-record-spec : {M : Type 1} → statement M
-put-record-spec = tie.close (tie.spec put-train-requires same-length returns returns-2)
+put-record-spec = tie.close (tie.spec (search needs) (search needs) returns returns-2)

@@ -9,18 +9,6 @@ use borrow.Author.Needs.{needs}
 use Rattle.lines.proofs.put_train.Statement.{statement}
 use Rattle.lines.proofs.put_train.Tie as tie
 
-span-of-requires : tie.Need-span-of-requires
-span-of-requires c κs = search needs
-
-put-head-requires : tie.Need-put-head-requires
-put-head-requires c κs = search needs
-
-put-tail-requires : tie.Need-put-tail-requires
-put-tail-requires c κs = search needs
-
-same-length : tie.Need-same-length
-same-length c = search needs
-
 returns : tie.Need-returns
 unfolding trainLine
 returns c =
@@ -32,4 +20,4 @@ returns c =
 
 pub put-train-spec : {M : Type 1} → statement M
 put-train-spec =
-    tie.close (tie.spec span-of-requires put-head-requires put-tail-requires same-length returns)
+    tie.close (tie.spec (search needs) (search needs) (search needs) (search needs) returns)

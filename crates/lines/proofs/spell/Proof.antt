@@ -17,22 +17,10 @@ Inv-loop n out₀ i₀ rest₀ out i rest =
 abbrev μ-loop : tie.MeasureT-loop
 μ-loop n out₀ i₀ rest₀ out i rest = i
 
-cast-out : tie.Need-cast-out Inv-loop μ-loop
-cast-out c = search needs
-
-add-out : tie.Need-add-out Inv-loop μ-loop
-add-out c = search needs
-
-slice-write-out : tie.Need-slice-write-out Inv-loop μ-loop
-slice-write-out c = search needs
-
 loop-holds : tie.Need-loop-holds Inv-loop μ-loop
 loop-holds c =
     let e : length (c .args .out .now) ≡ 20 = c .pre in
     (spell-start (c .args .out .now) (c .args .n) e, search needs, length-set (c .args .out .now) 19 _ ∙ e)
-
-same-length : tie.Need-same-length Inv-loop μ-loop
-same-length c = search needs
 
 returns : tie.Need-returns Inv-loop μ-loop
 returns c =
@@ -42,28 +30,10 @@ returns c =
       digits = spell-none (l .out) (l .i) ∙ ap (λ (r : ℕ). leading (l .i) r ++ drop (l .i) (l .out)) (sym (c .if1 .taken)) ∙ l .inv .0;
     }
 
-sub-i : tie.Need-sub-i Inv-loop μ-loop
-sub-i c = search needs
-
-cast-out-2 : tie.Need-cast-out-2 Inv-loop μ-loop
-cast-out-2 c = search needs
-
-add-out-2 : tie.Need-add-out-2 Inv-loop μ-loop
-add-out-2 c = search needs
-
-slice-write-out-2 : tie.Need-slice-write-out-2 Inv-loop μ-loop
-slice-write-out-2 c = search needs
-
-loop-less : tie.Need-loop-less Inv-loop μ-loop
-loop-less c = search needs
-
 loop-again : tie.Need-loop-again Inv-loop μ-loop
 loop-again c =
     let l = c .before .before .loop in
     (spell-turn (l .out) (l .i) (l .rest) (omega arith) (omega arith) (omega arith) ∙ l .inv .0, search needs, length-set (l .out) (l .i - 1) _ ∙ l .inv .2)
-
-same-length-2 : tie.Need-same-length-2 Inv-loop μ-loop
-same-length-2 c = search needs
 
 returns-2 : tie.Need-returns-2 Inv-loop μ-loop
 returns-2 c =
@@ -73,20 +43,5 @@ returns-2 c =
 pub spell-spec : {M : Type 1} → statement M
 spell-spec =
     tie.close
-    (tie.spec
-    Inv-loop
-    μ-loop
-    cast-out
-    add-out
-    slice-write-out
-    loop-holds
-    same-length
-    returns
-    sub-i
-    cast-out-2
-    add-out-2
-    slice-write-out-2
-    loop-less
-    loop-again
-    same-length-2
-    returns-2)
+    (tie.spec Inv-loop μ-loop (search needs) (search needs) (search needs) loop-holds (search needs) returns (search needs) (search needs)
+    (search needs) (search needs) (search needs) loop-again (search needs) returns-2)

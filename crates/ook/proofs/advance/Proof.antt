@@ -4,31 +4,13 @@ use borrow.Author.Needs.{needs}
 use Rattle.ook.proofs.advance.Statement.{statement}
 use Rattle.ook.proofs.advance.Tie as tie
 
-bit-requires : tie.Need-bit-requires
-bit-requires c κs = search needs
-
-lengthen-requires : tie.Need-lengthen-requires
-lengthen-requires c κs = search needs
-
 returns : tie.Need-returns
 unfolding advanceOf
 returns c = simp (← c .before .before .before .bit .ensures, c .before .if1 .taken, ← c .lengthen .ensures)
 
-rejoin-requires : tie.Need-rejoin-requires
-rejoin-requires c κs = search needs
-
 returns-2 : tie.Need-returns-2
 unfolding advanceOf
 returns-2 c = simp (← c .before .before .before .before .before .bit .ensures, c .before .before .before .if1 .left, c .before .if2 .taken, ← c .rejoin .ensures)
-
-cross-requires : tie.Need-cross-requires
-cross-requires c κs = search needs
-
-edge-requires : tie.Need-edge-requires
-edge-requires c κs = search needs
-
-begin-run-requires : tie.Need-begin-run-requires
-begin-run-requires c κs = search needs
 
 returns-3 : tie.Need-returns-3
 unfolding advanceOf
@@ -37,13 +19,4 @@ returns-3 c = simp (← c .before .before .before .before .before .before .befor
 pub advance-spec : {M : Type 1} → statement M
 advance-spec =
     tie.close
-    (tie.spec
-    bit-requires
-    lengthen-requires
-    returns
-    rejoin-requires
-    returns-2
-    cross-requires
-    edge-requires
-    begin-run-requires
-    returns-3)
+    (tie.spec (search needs) (search needs) returns (search needs) returns-2 (search needs) (search needs) (search needs) returns-3)

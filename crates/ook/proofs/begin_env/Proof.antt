@@ -4,9 +4,6 @@ use Rattle.ook.specs.Run.{beginEnvOf}
 use Rattle.ook.proofs.begin_env.Statement.{statement}
 use Rattle.ook.proofs.begin_env.Tie as tie
 
-returns : tie.Need-returns
-unfolding beginEnvOf
-returns c = refl
-
 pub begin-env-spec : {M : Type 1} → statement M
-begin-env-spec = tie.close (tie.spec returns)
+unfolding beginEnvOf
+begin-env-spec = tie.close (tie.spec (λ c. refl))

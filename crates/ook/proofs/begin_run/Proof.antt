@@ -4,12 +4,6 @@ use borrow.Author.Needs.{needs}
 use Rattle.ook.proofs.begin_run.Statement.{statement}
 use Rattle.ook.proofs.begin_run.Tie as tie
 
-bit-requires : tie.Need-bit-requires
-bit-requires c κs = search needs
-
-returns : tie.Need-returns
-unfolding beginRunOf
-returns c = simp (← c .bit .ensures)
-
 pub begin-run-spec : {M : Type 1} → statement M
-begin-run-spec = tie.close (tie.spec bit-requires returns)
+unfolding beginRunOf
+begin-run-spec = tie.close (tie.spec (search needs) (λ c. simp (← c .bit .ensures)))

@@ -17,30 +17,6 @@ float-from-bits-best : tie.Need-float-from-bits-best Inv-loop μ-loop
 unfolding nanBits
 float-from-bits-best c = search needs
 
-loop-holds : tie.Need-loop-holds Inv-loop μ-loop
-loop-holds c = search needs
-
-mul-excess : tie.Need-mul-excess Inv-loop μ-loop
-mul-excess c = search needs
-
-element-copy-out-excess : tie.Need-element-copy-out-excess Inv-loop μ-loop
-element-copy-out-excess c = search needs
-
-excess-requires : tie.Need-excess-requires Inv-loop μ-loop
-excess-requires c κs = search needs
-
-split-at-requires : tie.Need-split-at-requires Inv-loop μ-loop
-split-at-requires c κs = search needs
-
-best-at-requires : tie.Need-best-at-requires Inv-loop μ-loop
-best-at-requires c κs = search needs
-
-sub-j : tie.Need-sub-j Inv-loop μ-loop
-sub-j c = search needs
-
-loop-less : tie.Need-loop-less Inv-loop μ-loop
-loop-less c = search needs
-
 loop-again : tie.Need-loop-again Inv-loop μ-loop
 loop-again c = simp (c .best-at .ensures, c .before .split-at .ensures, c .before .before .excess .ensures) (sym (split-turn _ _ _ _ _ _ _ _ (c .before .before .before .before .loop-test .taken)) ∙ c .before .before .before .before .before .loop .inv)
 
@@ -50,17 +26,5 @@ returns c = sym (split-end _ _ _ _ _ _ _ _ (c .loop-test .left)) ∙ c .before .
 pub best-split-spec : {M : Type 1} → statement M
 best-split-spec =
     tie.close
-    (tie.spec
-    Inv-loop
-    μ-loop
-    float-from-bits-best
-    loop-holds
-    mul-excess
-    element-copy-out-excess
-    excess-requires
-    split-at-requires
-    best-at-requires
-    sub-j
-    loop-less
-    loop-again
-    returns)
+    (tie.spec Inv-loop μ-loop float-from-bits-best (search needs) (search needs) (search needs) (search needs) (search needs) (search needs)
+    (search needs) (search needs) loop-again returns)

@@ -4,18 +4,9 @@ use borrow.Author.Needs.{needs}
 use Rattle.ook.proofs.end_train.Statement.{statement}
 use Rattle.ook.proofs.end_train.Tie as tie
 
-close-gap-requires : tie.Need-close-gap-requires
-close-gap-requires c κs = search needs
-
-finish-requires : tie.Need-finish-requires
-finish-requires c κs = search needs
-
-same-length : tie.Need-same-length
-same-length c = search needs
-
-returns : tie.Need-returns
-unfolding endTrainOf
-returns c = simp (← c .before .before .before .close-gap .ensures, ← c .finish .ensures)
-
 pub end-train-spec : {M : Type 1} → statement M
-end-train-spec = tie.close (tie.spec close-gap-requires finish-requires same-length returns)
+unfolding endTrainOf
+end-train-spec =
+    tie.close
+    (tie.spec (search needs) (search needs) (search needs)
+    (λ c. simp (← c .before .before .before .close-gap .ensures, ← c .finish .ensures)))

@@ -4,12 +4,6 @@ use borrow.Author.Needs.{needs}
 use Rattle.ook.proofs.finish.Statement.{statement}
 use Rattle.ook.proofs.finish.Tie as tie
 
-empty-train-requires : tie.Need-empty-train-requires
-empty-train-requires c κs = search needs
-
-bit-requires : tie.Need-bit-requires
-bit-requires c κs = search needs
-
 returns : tie.Need-returns
 unfolding finishOf
 returns c = simp (← c .before .before .before .before .empty-train .ensures, c .before .before .if1 .taken, ← c .bit .ensures)
@@ -19,4 +13,4 @@ unfolding finishOf
 returns-2 c = simp (← c .before .before .empty-train .ensures, c .if1 .left)
 
 pub finish-spec : {M : Type 1} → statement M
-finish-spec = tie.close (tie.spec empty-train-requires bit-requires returns returns-2)
+finish-spec = tie.close (tie.spec (search needs) (search needs) returns returns-2)

@@ -4,12 +4,6 @@ use borrow.Author.Needs.{needs}
 use Rattle.ook.proofs.gap_ratio_exceeded.Statement.{statement}
 use Rattle.ook.proofs.gap_ratio_exceeded.Tie as tie
 
-u32-to-f32-requires : tie.Need-u32-to-f32-requires
-u32-to-f32-requires c κs = search needs
-
-u32-to-f32-requires-2 : tie.Need-u32-to-f32-requires-2
-u32-to-f32-requires-2 c κs = search needs
-
 returns : tie.Need-returns
 unfolding gapRatioExceededOf
 returns c = simp (c .before .before .if1 .taken, ← c .before .u32-to-f32 .ensures, ← c .u32-to-f322 .ensures)
@@ -20,4 +14,4 @@ returns-2 c = simp (c .if1 .left)
 
 pub gap-ratio-exceeded-spec : {M : Type 1} → statement M
 gap-ratio-exceeded-spec =
-    tie.close (tie.spec u32-to-f32-requires u32-to-f32-requires-2 returns returns-2)
+    tie.close (tie.spec (search needs) (search needs) returns returns-2)

@@ -4,12 +4,6 @@ use borrow.Author.Needs.{needs}
 use Rattle.ook.proofs.inc.Statement.{statement}
 use Rattle.ook.proofs.inc.Tie as tie
 
-wrapping-add-u32-requires : tie.Need-wrapping-add-u32-requires
-wrapping-add-u32-requires c κs = search needs
-
-returns : tie.Need-returns
-unfolding inc
-returns c = simp (← c .wrapping-add-u32 .ensures)
-
 pub inc-spec : {M : Type 1} → statement M
-inc-spec = tie.close (tie.spec wrapping-add-u32-requires returns)
+unfolding inc
+inc-spec = tie.close (tie.spec (search needs) (λ c. simp (← c .wrapping-add-u32 .ensures)))

@@ -3,11 +3,5 @@ use borrow.Author.Needs.{needs}
 use Rattle.ook.proofs.is_stay.Statement.{statement}
 use Rattle.ook.proofs.is_stay.Tie as tie
 
-next-number-requires : tie.Need-next-number-requires
-next-number-requires c κs = search needs
-
-returns : tie.Need-returns
-returns c = simp (← c .next-number .ensures)
-
 pub is-stay-spec : {M : Type 1} → statement M
-is-stay-spec = tie.close (tie.spec next-number-requires returns)
+is-stay-spec = tie.close (tie.spec (search needs) (λ c. simp (← c .next-number .ensures)))

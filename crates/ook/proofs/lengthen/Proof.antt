@@ -4,12 +4,6 @@ use borrow.Author.Needs.{needs}
 use Rattle.ook.proofs.lengthen.Statement.{statement}
 use Rattle.ook.proofs.lengthen.Tie as tie
 
-sat-add-requires : tie.Need-sat-add-requires
-sat-add-requires c κs = search needs
-
-returns : tie.Need-returns
-unfolding lengthenOf
-returns c = simp (← c .before .sat-add .ensures)
-
 pub lengthen-spec : {M : Type 1} → statement M
-lengthen-spec = tie.close (tie.spec sat-add-requires returns)
+unfolding lengthenOf
+lengthen-spec = tie.close (tie.spec (search needs) (λ c. simp (← c .before .sat-add .ensures)))

@@ -4,22 +4,13 @@ use borrow.Author.Needs.{needs}
 use Rattle.ook.proofs.pac_run.Statement.{statement}
 use Rattle.ook.proofs.pac_run.Tie as tie
 
-bit-requires : tie.Need-bit-requires
-bit-requires c κs = search needs
-
 returns : tie.Need-returns
 unfolding pacRunOf
 returns c = simp (← c .before .before .bit .ensures, c .if1 .taken)
 
-zero-if-requires : tie.Need-zero-if-requires
-zero-if-requires c κs = search needs
-
 returns-2 : tie.Need-returns-2
 unfolding pacRunOf
 returns-2 c = simp (← c .before .before .before .before .before .bit .ensures, c .before .before .before .if1 .left, c .before .if2 .taken, ← c .zero-if .ensures)
-
-zero-if-requires-2 : tie.Need-zero-if-requires-2
-zero-if-requires-2 c κs = search needs
 
 returns-3 : tie.Need-returns-3
 unfolding pacRunOf
@@ -27,5 +18,4 @@ returns-3 c = simp (← c .before .before .before .before .before .bit .ensures,
 
 pub pac-run-spec : {M : Type 1} → statement M
 pac-run-spec =
-    tie.close
-    (tie.spec bit-requires returns zero-if-requires returns-2 zero-if-requires-2 returns-3)
+    tie.close (tie.spec (search needs) returns (search needs) returns-2 (search needs) returns-3)

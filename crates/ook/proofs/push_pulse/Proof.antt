@@ -8,21 +8,9 @@ returns : tie.Need-returns
 unfolding pushPulseOf
 returns c = simp (c .if1 .taken)
 
-cast-put : tie.Need-cast-put
-cast-put c = search needs
-
-mul-put : tie.Need-mul-put
-mul-put c = search needs
-
-put-requires : tie.Need-put-requires
-put-requires c κs = search needs
-
-same-length : tie.Need-same-length
-same-length c = search needs
-
 returns-2 : tie.Need-returns-2
 unfolding pushPulseOf
 returns-2 c = simp (c .before .before .before .before .before .before .before .before .before .if1 .left, ← c .before .before .before .before .before .before .put .ensures)
 
 pub push-pulse-spec : {M : Type 1} → statement M
-push-pulse-spec = tie.close (tie.spec returns cast-put mul-put put-requires same-length returns-2)
+push-pulse-spec = tie.close (tie.spec returns (search needs) (search needs) (search needs) (search needs) returns-2)

@@ -5,20 +5,5 @@ use borrow.Author.Needs.{needs}
 use Rattle.ook.proofs.put.Statement.{statement}
 use Rattle.ook.proofs.put.Tie as tie
 
-mul-pairs : tie.Need-mul-pairs
-mul-pairs c = search needs
-
-slice-write-pairs : tie.Need-slice-write-pairs
-slice-write-pairs c = search needs
-
-same-length : tie.Need-same-length
-same-length c = search needs
-
-returns : tie.Need-returns
-returns c = search needs
-
-returns-2 : tie.Need-returns-2
-returns-2 c = sym (set-out _ _ _ (c .if1 .left))
-
 pub put-spec : {M : Type 1} → statement M
-put-spec = tie.close (tie.spec mul-pairs slice-write-pairs same-length returns returns-2)
+put-spec = tie.close (tie.spec (search needs) (search needs) (search needs) (search needs) (λ c. sym (set-out _ _ _ (c .if1 .left))))

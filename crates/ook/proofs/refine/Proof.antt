@@ -4,19 +4,10 @@ use borrow.Author.Needs.{needs}
 use Rattle.ook.proofs.refine.Statement.{statement}
 use Rattle.ook.proofs.refine.Tie as tie
 
-refine-level-requires : tie.Need-refine-level-requires
-refine-level-requires c κs = search needs
-
-refine-lo-requires : tie.Need-refine-lo-requires
-refine-lo-requires c κs = search needs
-
-refine-in-requires : tie.Need-refine-in-requires
-refine-in-requires c κs = search needs
-
 returns : tie.Need-returns
 unfolding refineOf
 returns c = simp (← c .before .before .refine-level .ensures, ← c .before .refine-lo .ensures, ← c .refine-in .ensures)
 
 pub refine-spec : {M : Type 1} → statement M
 refine-spec =
-    tie.close (tie.spec refine-level-requires refine-lo-requires refine-in-requires returns)
+    tie.close (tie.spec (search needs) (search needs) (search needs) returns)

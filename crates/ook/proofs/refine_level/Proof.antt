@@ -4,12 +4,6 @@ use borrow.Author.Needs.{needs}
 use Rattle.ook.proofs.refine_level.Statement.{statement}
 use Rattle.ook.proofs.refine_level.Tie as tie
 
-sqrt-requires : tie.Need-sqrt-requires
-sqrt-requires c κs = search needs
-
-returns : tie.Need-returns
-unfolding refineLevelOf
-returns c = simp (← c .sqrt .ensures)
-
 pub refine-level-spec : {M : Type 1} → statement M
-refine-level-spec = tie.close (tie.spec sqrt-requires returns)
+unfolding refineLevelOf
+refine-level-spec = tie.close (tie.spec (search needs) (λ c. simp (← c .sqrt .ensures)))

@@ -4,19 +4,6 @@ use borrow.Author.Needs.{needs}
 use Rattle.ook.proofs.sat_add.Statement.{statement}
 use Rattle.ook.proofs.sat_add.Tie as tie
 
-sub-if1 : tie.Need-sub-if1
-sub-if1 c = search needs
-
-add-result : tie.Need-add-result
-add-result c = search needs
-
-returns : tie.Need-returns
-unfolding satAddOf
-returns c = search needs
-
-returns-2 : tie.Need-returns-2
-unfolding satAddOf
-returns-2 c = search needs
-
 pub sat-add-spec : {M : Type 1} → statement M
-sat-add-spec = tie.close (tie.spec sub-if1 add-result returns returns-2)
+unfolding satAddOf
+sat-add-spec = tie.close (tie.spec (search needs) (search needs) (λ c. search needs) (λ c. search needs))

@@ -4,28 +4,13 @@ use borrow.Author.Needs.{needs}
 use Rattle.slicer.proofs.away.Statement.{statement}
 use Rattle.slicer.proofs.away.Tie as tie
 
-seek-frame-requires : tie.Need-seek-frame-requires
-seek-frame-requires c κs = search needs
-
 returns : tie.Need-returns
 unfolding awayOf
 returns c = simp (c .before .before .if1 .taken, ← c .seek-frame .ensures)
 
-restart-requires : tie.Need-restart-requires
-restart-requires c κs = search needs
-
 returns-2 : tie.Need-returns-2
 unfolding awayOf
 returns-2 c = simp (c .before .before .before .if1 .left, c .before .if2 .taken, ← c .restart .ensures)
-
-seek-frame-requires-2 : tie.Need-seek-frame-requires-2
-seek-frame-requires-2 c κs = search needs
-
-fsk-resolve-requires : tie.Need-fsk-resolve-requires
-fsk-resolve-requires c κs = search needs
-
-same-length : tie.Need-same-length
-same-length c = search needs
 
 returns-3 : tie.Need-returns-3
 unfolding awayOf
@@ -33,13 +18,4 @@ returns-3 c = simp (c .before .before .before .before .before .before .before .b
 
 pub away-spec : {M : Type 1} → statement M
 away-spec =
-    tie.close
-    (tie.spec
-    seek-frame-requires
-    returns
-    restart-requires
-    returns-2
-    seek-frame-requires-2
-    fsk-resolve-requires
-    same-length
-    returns-3)
+    tie.close (tie.spec (search needs) returns (search needs) returns-2 (search needs) (search needs) (search needs) returns-3)

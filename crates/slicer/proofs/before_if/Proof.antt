@@ -3,13 +3,6 @@ use Rattle.slicer.specs.Seek.{beforeIfOf}
 use Rattle.slicer.proofs.before_if.Statement.{statement}
 use Rattle.slicer.proofs.before_if.Tie as tie
 
-returns : tie.Need-returns
-unfolding beforeIfOf
-returns c = simp (c .if1 .taken)
-
-returns-2 : tie.Need-returns-2
-unfolding beforeIfOf
-returns-2 c = simp (c .if1 .left)
-
 pub before-if-spec : {M : Type 1} → statement M
-before-if-spec = tie.close (tie.spec returns returns-2)
+unfolding beforeIfOf
+before-if-spec = tie.close (tie.spec (λ c. simp (c .if1 .taken)) (λ c. simp (c .if1 .left)))

@@ -4,9 +4,6 @@ use Rattle.slicer.specs.Seek.{clearOf}
 use Rattle.slicer.proofs.clear.Statement.{statement}
 use Rattle.slicer.proofs.clear.Tie as tie
 
-returns : tie.Need-returns
-unfolding clearOf
-returns c = refl
-
 pub clear-spec : {M : Type 1} → statement M
-clear-spec = tie.close (tie.spec returns)
+unfolding clearOf
+clear-spec = tie.close (tie.spec (λ c. refl))

@@ -4,12 +4,6 @@ use borrow.Author.Needs.{needs}
 use Rattle.slicer.proofs.far_from.Statement.{statement}
 use Rattle.slicer.proofs.far_from.Tie as tie
 
-abs-requires : tie.Need-abs-requires
-abs-requires c κs = search needs
-
-returns : tie.Need-returns
-unfolding farFromOf
-returns c = simp (← c .abs .ensures)
-
 pub far-from-spec : {M : Type 1} → statement M
-far-from-spec = tie.close (tie.spec abs-requires returns)
+unfolding farFromOf
+far-from-spec = tie.close (tie.spec (search needs) (λ c. simp (← c .abs .ensures)))

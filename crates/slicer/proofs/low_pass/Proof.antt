@@ -4,12 +4,6 @@ use borrow.Author.Needs.{needs}
 use Rattle.slicer.proofs.low_pass.Statement.{statement}
 use Rattle.slicer.proofs.low_pass.Tie as tie
 
-flush-denormal-requires : tie.Need-flush-denormal-requires
-flush-denormal-requires c κs = search needs
-
-returns : tie.Need-returns
-unfolding lowPassOf
-returns c = simp (← c .flush-denormal .ensures)
-
 pub low-pass-spec : {M : Type 1} → statement M
-low-pass-spec = tie.close (tie.spec flush-denormal-requires returns)
+unfolding lowPassOf
+low-pass-spec = tie.close (tie.spec (search needs) (λ c. simp (← c .flush-denormal .ensures)))

@@ -4,15 +4,6 @@ use borrow.Author.Needs.{needs}
 use Rattle.slicer.proofs.restart_early.Statement.{statement}
 use Rattle.slicer.proofs.restart_early.Tie as tie
 
-midpoint-requires : tie.Need-midpoint-requires
-midpoint-requires c κs = search needs
-
-array-read-restart-at : tie.Need-array-read-restart-at
-array-read-restart-at c = search needs
-
-restart-at-requires : tie.Need-restart-at-requires
-restart-at-requires c κs = search needs
-
 returns : tie.Need-returns
 unfolding restartEarlyOf
 returns c = simp (c .before .before .before .if1 .taken, ← c .before .midpoint .ensures, ← c .restart-at .ensures)
@@ -23,5 +14,4 @@ returns-2 c = simp (c .if1 .left)
 
 pub restart-early-spec : {M : Type 1} → statement M
 restart-early-spec =
-    tie.close
-    (tie.spec midpoint-requires array-read-restart-at restart-at-requires returns returns-2)
+    tie.close (tie.spec (search needs) (search needs) (search needs) returns returns-2)

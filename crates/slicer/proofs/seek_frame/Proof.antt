@@ -4,12 +4,6 @@ use borrow.Author.Needs.{needs}
 use Rattle.slicer.proofs.seek_frame.Statement.{statement}
 use Rattle.slicer.proofs.seek_frame.Tie as tie
 
-lengthen-requires : tie.Need-lengthen-requires
-lengthen-requires c κs = search needs
-
-returns : tie.Need-returns
-unfolding seekFrameOf
-returns c = simp (← c .lengthen .ensures)
-
 pub seek-frame-spec : {M : Type 1} → statement M
-seek-frame-spec = tie.close (tie.spec lengthen-requires returns)
+unfolding seekFrameOf
+seek-frame-spec = tie.close (tie.spec (search needs) (λ c. simp (← c .lengthen .ensures)))

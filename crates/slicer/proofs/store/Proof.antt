@@ -5,17 +5,5 @@ use borrow.Author.Needs.{needs}
 use Rattle.slicer.proofs.store.Statement.{statement}
 use Rattle.slicer.proofs.store.Tie as tie
 
-mul-q : tie.Need-mul-q
-mul-q c = search needs
-
-array-write-q : tie.Need-array-write-q
-array-write-q c = search needs
-
-returns : tie.Need-returns
-returns c = search needs
-
-returns-2 : tie.Need-returns-2
-returns-2 c = sym (set-out _ _ _ (search needs))
-
 pub store-spec : {M : Type 1} → statement M
-store-spec = tie.close (tie.spec mul-q array-write-q returns returns-2)
+store-spec = tie.close (tie.spec (search needs) (search needs) (search needs) (λ c. sym (set-out _ _ _ (search needs))))
