@@ -9,9 +9,9 @@ use lib.Dec.{eqb, ltb, leb}
 use lib.Ieee.{Float, binary32, toBits}
 use Rattle.ook.specs.declared.Out.{Out}
 use Rattle.ook.specs.declared.Carrier.{Carrier}
-use Rattle.ook.specs.declared.Carrier.the-variants.{Angle, Vector}
+use Rattle.ook.specs.Answers.{carrierKindOf, carrierFirstOf, carrierSecondOf}
 use Rattle.lane.specs.declared.Reply.{Reply}
-use Rattle.lane.specs.declared.Reply.the-variants.{Refused, Stay, Idle, IdleAt}
+use Rattle.lane.specs.Answers.{refusalNumberOf, replyNumberOf, replyEnvelopeOf}
 use Rattle.lines.specs.declared.Written.{Written}
 use Rattle.lines.specs.declared.Written.the-variants.{At, NoRoom}
 
@@ -58,8 +58,9 @@ kind f = cond (eqb f 1) (102 ∷ 115 ∷ 107 ∷ []) (111 ∷ 111 ∷ 107 ∷ []
 
 -- ` angle` and its bits, or ` vector` and two, the real one first
 abbrev pub carrier : Carrier → List ℕ
-carrier (Angle a) = (32 ∷ 97 ∷ 110 ∷ 103 ∷ 108 ∷ 101 ∷ []) ++ float a
-carrier (Vector re im) = (32 ∷ 118 ∷ 101 ∷ 99 ∷ 116 ∷ 111 ∷ 114 ∷ []) ++ (float re ++ float im)
+carrier c =
+    cond (eqb (carrierKindOf c) 1) ((32 ∷ 97 ∷ 110 ∷ 103 ∷ 108 ∷ 101 ∷ []) ++ float (carrierFirstOf c))
+    ((32 ∷ 118 ∷ 101 ∷ 99 ∷ 116 ∷ 111 ∷ 114 ∷ []) ++ (float (carrierFirstOf c) ++ float (carrierSecondOf c)))
 
 -- all widths
 unfoldable pub widths : List ℕ → List ℕ
@@ -104,10 +105,11 @@ refusedLine n = (114 ∷ 101 ∷ 102 ∷ 117 ∷ 115 ∷ 101 ∷ 100 ∷ []) ++ 
 -- what a call prints: the lines of its records, `fsk` before `ook`, and then the phase line, which `stay` has none of; a
 -- refused call prints its number and not the records that the lane still holds
 unfoldable pub callText : Reply → List ℕ → ℕ → List ℕ
-callText (Refused n) records index = refusedLine n
-callText Stay records index = records
-callText Idle records index = records ++ idleLine index
-callText (IdleAt e) records index = records ++ carrierLine index e
+callText r records index =
+    let n = replyNumberOf r in
+    cond (eqb n 0) records
+    (cond (eqb n 1) (records ++ idleLine index)
+    (cond (eqb n 2) (records ++ carrierLine index (replyEnvelopeOf r)) (refusedLine (refusalNumberOf r))))
 
 -- ---- stored in a buffer
 

@@ -1,7 +1,7 @@
 -- Lists of calls, and the bursts that end in them: document 01, "Lists, burst records and pulses".
 -- The answers are those of demand 2's definitions `opened`, `begun`, `stepped` and `sampleOf`, which the contracts of the program cite.
 use mathlib.Core.Path.{_≡_}
-use mathlib.Core.Bool.{Bool, true, false, cond}
+use mathlib.Core.Bool.{Bool, true, false, cond, not, _||_}
 use mathlib.Core.List.{List, [], _∷_, _++_, map}
 use Prim.Native.Nat.{ℕ}
 use lib.Dec.{ltb, eqb}
@@ -13,7 +13,7 @@ use Rattle.arith.specs.Leaves.{leadLenOf}
 use Rattle.ook.specs.declared.Settings.{Settings}
 use Rattle.ook.specs.declared.Out.{Out}
 use Rattle.ook.specs.declared.Next.{Next}
-use Rattle.ook.specs.declared.Next.the-variants as next
+use Rattle.ook.specs.Answers.{isStayOf}
 use Rattle.ook.specs.Counts.{zeroC32}
 use Rattle.stages.specs.declared.At.{At}
 use Rattle.burst.specs.declared.Burst.{Burst}
@@ -23,9 +23,9 @@ use Rattle.burst.specs.Lead.{largestOf, beginBurstOf}
 use Rattle.lane.specs.declared.Lane.{Lane}
 use Rattle.lane.specs.declared.Answer.{Answer}
 use Rattle.lane.specs.declared.Reply.{Reply}
-use Rattle.lane.specs.declared.Reply.the-variants.{Refused, Stay, Idle, IdleAt}
 use Rattle.lane.specs.declared.BeginArgs.{BeginArgs}
 use Rattle.lane.specs.declared.StepArgs.{StepArgs}
+use Rattle.lane.specs.Answers.{replyNumberOf}
 use Rattle.lane.specs.Part.{partOf}
 use Rattle.lane.specs.Begin.{ringOf, clearedOf}
 use Rattle.lane.specs.Step.{newLane, opened, begun, stepped}
@@ -44,10 +44,7 @@ answer l (begin b ook fsk) = (begun l b ook fsk, ook, fsk)
 answer l (step s ook fsk) = stepped l s ook fsk
 
 unfoldable pub accepted : Reply → Bool
-accepted (Refused k) = false
-accepted Stay = true
-accepted Idle = true
-accepted (IdleAt e) = true
+accepted r = not (eqb (replyNumberOf r) 3)
 
 -- ---- a burst's samples
 -- "Its samples are begin's, then one for each accepted step": what a call brings for its sample, and the sample of the call before.
@@ -67,9 +64,7 @@ entryOf r = entry (eqb (r .burst .env .run .level) 1) (r .burst .env .times .«t
 
 -- "The burst ends at the first sample whose stepping or replay answers idle or idle-at": what comes after it is dropped.
 unfoldable pub whileStay : Next → List (Sample Float) → List (Sample Float)
-whileStay next.Stay xs = xs
-whileStay next.Idle xs = []
-whileStay (next.IdleAt e) xs = []
+whileStay n xs = cond (isStayOf n) xs []
 
 -- demand 2's definition run over arguments, from a burst on: each sample's level and edge, up to the end of the burst
 unfoldable pub entries : Settings → Float → List Float → ℕ → List Arg → Burst → List ℕ → List ℕ → List (Sample Float)
@@ -175,10 +170,9 @@ pub record Ended : Type 0 where
 
 -- the burst that ends with a call that leads to k: its reply is idle or idle-at
 unfoldable pub closedBy : Reply → Settings → Place → List Ended
-closedBy (Refused n) p k = []
-closedBy Stay p k = []
-closedBy Idle p k = record { settings = p; samples = k .args; recorded = k .recorded; trains = k .trains } ∷ []
-closedBy (IdleAt e) p k = record { settings = p; samples = k .args; recorded = k .recorded; trains = k .trains } ∷ []
+closedBy r p k =
+    cond (eqb (replyNumberOf r) 1 || eqb (replyNumberOf r) 2)
+    (record { settings = p; samples = k .args; recorded = k .recorded; trains = k .trains } ∷ []) []
 
 unfoldable pub ended : Place → Call → List Ended
 ended k c = closedBy (answer (k .lane) c .0 .reply) (k .lane .settings) (afterCall k c)

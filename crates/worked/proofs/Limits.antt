@@ -1,0 +1,7 @@
+-- Refusal 4 at its limits, by computation from the definition that the contracts cite. Assumes nothing.
+use mathlib.Core.Path.{refl}
+use Rattle.worked.specs.Limits.{passes, Limited, limits, others}
+
+pub limited : Limited limits others
+unfolding passes
+limited = (refl, refl)
