@@ -60,7 +60,7 @@ pub sliced-off : (l : Lane) (s : StepArgs) (q : Steady) (fsk : List ℕ) → q .
 unfolding slicedLane slicedOf
 sliced-off l s q fsk h = simp h
 
--- a step that is steady does no more
+-- the answer to a steady step, from the lane and the FSK buffer after it: the envelope is in the ring, and the OOK buffer is as it was
 abbrev pub steadyAnswer : List Float → StepArgs → List ℕ → Lane × List ℕ → Answer × List ℕ × List ℕ
 steadyAnswer ring s ook r = (stay (withRing (ringOf ring (s .index) (s .envelope)) (r .0)), ook, r .1)
 
@@ -100,6 +100,7 @@ module _ (l : Lane) (ring : List Float) (s : StepArgs) (ook fsk : List ℕ) wher
   unfolding stepped stepRefusal laneOk
   accepts h = simp h
 
+  -- a step that is steady does no more
   pub steady-steps : q .ok ≡ true → stepped (withRing ring l) s ook fsk ≡ steadyAnswer ring s ook (slicedLane (steadiedLane l s q) s q fsk)
   steady-steps h =
       let k : Steadies l s (length ook) (length fsk) = steadies l s (length ook) (length fsk) h in

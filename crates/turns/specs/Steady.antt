@@ -52,7 +52,7 @@ is-step (Step s) h = refl
 is-step Unknown h = let z : _≡_ {A = Bool} false true = h in cc
 is-step Short h = let z : _≡_ {A = Bool} false true = h in cc
 
--- what steady steps say
+-- what steady steps say: the commands up to the place that they reach lead to the state that is left, and what comes after has the same lines
 pub record Passed (p : State) (s : List ℕ) (from : ℕ) (r : Past) (fsk : List ℕ) : Type 0 where
   pub onward : from ≤ r .used
   pub inside : r .used ≤ length s
