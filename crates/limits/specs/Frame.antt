@@ -28,7 +28,7 @@ use Rattle.limits.specs.Fsk.{inc-most, CommittedWithin, CommitWithin, Fr
 -- ---- end_frame
 
 module _ (max m : ℕ) where
-  last-run-within : (phase : ℕ) (r : Runs) (c : Committed) (end : Float) (fsk : List ℕ) → CommittedWithin max m c → CommitWithin max (m + 1) (lastRunOf max phase r c end fsk)
+  pub last-run-within : (phase : ℕ) (r : Runs) (c : Committed) (end : Float) (fsk : List ℕ) → CommittedWithin max m c → CommitWithin max (m + 1) (lastRunOf max phase r c end fsk)
   unfolding lastRunOf
   last-run-within phase r c end fsk h =
       either (CommitWithin max (m + 1)) (eqb phase 0)
@@ -37,14 +37,14 @@ module _ (max m : ℕ) where
       (search commit-within)
       (search commit-within))
 
-  close-pair-within : (c : Committed) (fsk : List ℕ) → CommittedWithin max m c → CommitWithin max m (closePairOf c fsk)
+  pub close-pair-within : (c : Committed) (fsk : List ℕ) → CommittedWithin max m c → CommitWithin max m (closePairOf c fsk)
   unfolding closePairOf
   close-pair-within c fsk h =
       by-test (CommitWithin max m) (eqb (c .«fsk_open») 1)
       (λ q. omega (arith, inc-most (c .«fsk_n»), eqb-true (c .«fsk_open») 1 q))
       (λ q. h)
 
-  out-within : (start end : Float) (c : Committed) (high : Float) (k : Carrier) → CommittedWithin max m c → OutWithin max (outOf start end c high k)
+  pub out-within : (start end : Float) (c : Committed) (high : Float) (k : Carrier) → CommittedWithin max m c → OutWithin max (outOf start end c high k)
   unfolding outOf
   out-within start end c high k h = omega (arith, bit-flag (eqb (c .«fsk_full») 1))
 

@@ -4,3 +4,4 @@ pub mod Slicer
 pub mod Frame
 pub mod Presence
 pub mod Burst
+pub mod Pairs
