@@ -75,7 +75,7 @@ cand-ok phase {p} {b} h = go (eqb phase 2) (eqb (b .frame .«fsk_phase») 0) ref
     go true false q = refl
     go false f q = refl
 
-no-out : (max : ℕ) → OutWithin max noOut
+pub no-out : (max : ℕ) → OutWithin max noOut
 no-out max = record { state-flag = omega arith; cut-flag = omega arith; kind-flag = omega arith; room = omega arith }
 
 pub none-within : (p : Settings) → BurstWithin p noBurst
