@@ -1,7 +1,8 @@
 -- The records of a sample have at most max_pulses pairs, from any burst whose train and frame have: what refusal 4 asks of the
 -- pairs alone is enough, whatever the counts of samples and runs are.
-use Prim.Native.Nat.{ℕ, zero, suc, _+_, _%_, _^_, _<_, _≤_}
-use mathlib.Core.Bool.{Bool, true, false, not}
+use Prim.Native.Nat.{ℕ, zero, suc, _+_, _^_, _<_}
+use mathlib.Core.Bool.{Bool, true, not}
+use mathlib.Core.Path.{_≡_}
 use mathlib.Core.List.{List}
 use native.Mathlib.Omega.{arith}
 use lib.Dec.{ltb, leb, eqb}
@@ -12,10 +13,10 @@ use Rattle.arith.specs.Leaves.{one64}
 use Rattle.ook.specs.Counts.{bit}
 use Rattle.ook.specs.Answers.{isStayOf}
 use Rattle.ook.specs.Params.{fskMinOf}
-use Rattle.ook.specs.Limits.{either, EnvWithin, TrainWithin, OutWithin, empty-within, begin-env-within}
+use Rattle.ook.specs.Limits.{either, by-test, EnvWithin, TrainWithin, OutWithin, empty-within, begin-env-within}
 use Rattle.ook.specs.declared.Settings.{Settings}
 use Rattle.ook.specs.declared.Out.{Out}
-use Rattle.fsk.specs.RunStep.{lengthenOf, rejoinOf, beginRunOf, confirmOf, confirmDueOf, fskRunStepOf}
+use Rattle.fsk.specs.RunStep.{lengthenOf, beginRunOf, confirmOf, confirmDueOf, fskRunStepOf}
 use Rattle.fsk.specs.Resolve.{beginFrameOf, isEarlyOf, openRunsOf, turnAtOf, sliceThrOf, hiLoOf, settleOf, fskResolveOf}
 use Rattle.fsk.specs.declared.Committed.{Committed}
 use Rattle.fsk.specs.declared.Runs.{Runs}
@@ -25,7 +26,7 @@ use Rattle.fsk.specs.declared.Cand.{Cand}
 use Rattle.fsk.specs.declared.Tone.{Tone}
 use Rattle.fsk.specs.declared.Frame.{Frame}
 use Rattle.fsk.specs.declared.Opening.{Opening}
-use Rattle.slicer.specs.Seek.{seedOf, farFromOf}
+use Rattle.slicer.specs.Seek.{farFromOf}
 use Rattle.slicer.specs.Sample.{seekFrameOf, restartOf, awayOf, seekOf, trackOf, fskSampleOf}
 use Rattle.frame.specs.End.{isSplitOf, enoughRunsOf, isFrameOf, lastRunOf, closeBy, endFrameOf}
 use Rattle.frame.specs.Cut.{cutTrainOf}
@@ -33,7 +34,7 @@ use Rattle.frame.specs.Done.{frameDoneOf}
 use Rattle.frame.specs.declared.Framed.{Framed}
 use Rattle.frame.specs.declared.Body.{Body}
 use Rattle.presence.specs.Move.{extendOf, moveFrameOf}
-use Rattle.presence.specs.Presence.{sliceIfOf, advanceOf, dueOf, sureIfOf, endsOf, endOf, endIfOf, longOf, fullBody, endCarrierOf, carrierIfOf, confirmBy, presenceOf, nearStartOf, snapOf}
+use Rattle.presence.specs.Presence.{sliceIfOf, advanceOf, endIfOf, longOf, fullBody, endCarrierOf, carrierIfOf, presenceOf, nearStartOf, snapOf}
 use Rattle.presence.specs.declared.Pres.{Pres}
 use Rattle.presence.specs.declared.Inputs.{Inputs}
 use Rattle.presence.specs.declared.Present.{Present}
@@ -210,6 +211,16 @@ pub record BurstFits (max : ℕ) (b : Burst) : Type 0 where
 abbrev pub SampledFits : ℕ → Sampled × List ℕ × List ℕ → Type 0
 SampledFits max q = BurstFits max (q .0 .burst)
 
+-- what each sample of a burst under way keeps holds after the replay of a lead-in
+pub replay-keeps : (p : Settings) (noise : Float) (ring : List Float) (l : Lead) (P : Sampled × List ℕ × List ℕ → Type 0)
+    → ((i : ℕ) (q : Sampled × List ℕ × List ℕ) → isStayOf (q .0 .next) ≡ true → P q → P (sampleOf p (leadAtOf noise l i) ring (q .0 .burst) (q .1) (q .2)))
+    → (k i : ℕ) (q : Sampled × List ℕ × List ℕ) → P q → P (replayFrom p noise ring l k i q)
+unfolding replayFrom
+replay-keeps p noise ring l P keep zero i q h = h
+replay-keeps p noise ring l P keep (suc k) i q h =
+    replay-keeps p noise ring l P keep k (i + 1) (onward p (leadAtOf noise l i) ring q)
+    (by-test P (isStayOf (q .0 .next)) (λ e. keep i q e h) (λ e. h))
+
 module _ (p : Settings) (fits : p .«max_pulses» < 2 ^ 32) where
   last-fits : (on : Bool) (e : Float) (b : Burst) (ook fsk : List ℕ) → BurstFits (p .«max_pulses») b → SampledFits (p .«max_pulses») (lastOf p on e b ook fsk)
   unfolding lastOf
@@ -251,11 +262,7 @@ module _ (p : Settings) (fits : p .«max_pulses» < 2 ^ 32) where
 
   -- the replay of a lead-in
   pub replay-fits : (noise : Float) (ring : List Float) (l : Lead) (k i : ℕ) (q : Sampled × List ℕ × List ℕ) → SampledFits (p .«max_pulses») q → SampledFits (p .«max_pulses») (replayFrom p noise ring l k i q)
-  unfolding replayFrom
-  replay-fits noise ring l zero i q h = h
-  replay-fits noise ring l (suc k) i q h =
-      replay-fits noise ring l k (i + 1) (onward p (leadAtOf noise l i) ring q)
-      (either (SampledFits (p .«max_pulses»)) (isStayOf (q .0 .next)) (sample-fits (leadAtOf noise l i) ring (q .0 .burst) (q .1) (q .2) h) h)
+  replay-fits noise ring l = replay-keeps p noise ring l (SampledFits (p .«max_pulses»)) (λ i q e h. sample-fits (leadAtOf noise l i) ring (q .0 .burst) (q .1) (q .2) h)
 
   -- a burst begins, whatever the one before left
   pub begin-burst-fits : (high t e : Float) (b : Burst) → BurstFits (p .«max_pulses») b → BurstFits (p .«max_pulses») (beginBurstOf high t e b)

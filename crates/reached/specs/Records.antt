@@ -2,18 +2,18 @@
 -- max_pulses pairs. So the slots that belong to a record are at most 2 * max_pulses, which the domain ends at 131,072.
 -- A refused call answers 3 (`replyNumberOf`) and prints no record.
 use Prim.Native.Nat.{ℕ, _+_, _*_, _^_, _≤_}
-use mathlib.Core.Bool.{Bool, true, false, cond, not, _&&_, _||_}
+use mathlib.Core.Bool.{Bool, true, false, cond, not, _&&_}
 use mathlib.Core.Path.{_≡_, refl}
 use mathlib.Core.List.{List}
 use native.Mathlib.Omega.{arith}
-use lib.ListN.{length, take, getD, length-take}
+use lib.ListN.{length, getD, length-take}
 use lib.Dec.{leb, ltb, eqb}
 use lib.IntN.{pos}
 use lib.Ieee.{Float, nan, binary64, ofInt}
 use borrow.Author.Tests.{leb-true, eqb-true, not-true}
 use Rattle.arith.specs.Leaves.{leadLenOf}
 use Rattle.ook.specs.Tests.{both-true, other-true, six-true}
-use Rattle.ook.specs.Limits.{either, by-test, EnvWithin, TrainWithin}
+use Rattle.ook.specs.Limits.{either, EnvWithin, TrainWithin}
 use Rattle.ook.specs.declared.Env.{Env}
 use Rattle.ook.specs.declared.Train.{Train}
 use Rattle.ook.specs.declared.Out.{Out}
@@ -23,12 +23,11 @@ use Rattle.fsk.specs.declared.Frame.{Frame}
 use Rattle.burst.specs.declared.Burst.{Burst}
 use Rattle.burst.specs.declared.Lead.{Lead}
 use Rattle.burst.specs.Lead.{leadAddOf, largestOf, beginBurstOf, staying, replayOf, leadFullOf}
-use Rattle.limits.specs.Fsk.{CommittedWithin}
 use Rattle.limits.specs.Pairs.{Paired, BurstFits, SampledFits, sample-fits, replay-fits, begin-burst-fits}
 use Rattle.refusals.specs.Domain.{InDomain, settings-tell, settingsOk, indexOk, roomOk}
 use Rattle.refusals.specs.State.{flag, envOk, trainOk, runsOk, committedOk, outOk, presOk, frameOk, burstOk}
 use Rattle.refusals.specs.Order.{none-failed}
-use Rattle.reached.specs.Kept.{no-out}
+use Rattle.reached.specs.Kept.{cleared-fits}
 use Rattle.lane.specs.declared.BeginArgs.{BeginArgs}
 use Rattle.lane.specs.declared.StepArgs.{StepArgs}
 use Rattle.lane.specs.declared.Lane.{Lane}
@@ -70,17 +69,11 @@ frame-tells max f h =
     pairs-tell max (f .done)
     (both-true (flag (f .«fsk_phase») && leb (f .mean .«fsk_cnt») (2 ^ 27) && flag (f .early .early) && runsOk (f .runs)) (committedOk max (f .done)) h .1)
 
-cleared-fits : (max : ℕ) (b : Burst) → burstOk max b ≡ true → BurstFits max (clearedOf b)
-unfolding burstOk clearedOf
-cleared-fits max b h =
+burst-tells : (max : ℕ) (b : Burst) → burstOk max b ≡ true → BurstFits max (clearedOf b)
+unfolding burstOk
+burst-tells max b h =
     let q = six-true (envOk (b .env)) (trainOk max (b .train)) (outOk (b .«out_ook»)) (presOk (b .pres)) (frameOk max (b .frame)) (outOk (b .«out_fsk»)) h in
-    record {
-      env-within = env-tells (b .env) (q .0);
-      train-within = train-tells max (b .train) (q .1);
-      ook-within = no-out max;
-      fsk-within = no-out max;
-      pairs = frame-tells max (b .frame) (q .4);
-    }
+    cleared-fits max b (env-tells (b .env) (q .0)) (train-tells max (b .train) (q .1)) (frame-tells max (b .frame) (q .4))
 
 -- ---- an accepted step
 
@@ -105,7 +98,7 @@ unfolding stepRefusal
 ready l s m n e =
     let t = none-failed true (laneOk l) (not (eqb (l .phase) 0)) (indexOk (s .index) && followsOf (l .last) (s .index)) (stepFloatsOk s) (roomOk (l .settings) m n) e in
     let k : Passes l = lane-passes l (t .1) in
-    record { domain = domain-tells (l .opened) (l .phase) (l .settings) (not-true (eqb (l .phase) 0) (t .2)) (k .had); fits = cleared-fits (l .settings .«max_pulses») (l .burst) (k .within) }
+    record { domain = domain-tells (l .opened) (l .phase) (l .settings) (not-true (eqb (l .phase) 0) (t .2)) (k .had); fits = burst-tells (l .settings .«max_pulses») (l .burst) (k .within) }
 
 abbrev AnswerFits : ℕ → Answer × List ℕ × List ℕ → Type 0
 AnswerFits max q = BurstFits max (q .0 .lane .burst)
@@ -137,7 +130,7 @@ pub record RecordsFit (max : ℕ) (b : Burst) : Type 0 where
   pub ook-pairs : b .«out_ook» .pairs ≤ max
   pub fsk-pairs : b .«out_fsk» .pairs ≤ max
 
--- neither record decides
+-- both records are cleared: neither decides
 pub record NoRecords (b : Burst) : Type 0 where
   pub ook-none : b .«out_ook» ≡ noOut
   pub fsk-none : b .«out_fsk» ≡ noOut
@@ -158,7 +151,7 @@ records-none-open l p e = rw e (record { ook-none = refl; fsk-none = refl })
 
 -- ---- their slots
 
--- the part of either record has at most `most` slots of buffers ook and fsk
+-- of the buffers ook and fsk at most `most` slots belong to either record
 pub record PartsFit (most : ℕ) (b : Burst) (ook fsk : List ℕ) : Type 0 where
   pub ook-part : length (partOf (b .«out_ook») ook fsk) ≤ most
   pub fsk-part : length (partOf (b .«out_fsk») ook fsk) ≤ most
@@ -192,5 +185,33 @@ pub parts-fit-open : (l : Lane) (p : Settings) → settingsOk p ≡ true → (mo
 parts-fit-open l p e most = none-most most (opened l p .lane .burst) (records-none-open l p e)
 
 -- an accepted step has settings of the domain
+pub domain-step : (l : Lane) (s : StepArgs) (m n : ℕ) → stepRefusal l s m n ≡ 0 → InDomain (l .settings)
+domain-step l s m n e = ready l s m n e .domain
+
 pub slots-step : (l : Lane) (s : StepArgs) (m n : ℕ) → stepRefusal l s m n ≡ 0 → 2 * l .settings .«max_pulses» ≤ 131072
-slots-step l s m n e = omega (arith, ready l s m n e .domain .max-pulses .1)
+slots-step l s m n e = omega (arith, domain-step l s m n e .max-pulses .1)
+
+-- a call that does not answer 3 is accepted
+pub answered-step : (l : Lane) (s : StepArgs) (ook fsk : List ℕ) → (replyNumberOf (stepped l s ook fsk .0 .reply) ≡ 3 → ⊥) → stepRefusal l s (length ook) (length fsk) ≡ 0
+unfolding stepped
+answered-step l s ook fsk = go (stepRefusal l s (length ook) (length fsk)) (eqb (stepRefusal l s (length ook) (length fsk)) 0) refl
+  where
+    go : (k : ℕ) (b : Bool) → eqb k 0 ≡ b → (replyNumberOf (cond b (advanceOf l s ook fsk) (refuse k l, ook, fsk) .0 .reply) ≡ 3 → ⊥) → k ≡ 0
+    go k true q h = eqb-true k 0 q
+    go k false q h = absurd (h refl)
+
+pub answered-begin : (l : Lane) (b : BeginArgs) (ook fsk : List ℕ) → (replyNumberOf (begun l b ook fsk .reply) ≡ 3 → ⊥) → beginRefusal l b (length ook) (length fsk) ≡ 0
+unfolding begun
+answered-begin l b ook fsk = go (beginRefusal l b (length ook) (length fsk)) (eqb (beginRefusal l b (length ook) (length fsk)) 0) refl
+  where
+    go : (k : ℕ) (c : Bool) → eqb k 0 ≡ c → (replyNumberOf (cond c (stay (leadLane l b)) (refuse k l) .reply) ≡ 3 → ⊥) → k ≡ 0
+    go k true q h = eqb-true k 0 q
+    go k false q h = absurd (h refl)
+
+pub answered-open : (l : Lane) (p : Settings) → (replyNumberOf (opened l p .reply) ≡ 3 → ⊥) → settingsOk p ≡ true
+unfolding opened
+answered-open l p = go (settingsOk p)
+  where
+    go : (b : Bool) → (replyNumberOf (cond b (stay (idleLane 1 p)) (refuse 3 l) .reply) ≡ 3 → ⊥) → b ≡ true
+    go true h = refl
+    go false h = absurd (h refl)
