@@ -160,10 +160,10 @@ front-most : (n : ℕ) (s : List ℕ) → length (front n s) ≤ n
 unfolding front
 front-most n s = either (λ (q : List ℕ). length q ≤ n) (leb n (length s)) (omega (arith, length-take n s)) (omega arith)
 
-part-most : (max : ℕ) (r : Out) (ook fsk : List ℕ) → r .pairs ≤ max → length (partOf r ook fsk) ≤ 2 * max
+part-most : (most : ℕ) (r : Out) (ook fsk : List ℕ) → 2 * r .pairs ≤ most → length (partOf r ook fsk) ≤ most
 unfolding partOf
-part-most max r ook fsk h =
-    let short : List ℕ → Type 0 = λ (q : List ℕ). length q ≤ 2 * max in
+part-most most r ook fsk h =
+    let short : List ℕ → Type 0 = λ (q : List ℕ). length q ≤ most in
     either short (eqb (r .state) 1)
     (either short (eqb (r .fsk) 1) (omega (arith, front-most (2 * r .pairs) fsk)) (omega (arith, front-most (2 * r .pairs) ook)))
     (omega arith)
@@ -171,11 +171,11 @@ part-most max r ook fsk h =
 pub parts-fit-step : (l : Lane) (s : StepArgs) (ook fsk : List ℕ) → stepRefusal l s (length ook) (length fsk) ≡ 0 → (x y : List ℕ) → PartsFit (2 * l .settings .«max_pulses») (stepped l s ook fsk .0 .lane .burst) x y
 parts-fit-step l s ook fsk e x y =
     let f = records-fit-step l s ook fsk e in
-    record { ook-part = part-most _ _ x y (f .ook-pairs); fsk-part = part-most _ _ x y (f .fsk-pairs) }
+    record { ook-part = part-most _ _ x y (omega (arith, f .ook-pairs)); fsk-part = part-most _ _ x y (omega (arith, f .fsk-pairs)) }
 
 none-most : (most : ℕ) (b : Burst) → NoRecords b → (x y : List ℕ) → PartsFit most b x y
 none-most most b n x y =
-    let z : length (partOf noOut x y) ≤ most = omega (arith, part-most 0 noOut x y (omega arith)) in
+    let z : length (partOf noOut x y) ≤ most = part-most most noOut x y (omega arith) in
     record { ook-part = rw (n .ook-none) z; fsk-part = rw (n .fsk-none) z }
 
 pub parts-fit-begin : (l : Lane) (b : BeginArgs) (ook fsk : List ℕ) → beginRefusal l b (length ook) (length fsk) ≡ 0 → (most : ℕ) (x y : List ℕ) → PartsFit most (begun l b ook fsk .lane .burst) x y
