@@ -26,7 +26,15 @@ fn join(a: u8, b: u8, c: u8, d: u8) -> u32
     a as u32 + (b as u32) * 0x100 + (c as u32) * 0x1_0000 + (d as u32) * 0x100_0000
 }
 
-pub fn u32_at(o: &[u8], i: usize) -> u32
+fn word_at(bytes: &[u8], p: usize) -> u32
+    requires { ⌜ p + 3 < length (now bytes) ⌝ }
+    ensures { λ r. ⌜ r ≡ u32At (now (bytes .entry)) p ⌝ }
+{
+    join(bytes[p], bytes[p + 1], bytes[p + 2], bytes[p + 3])
+}
+
+// Where the bytes may end before the number does.
+fn part_at(o: &[u8], i: usize) -> u32
     ensures { λ r. ⌜ r ≡ u32At (now (o .entry)) i ⌝ }
 {
     join(
@@ -37,16 +45,43 @@ pub fn u32_at(o: &[u8], i: usize) -> u32
     )
 }
 
-pub fn u64_at(o: &[u8], i: usize) -> u64
+fn part64_at(o: &[u8], i: usize) -> u64
     ensures { λ r. ⌜ r ≡ u64At (now (o .entry)) i ⌝ }
 {
-    let low = u32_at(o, i) as u64;
+    let low = part_at(o, i) as u64;
     let high = join(
         byte_at(o, i, 4),
         byte_at(o, i, 5),
         byte_at(o, i, 6),
         byte_at(o, i, 7),
     ) as u64;
+    low + high * 0x1_0000_0000
+}
+
+// One test for the four bytes: the compiler then reads them at once.
+pub fn u32_at(o: &[u8], i: usize) -> u32
+    ensures { λ r. ⌜ r ≡ u32At (now (o .entry)) i ⌝ }
+{
+    if o.len() < 4 {
+        return part_at(o, i);
+    }
+    if o.len() - 4 < i {
+        return part_at(o, i);
+    }
+    word_at(o, i)
+}
+
+pub fn u64_at(o: &[u8], i: usize) -> u64
+    ensures { λ r. ⌜ r ≡ u64At (now (o .entry)) i ⌝ }
+{
+    if o.len() < 8 {
+        return part64_at(o, i);
+    }
+    if o.len() - 8 < i {
+        return part64_at(o, i);
+    }
+    let low = word_at(o, i) as u64;
+    let high = word_at(o, i + 4) as u64;
     low + high * 0x1_0000_0000
 }
 
@@ -57,13 +92,6 @@ pub fn f32_at(o: &[u8], i: usize) -> f32
 }
 
 // ---- lists of words
-
-fn word_at(bytes: &[u8], p: usize) -> u32
-    requires { ⌜ p + 3 < length (now bytes) ⌝ }
-    ensures { λ r. ⌜ r ≡ u32At (now (bytes .entry)) p ⌝ }
-{
-    join(bytes[p], bytes[p + 1], bytes[p + 2], bytes[p + 3])
-}
 
 fn read_all(bytes: &[u8], buf: &mut [u32])
     requires { ⌜ length (now bytes) ≡ 4 * length (now buf) ⌝ }

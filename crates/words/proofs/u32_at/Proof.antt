@@ -1,12 +1,16 @@
--- `words::u32_at` meets its contract: the word of four bytes. Assumes nothing.
-use native.Mathlib.Omega.{arith}
-use Rattle.words.proofs.Places.{four-at}
+-- `words::u32_at` meets its contract, whichever way the four bytes are read. Assumes nothing.
 use borrow.Author.Needs.{needs}
 use Rattle.words.proofs.u32_at.Statement.{statement}
 use Rattle.words.proofs.u32_at.Tie as tie
 
 returns : tie.Need-returns
-returns c = four-at _ _ _ _ _ _ (omega arith) (omega arith) (omega arith) (omega arith) (c .before .before .before .before .byte-at .ensures) (c .before .before .before .byte-at2 .ensures) (c .before .before .byte-at3 .ensures) (c .before .byte-at4 .ensures) (c .join .ensures)
+returns c = c .part-at .ensures
+
+returns-2 : tie.Need-returns-2
+returns-2 c = c .part-at2 .ensures
+
+returns-3 : tie.Need-returns-3
+returns-3 c = c .word-at .ensures
 
 pub u32-at-spec : {M : Type 1} → statement M
-u32-at-spec = tie.close (tie.spec (search needs) (search needs) (search needs) (search needs) (search needs) returns)
+u32-at-spec = tie.close (tie.spec (search needs) returns (search needs) (search needs) returns-2 (search needs) returns-3)
