@@ -88,7 +88,7 @@ settings-tell p q =
       gap-steps = within-tells 1 maxSteps (p .«gap_steps») (t .2);
       pre-timeout = within-tells 1 (p .«gap_steps») (p .«pre_timeout») (t .3);
       long-steps = within-tells 1 maxSteps (p .«long_steps») (t .4);
-      max-pulses = within-tells 1 65536 (p .«max_pulses») (t .5);
+      max-pulses = within-tells 1 maxPulses (p .«max_pulses») (t .5);
     }
 
 abbrev pub factorOk : Float → Bool
