@@ -21,7 +21,7 @@ use Rattle.lane.specs.declared.Answer.{Answer}
 use Rattle.lane.specs.declared.Reply.{Reply}
 use Rattle.lane.specs.declared.BeginArgs.{BeginArgs}
 use Rattle.lane.specs.declared.StepArgs.{StepArgs}
-use Rattle.lane.specs.Refusals.{openedOk, laneOk, beginFloatsOk, stepFloatsOk, followsOf, beginRefusal, stepRefusal}
+use Rattle.lane.specs.Refusals.{openedOk, opened-tells, laneOk, beginFloatsOk, stepFloatsOk, followsOf, beginRefusal, stepRefusal}
 use Rattle.lane.specs.Idle.{idleLane}
 use Rattle.lane.specs.Begin.{ringOf, leadLane}
 use Rattle.burst.specs.Lead.{leadAddOf}
@@ -123,8 +123,7 @@ lane-tells l h =
     (leadOk (l .phase) (l .settings .«min_steps») (l .lead)) (candOk (l .phase) (l .settings .«min_steps») (l .burst .frame)) (indexOk (l .last)) h
 
 had-settings : (had phase : ℕ) (p : Settings) → eqb had 0 ≡ false → openedOk had phase p ≡ true → settingsOk p ≡ true
-unfolding openedOk
-had-settings had phase p q h = and-right (eqb had 1) (settingsOk p) (or-right (eqb had 0 && eqb phase 0) (eqb had 1 && settingsOk p) (rw q) h)
+had-settings had phase p q h = opened-tells had phase p h (rw q)
 
 pub begin-tells : (l : Lane) (b : BeginArgs) (ook fsk : ℕ) → beginRefusal l b ook fsk ≡ 0 → (l .phase ≡ 0) × Domain (l .settings) × (b .index ≤ 2 ^ 40)
 unfolding beginRefusal

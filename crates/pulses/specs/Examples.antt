@@ -4,7 +4,7 @@ use mathlib.Core.Bool.{Bool, true, false, not}
 use mathlib.Core.List.{List, [], _∷_, _++_, map}
 use Prim.Native.Nat.{ℕ, suc}
 use lib.ListN.{length, replicate}
-use lib.Ieee.{Float, binary32, ofBits, add, sub, mul, div, neg, lt, le, eq, ofInt, toUnsigned}
+use lib.Ieee.{Float, binary32, ofBits, toBits, add, sub, mul, div, neg, lt, le, eq, ofInt, toUnsigned}
 use Rattle.arith.specs.declared.C32.{C32}
 use Rattle.arith.specs.Leaves.{zero32, one32, absOf, midpointOf, flushOf, crossOf, nearestIn}
 use Rattle.arith.specs.Rounding.{roundOf, narrowOf}
@@ -20,7 +20,7 @@ use Rattle.stages.specs.Tail.{carrierOf, goneOf, hasPulsesOf, gapOverOf, waitOf
 use Rattle.burst.specs.Sample.{snapIfOf, lastOf, restOf, sampleOf}
 use Rattle.presence.specs.Presence.{snapOf, nearStartOf}
 use Rattle.burst.specs.Lead.{leadAddOf, largestFrom, beginBurstOf, leadAtOf, replayFrom, replayOf, leadFullOf}
-use Rattle.refusals.specs.Domain.{settingsOk}
+use Rattle.refusals.specs.Domain.{settingsOk, unsetOk}
 use Rattle.refusals.specs.State.{frameOk, burstOk, leadOk, candOk}
 use Rattle.refusals.specs.Order.{firstFailed}
 use Rattle.lane.specs.declared.BeginArgs.{BeginArgs}
@@ -149,5 +149,5 @@ table =
 
 -- each list shows what stands beside it
 right : map (λ (r : List Item × List Shown). shownIn (r .0)) table ≡ map (λ (r : List Item × List Shown). r .1) table
-unfolding table shownIn shown calls call start answer accepted entryOf whileStay entries leadEntries stepEntries givenBy afterBy afterCall closedBy ended bursts join runs size keep counted between pulses newLane opened begun stepped front partOf advance.advanceOf leadStep burstStep settleOf fillOf replayStep leadAddOf largestFrom leadFullOf historyOf beginLeadOf clearedOf leadLane noBurst idleLane openedOk laneOk historyOk beginFloatsOk stepFloatsOk followsOf beginRefusal stepRefusal replyOf phaseOf firstFailed frameOk burstOk leadOk candOk settingsOk beginBurstOf leadAtOf replayFrom replayOf sampleOf restOf lastOf snapIfOf snapOf nearStartOf carrierOf goneOf hasPulsesOf gapOverOf waitOf tailOf dueOf confirmIf riseOf fallOf confirmOf actOf thresholdOf onOf refineDueOf highOf pacOf seeOf pushPulseOf closeGapOf emptyTrainOf finishOf endTrainOf pulseDoneOf gapRatioExceededOf refineLevelOf refineLoOf excessOf splitFrom refineInOf refineOf lengthenOf rejoinOf beginRunOf beginsOf advanceOf pacRunOf beginEnvOf satAddOf inc sqrtOf exactOf roundExact wholeRoot roundOf narrowOf absOf midpointOf flushOf crossOf nearestIn ofBits add sub mul div neg lt le eq ofInt toUnsigned
+unfolding table shownIn shown calls call start answer accepted entryOf whileStay entries leadEntries stepEntries givenBy afterBy afterCall closedBy ended bursts join runs size keep counted between pulses newLane opened begun stepped front partOf advance.advanceOf leadStep burstStep settleOf fillOf replayStep leadAddOf largestFrom leadFullOf historyOf beginLeadOf clearedOf leadLane noBurst idleLane openedOk laneOk historyOk beginFloatsOk stepFloatsOk followsOf beginRefusal stepRefusal replyOf phaseOf firstFailed frameOk burstOk leadOk candOk settingsOk unsetOk beginBurstOf leadAtOf replayFrom replayOf sampleOf restOf lastOf snapIfOf snapOf nearStartOf carrierOf goneOf hasPulsesOf gapOverOf waitOf tailOf dueOf confirmIf riseOf fallOf confirmOf actOf thresholdOf onOf refineDueOf highOf pacOf seeOf pushPulseOf closeGapOf emptyTrainOf finishOf endTrainOf pulseDoneOf gapRatioExceededOf refineLevelOf refineLoOf excessOf splitFrom refineInOf refineOf lengthenOf rejoinOf beginRunOf beginsOf advanceOf pacRunOf beginEnvOf satAddOf inc sqrtOf exactOf roundExact wholeRoot roundOf narrowOf absOf midpointOf flushOf crossOf nearestIn ofBits toBits add sub mul div neg lt le eq ofInt toUnsigned
 right = refl
