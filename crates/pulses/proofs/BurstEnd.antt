@@ -1,5 +1,5 @@
 -- What the train and the slots hold at a burst's end is demand 3 of that burst.
-use mathlib.Core.Path.{_≡_, refl, sym, ap, _∙_}
+use mathlib.Core.Path.{_≡_, refl, sym, ap, _∙_, subst}
 use mathlib.Core.Bool.{Bool, true, false}
 use mathlib.Core.Option.{some}
 use mathlib.Core.List.{List, [], _∷_, map}
@@ -13,15 +13,15 @@ use lib.Ieee.{Float, nan}
 use Rattle.ook.specs.declared.Settings.{Settings}
 use Rattle.ook.specs.declared.Out.{Out}
 use Rattle.ook.specs.Counts.{bit}
+use Rattle.refusals.specs.Domain.{InDomain}
 use Rattle.lane.specs.Part.{front, partOf}
-use Rattle.pulses.specs.Runs.{Sample, pulses}
-use Rattle.pulses.specs.Edges.{both, same-length, widths-emitted}
-use Rattle.pulses.specs.Flags.{empty, flag-set, flag-clear}
-use Rattle.pulses.specs.RunState.{Domain}
-use Rattle.pulses.specs.TrainState.{Edges, Slots, Claim, no-pulse, gives}
-use Rattle.pulses.specs.OokSample.{given}
-use Rattle.pulses.specs.Calls.{Arg, givenBy}
-use Rattle.pulses.specs.Demand.{firsts, width, Holds}
+use Rattle.pulses.specs.Runs.{Sample, Pulse, pulses}
+use Rattle.pulses.proofs.Edges.{both, same-length, widths-emitted}
+use Rattle.pulses.proofs.Flags.{flag-set, flag-clear}
+use Rattle.pulses.proofs.TrainState.{Edges, Slots, Claim, no-pulse, gives}
+use Rattle.pulses.proofs.OokSample.{given}
+use Rattle.pulses.specs.Yardstick.{Given, givenBy}
+use Rattle.pulses.specs.Demand.{firsts, width, TrainOf, Gives}
 
 take-min : {A : Type 0} (n : ℕ) (l : List A) → take (min (length l) n) l ≡ take n l
 take-min n l = go (leb (length l) n) refl
@@ -64,28 +64,34 @@ given-one : (out : Out) (ook fsk : List ℕ) → out .state ≡ 1 → givenBy ou
 unfolding givenBy
 given-one out ook fsk q = flag-set (out .state) _ _ q
 
-pub claim-holds : (p : Settings) → Domain p → (args : List Arg) (xs : List (Sample Float)) (out : Out) (ook fsk : List ℕ) → length xs ≤ length args
-    → Claim (p .«max_pulses») (given p xs) out ook
-    → Holds (record { settings = p; samples = args; recorded = xs; trains = givenBy out ook fsk })
-claim-holds p D args xs out ook fsk f (no-pulse qp qs) = record {
-  first-samples = f;
-  no-train = λ q. given-none out ook fsk qs;
-  one-train = λ q. absurd (q (empty (pulses (p .«min_steps») xs) (sym (same-length width nan (p .«min_steps») xs (D .min-low)) ∙ ap length qp)));
-}
-claim-holds p D args xs out ook fsk f (gives l qs qf qn qc S r) = record {
-  first-samples = f;
-  no-train = λ q. absurd (omega (arith, same-length width nan (p .«min_steps») xs (D .min-low), ap length q));
-  one-train = λ q. record {
-    given = record { out = out; part = partOf out ook fsk };
-    only = given-one out ook fsk qs;
-    pairs = qn ∙ ap (λ (n : ℕ). min n (p .«max_pulses»)) (same-length width nan (p .«min_steps») xs (D .min-low));
+module _ (p : Settings) (D : InDomain p) (xs : List (Sample Float)) (out : Out) (ook fsk : List ℕ) where
+  abbrev train : Given
+  train = record { out = out; part = partOf out ook fsk }
+
+  same : length (given p xs) ≡ length (pulses (p .«min_steps») xs)
+  same = same-length width nan (p .«min_steps») xs (D .min-steps .0)
+
+  train-of : out .state ≡ 1 → out .fsk ≡ 0 → out .pairs ≡ min (length (given p xs)) (p .«max_pulses») → out .cut ≡ bit (ltb (p .«max_pulses») (length (given p xs)))
+      → Slots (given p xs) ook (out .pairs) → 2 * out .pairs ≤ length ook → TrainOf p (pulses (p .«min_steps») xs) train
+  train-of qs qf qn qc S r = record {
+    kind = qf;
+    pairs = qn ∙ ap (λ (n : ℕ). min n (p .«max_pulses»)) same;
     whole = ap length (part-ook out ook fsk qs qf r) ∙ length-take-le (2 * out .pairs) ook r;
     widths =
         ap (λ (s : List ℕ). map some (firsts s)) (part-ook out ook fsk qs qf r)
         ∙ ap (map some) (firsts-slots (out .pairs) (given p xs) ook r (omega arith) S)
         ∙ ap (λ (n : ℕ). map some (map (both width) (take n (given p xs)))) qn
-        ∙ ap (λ (ps : List Edges). map some (map (both width) ps)) (take-min (p .«max_pulses») (given p xs))
-        ∙ widths-emitted width nan (p .«min_steps») (p .«max_pulses») xs (D .min-low);
-    cut = qc ∙ ap (λ (n : ℕ). bit (ltb (p .«max_pulses») n)) (same-length width nan (p .«min_steps») xs (D .min-low));
-  };
-}
+        ∙ ap (λ (es : List Edges). map some (map (both width) es)) (take-min (p .«max_pulses») (given p xs))
+        ∙ widths-emitted width nan (p .«min_steps») (p .«max_pulses») xs (D .min-steps .0);
+    cut = qc ∙ ap (λ (n : ℕ). bit (ltb (p .«max_pulses») n)) same;
+  }
+
+  pub claim-gives : Claim (p .«max_pulses») (given p xs) out ook → Gives p (pulses (p .«min_steps») xs) (givenBy out ook fsk)
+  unfolding Gives
+  claim-gives C = go (pulses (p .«min_steps») xs) refl C
+    where
+      go : (ps : List (Pulse Float)) → pulses (p .«min_steps») xs ≡ ps → Claim (p .«max_pulses») (given p xs) out ook → Gives p ps (givenBy out ook fsk)
+      go [] q (no-pulse qp qs) = given-none out ook fsk qs
+      go [] q (gives l qs qf qn qc S r) = absurd (omega (arith, same, ap length q))
+      go (x ∷ ps) q (no-pulse qp qs) = absurd (omega (arith, same, ap length q, ap length qp))
+      go (x ∷ ps) q (gives l qs qf qn qc S r) = (train, given-one out ook fsk qs, subst (λ (l : List (Pulse Float)). TrainOf p l train) q (train-of qs qf qn qc S r))

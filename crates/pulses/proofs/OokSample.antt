@@ -25,6 +25,7 @@ use Rattle.ook.specs.Counts.{bit}
 use Rattle.ook.specs.Params.{refineAtOf}
 use Rattle.ook.specs.Refine.{refineOf}
 use Rattle.ook.specs.Train.{withStarted, withFirst, closeGapOf, pulseDoneOf, endTrainOf, stayBy, endBy}
+use Rattle.refusals.specs.Domain.{InDomain}
 use Rattle.stages.specs.declared.At.{At}
 use Rattle.stages.specs.declared.Seen.{Seen}
 use Rattle.stages.specs.declared.Acted.{Acted}
@@ -32,11 +33,12 @@ use Rattle.stages.specs.declared.Absence.{Absence}
 use Rattle.stages.specs.See.{refineDueOf, withRefined, seeOf}
 use Rattle.stages.specs.Act.{dueOf, confirmIf, riseOf, fallOf, confirmOf, actOf}
 use Rattle.stages.specs.Tail.{carrierOf, goneOf, hasPulsesOf, gapOverOf, limitOf, waitOf, tailOf}
-use Rattle.pulses.specs.Runs.{Sample, entry}
-use Rattle.pulses.specs.Machine.{Conf, lowed, mstep, memit, after, emitted, after-snoc, emitted-snoc}
-use Rattle.pulses.specs.Flags.{clash, empty, flag-set, flag-clear}
-use Rattle.pulses.specs.RunState.{Domain, isHigh, RunRel, rest-low, try-high, rest-high, try-low, Outcome, keeps, rises, falls, Refined, outcome, level-after}
-use Rattle.pulses.specs.TrainState.{Edges, TrainRel, none-yet, in-gap, in-pulse, Held, Claim, no-pulse, held-ends, held-first, held-gap, Fallen, goes-on, ends, held-falls}
+use Rattle.pulses.specs.Runs.{Sample, sample}
+use Rattle.pulses.proofs.Machine.{Conf, lowed, mstep, memit, after, emitted, after-snoc, emitted-snoc}
+use Rattle.pulses.proofs.Flags.{clash, empty, flag-set, flag-clear}
+use Rattle.pulses.proofs.Domain.{run-grows, pairs-grow}
+use Rattle.pulses.proofs.RunState.{isHigh, RunRel, rest-low, try-high, rest-high, try-low, Outcome, keeps, rises, falls, Refined, outcome, level-after}
+use Rattle.pulses.proofs.TrainState.{Edges, TrainRel, none-yet, in-gap, in-pulse, Held, Claim, no-pulse, held-ends, held-first, held-gap, Fallen, goes-on, ends, held-falls}
 
 -- the run machine over the record so far
 abbrev pub machine : Settings → List (Sample Float) → Conf Float
@@ -97,10 +99,10 @@ module _ (p : Settings) (xs : List (Sample Float)) (x : Sample Float) where
   claimed out ook ps qp C = rw (emitted-snoc (p .«min_steps») (lowed 0) xs x, qp) C
 
 -- ---- a run begins to count, or none does
-module _ (p : Settings) (D : Domain p) (mode : p .mode ≡ 0) (v : Env) (t : Train) (out : Out) (ook : List ℕ) (xs : List (Sample Float)) (F : Follows p v t out ook xs)
+module _ (p : Settings) (D : InDomain p) (mode : p .mode ≡ 0) (v : Env) (t : Train) (out : Out) (ook : List ℕ) (xs : List (Sample Float)) (F : Follows p v t out ook xs)
     (pac : C32) (high : Float) (w : Env) where
   abbrev next : Bool → Sample Float
-  next on = entry on (w .times .«t_run»)
+  next on = sample on (w .times .«t_run»)
 
   abbrev Confirmed : Bool → Bool → Type 0
   Confirmed on due = After p (confirmIf due w) (confirmOf due p on (w .times) t pac high out ook .0) (confirmOf due p on (w .times) t pac high out ook .1) (xs ++ (next on ∷ []))
@@ -108,8 +110,8 @@ module _ (p : Settings) (D : Domain p) (mode : p .mode ≡ 0) (v : Env) (t : Tra
   -- a high run after a low one: the gap before it ends, or the train starts
   raised : TrainRel false (length (given p xs)) t → Held (p .«max_pulses») false (given p xs) t ook
       → Held (p .«max_pulses») true (given p xs) (riseOf (w .times) t ook .0) (riseOf (w .times) t ook .1)
-  raised (none-yet qh qk qs qn qo) H = rw (rise-first (w .times) t ook qs) (held-first (p .«max_pulses») (D .max-high) (given p xs) t ook (stepOf (w .times .«c_run»)) qs H)
-  raised (in-gap qh qk qs qo) H = rw (rise-gap (w .times) t ook qs) (held-gap (p .«max_pulses») (D .max-high) (given p xs) t ook (widthOf (w .times .«t_prev») (w .times .«t_run»)) qs H)
+  raised (none-yet qh qk qs qn qo) H = rw (rise-first (w .times) t ook qs) (held-first (p .«max_pulses») (pairs-grow p D) (given p xs) t ook (stepOf (w .times .«c_run»)) qs H)
+  raised (in-gap qh qk qs qo) H = rw (rise-gap (w .times) t ook qs) (held-gap (p .«max_pulses») (pairs-grow p D) (given p xs) t ook (widthOf (w .times .«t_prev») (w .times .«t_run»)) qs H)
   raised (in-pulse qh qk qs qo) H = clash (sym qh)
 
   started : TrainRel true (length (given p xs)) t → t .started ≡ 1
@@ -175,12 +177,12 @@ gone-tells false c l g q = (refl, go (eqb c 1) refl q)
     go true e h = eqb-true c 1 e
     go false e h = clash (sym h)
 
-module _ (p : Settings) (D : Domain p) (v : Env) (t : Train) (out : Out) (ook : List ℕ) (xs : List (Sample Float)) (F : Follows p v t out ook xs) where
+module _ (p : Settings) (D : InDomain p) (v : Env) (t : Train) (out : Out) (ook : List ℕ) (xs : List (Sample Float)) (F : Follows p v t out ook xs) where
   on-stay : After p v (stayBy out (t, ook) .0) (stayBy out (t, ook) .1) xs
   on-stay = stays refl F
 
   on-end : (next : Next) (high : Float) → (next ≡ Stay → ⊥) → After p v (endBy next (endTrainOf t high out ook) .0) (endBy next (endTrainOf t high out ook) .1) xs
-  on-end next high n = over n (held-ends (p .«max_pulses») high out (isHigh (machine p xs)) (given p xs) t ook (D .max-high) (F .undecided) (F .train))
+  on-end next high n = over n (held-ends (p .«max_pulses») (pairs-grow p D) high out (isHigh (machine p xs)) (given p xs) t ook (F .undecided) (F .train))
 
   waits : (n frames : ℕ) (high : Float) → isHigh (machine p xs) ≡ false → After p v (waitOf p n t frames high out ook .0) (waitOf p n t frames high out ook .1) xs
   unfolding waitOf
@@ -231,7 +233,7 @@ refine-due m a ring high on v =
     (leb (refineAtOf m) (v .run .«run_len»)) refl refl refl m refl (λ l. le-leb (refineAtOf m) (v .run .«run_len») l)
 
 -- ---- the sample
-module _ (p : Settings) (D : Domain p) (mode : p .mode ≡ 0) (a : At) (ring : List Float) (high e : Float) (v : Env) (pac : C32) (t : Train) (out : Out) (ook : List ℕ)
+module _ (p : Settings) (D : InDomain p) (mode : p .mode ≡ 0) (a : At) (ring : List Float) (high e : Float) (v : Env) (pac : C32) (t : Train) (out : Out) (ook : List ℕ)
     (xs : List (Sample Float))
     (F : Follows p v t out ook xs) where
   abbrev seen : Seen
@@ -239,18 +241,18 @@ module _ (p : Settings) (D : Domain p) (mode : p .mode ≡ 0) (a : At) (ring : L
 
   seen-outcome : Outcome (p .«min_steps») (machine p xs) (seen .on) (seen .env)
   unfolding seeOf
-  seen-outcome = outcome (p .«min_steps») (D .min-high) (machine p xs) v (seen .env) _ (a .idx) (seen .on) (F .run) (refine-due (p .«min_steps») a ring high (seen .on) _)
+  seen-outcome = outcome (p .«min_steps») (run-grows p D) (machine p xs) v (seen .env) _ (a .idx) (seen .on) (F .run) (refine-due (p .«min_steps») a ring high (seen .on) _)
 
   seen-level : seen .env .run .level ≡ bit (seen .on)
   unfolding seeOf
   seen-level = ap (λ (r : Run). r .level) (refine-due (p .«min_steps») a ring high (seen .on) _ .same-run) ∙ level-after v (seen .on) _ (a .idx)
 
-  acted : After p (actOf p seen t out ook .0 .env) (doneOf (actOf p seen t out ook .0)) (actOf p seen t out ook .1) (xs ++ (entry (seen .on) (seen .env .times .«t_run») ∷ []))
+  acted : After p (actOf p seen t out ook .0 .env) (doneOf (actOf p seen t out ook .0)) (actOf p seen t out ook .1) (xs ++ (sample (seen .on) (seen .env .times .«t_run») ∷ []))
   unfolding actOf
   acted = act-follows p D mode v t out ook xs F (seen .pac) (seen .high) (seen .env) (seen .on) seen-outcome
 
-  -- confirming a run leaves its level and edge
-  pub acted-level : actOf p seen t out ook .0 .env .run .level ≡ bit (seen .on)
+  -- confirming a run leaves its level
+  acted-level : actOf p seen t out ook .0 .env .run .level ≡ bit (seen .on)
   unfolding actOf confirmIf
   acted-level = go (dueOf (p .«min_steps») (seen .env .run))
     where
@@ -258,20 +260,12 @@ module _ (p : Settings) (D : Domain p) (mode : p .mode ≡ 0) (a : At) (ring : L
       go true = seen-level
       go false = seen-level
 
-  pub acted-times : actOf p seen t out ook .0 .env .times ≡ seen .env .times
-  unfolding actOf confirmIf
-  acted-times = go (dueOf (p .«min_steps») (seen .env .run))
-    where
-      go : (b : Bool) → confirmIf b (seen .env) .times ≡ seen .env .times
-      go true = refl
-      go false = refl
-
   pub sample-follows : (b : Absence) → After p (actOf p seen t out ook .0 .env) (endOf p seen (a .e) b (actOf p seen t out ook) .0)
-      (endOf p seen (a .e) b (actOf p seen t out ook) .1) (xs ++ (entry (seen .on) (seen .env .times .«t_run») ∷ []))
+      (endOf p seen (a .e) b (actOf p seen t out ook) .1) (xs ++ (sample (seen .on) (seen .env .times .«t_run») ∷ []))
   sample-follows b = go acted
     where
       ys : List (Sample Float)
-      ys = xs ++ (entry (seen .on) (seen .env .times .«t_run») ∷ [])
+      ys = xs ++ (sample (seen .on) (seen .env .times .«t_run») ∷ [])
 
       q : Acted × List ℕ
       q = actOf p seen t out ook
