@@ -2,7 +2,7 @@
 //! plain Rust root that finds the root one bit at a time, and the processor's. Nanoseconds per call, the best of several
 //! rounds taken in turn. The three must agree.
 
-use std::hint::black_box;
+use std::hint::{black_box, select_unpredictable};
 use std::time::Instant;
 
 mod host;
@@ -11,7 +11,7 @@ mod random;
 use random::Random;
 
 const INPUTS: usize = 1_000_000;
-const ROUNDS: usize = 9;
+const ROUNDS: usize = 25;
 const NAN: u32 = 0x7fc0_0000;
 const INFINITY: u32 = 0x7f80_0000;
 
@@ -19,19 +19,8 @@ fn by_processor(bits: u32) -> u32 {
     f32::from_bits(bits).sqrt().to_bits()
 }
 
-/// The largest whole number whose square is at most `n`, which is below 2^50.
-fn whole_root(n: u64) -> u64 {
-    let mut root = 0;
-    for place in (0..25).rev() {
-        let next = root | 1 << place;
-        if next * next <= n {
-            root = next;
-        }
-    }
-    root
-}
-
-/// The root, one bit at a time.
+/// The root, one bit at a time, without a branch on a digit: such a branch goes either way at random, and made the root take
+/// several times as long.
 fn bit_by_bit(bits: u32) -> u32 {
     if bits << 1 == 0 || bits == INFINITY {
         return bits;
@@ -40,26 +29,22 @@ fn bit_by_bit(bits: u32) -> u32 {
         // A NaN or a negative.
         return NAN;
     }
-    // The value is digits * 2^power.
-    let exponent = (bits >> 23) as i32;
-    let (mut digits, mut power) = match exponent {
-        0 => (u64::from(bits), -149),
-        _ => (u64::from(bits & 0x7f_ffff | 0x80_0000), exponent - 150),
+    // The value is digits * 2^(exponent - 150).
+    let (digits, exponent) = match bits >> 23 {
+        0 => (bits, 1),
+        e => (bits & 0x7f_ffff | 0x80_0000, e),
     };
     // By an even power of two to 2^48 or more and below 2^50.
-    let mut shift = digits.leading_zeros() as i32 - 14;
-    if (power - shift) % 2 != 0 {
-        shift -= 1;
+    let half = (33 - digits.leading_zeros() + exponent) / 2;
+    let scaled = u64::from(digits) << (50 + exponent - 2 * half);
+    let mut root = 0u64;
+    for place in (0..25).rev() {
+        let next = root | 1 << place;
+        root = select_unpredictable(next * next <= scaled, next, root);
     }
-    digits <<= shift;
-    power -= shift;
-    // 25 digits, of which the last is half a unit of the result.
-    let root = whole_root(digits);
-    let more = root * root < digits;
-    let kept = root >> 1;
-    let up = root & 1 == 1 && (more || kept & 1 == 1);
-    // kept has 24 digits; a carry out of them raises the exponent as it should.
-    (((power / 2 + 150) as u32) << 23) + (kept as u32 + u32::from(up))
+    // 25 digits, of which the last is half a unit of the result and stands for more: no root lies in the middle of two floats. A
+    // carry out of the 24 kept raises the exponent as it should.
+    ((half + 50) << 23) + (root >> 1) as u32 + (root & 1) as u32
 }
 
 /// Nanoseconds per call, and a sum of the results.

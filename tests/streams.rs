@@ -1,7 +1,7 @@
 //! Writes a command stream for the listing program (document 01, "Commands") to standard output.
 //!
 //!     streams [--seed N] [--calls N] [--kind KIND] [--census]
-//!     streams --long [--seed N]      the long bursts of the kept stream instead
+//!     streams --long [--seed N]      the long bursts of the kept stream instead, a seed each
 //!
 //! Kinds: ook, fsk, auto (settings of that mode), exact (values that meet thresholds and ties exactly), edges (values and
 //! settings at and past the ends of the domain), damaged (commands with changed, lost or repeated bytes; such a stream may end
@@ -36,9 +36,9 @@ fn main() -> io::Result<()> {
         }
     }
     if long {
-        let streams = long::kept().into_iter().map(|burst| burst.stream(seed, Receiver::new()).map(|s| s.bytes));
-        let bytes = streams.collect::<Result<Vec<_>, _>>().map_err(io::Error::other)?;
-        return io::stdout().lock().write_all(&bytes.concat());
+        let streams = (seed..).zip(long::kept()).map(|(seed, burst)| burst.stream(seed, Receiver::new()));
+        let streams = streams.collect::<Result<Vec<_>, _>>().map_err(io::Error::other)?;
+        return streams.iter().try_for_each(|s| io::stdout().lock().write_all(&s.bytes));
     }
     let kind = kind.filter(|k| k != "any").map(|name| {
         let found = KINDS.iter().find(|(n, _)| *n == name);
