@@ -190,7 +190,7 @@ fn long_burst(burst: &Long, slots: usize, seed: u64, run: &mut Run) -> Result<()
     let case = Case { commands: s.bytes, start };
     let stops = |n, reply: &Reply| matches!(reply, Reply::Idle { .. }) || n > 0 && n % quarter == 0;
     run.count("streams", 1);
-    case.followed(s.calls, stops, run)
+    case.followed(s.calls, stops, run).map_err(|e| format!("{}: {e}", burst.name()))
 }
 
 /// The bursts that are tried: fewer where the buffers are longer than any train.
@@ -205,7 +205,7 @@ fn bursts(slots: usize) -> Vec<Long> {
 fn long_bursts(slots: usize, seed: u64) -> Result<String, String> {
     let mut run = Run::new();
     for burst in bursts(slots) {
-        long_burst(&burst, slots, seed, &mut run).map_err(|e| format!("{}: {e}", burst.name()))?;
+        long_burst(&burst, slots, seed, &mut run)?;
     }
     run.ended(&LEAST_LONG)
 }

@@ -7,6 +7,7 @@
 //! target/tests/differing.bin.
 
 use std::process::ExitCode;
+use std::time::{Duration, Instant};
 
 mod generator;
 mod long;
@@ -18,12 +19,16 @@ mod signal;
 mod verdict;
 
 use generator::{Stream, stream};
-use program::printed;
+use program::{printed, shortened};
 use receiver::{Receiver, Reply};
 use signal::{KINDS, Kind};
 use verdict::{Census, at_least};
 
 const LEFT: &str = "target/tests/differing.bin";
+
+/// The time for cutting a stream down, and the calls of what is left that are printed.
+const SHRINKING: Duration = Duration::from_secs(20);
+const SHOWN: usize = 60;
 
 /// What a run of streams of every kind must have seen, at the least; one of a single kind sees fewer.
 const LEAST: [(&str, u64); 18] = [
@@ -106,12 +111,16 @@ fn joined(calls: &[Call]) -> Vec<u8> {
     bytes
 }
 
-/// Without every stretch of calls that the difference does not need, long stretches first.
+/// Without every stretch of calls that the difference does not need, long stretches first, as far as the time goes.
 fn shrunken(program: &str, mut kept: Vec<Call>) -> Vec<Call> {
+    let until = Instant::now() + SHRINKING;
     let mut size = kept.len() / 2;
     while size > 0 {
         let mut at = 0;
         while at + size <= kept.len() {
+            if Instant::now() > until {
+                return kept;
+            }
             let mut fewer = kept.clone();
             fewer.drain(at..at + size);
             if differs(program, &joined(&fewer)) {
@@ -149,12 +158,12 @@ fn reported(program: &str, seed: u64, input: &[u8]) -> String {
     let bytes = joined(&kept);
     let left = std::fs::write(LEFT, &bytes).map_or_else(|e| e.to_string(), |()| LEFT.to_string());
     let mut report = format!("seed {seed}: {} calls differ ({left})\n", kept.len());
-    for call in calls(&bytes) {
+    for call in calls(&bytes).iter().take(SHOWN) {
         report += &format!("  {}\n", words(&call.bytes));
     }
     let here = printed(program, &bytes).unwrap_or_else(String::into_bytes);
-    report += &format!("reference:\n{}", String::from_utf8_lossy(&reference(&bytes)));
-    report + &format!("{program}:\n{}", String::from_utf8_lossy(&here))
+    report += &format!("reference:\n{}", shortened(&reference(&bytes)));
+    report + &format!("{program}:\n{}", shortened(&here))
 }
 
 struct Options {

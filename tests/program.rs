@@ -14,6 +14,9 @@ const PATIENCE: Duration = Duration::from_secs(3);
 /// How long nothing has to come where nothing is to be printed.
 const SILENCE: Duration = Duration::from_millis(2);
 
+/// Bytes of a text that a report shows.
+const SHOWN: usize = 2000;
+
 /// Bytes of an input that are written in small pieces.
 const IN_PIECES: usize = 4000;
 
@@ -142,9 +145,9 @@ fn pass_on(mut stdout: impl Read, to: &Sender<Vec<u8>>) {
 }
 
 /// A text, or the front of a long one.
-fn shortened(bytes: &[u8]) -> String {
-    let front = String::from_utf8_lossy(&bytes[..bytes.len().min(400)]);
-    let more = if bytes.len() > 400 { format!(".. ({} bytes)\n", bytes.len()) } else { String::new() };
+pub fn shortened(bytes: &[u8]) -> String {
+    let front = String::from_utf8_lossy(&bytes[..bytes.len().min(SHOWN)]);
+    let more = if bytes.len() > SHOWN { format!(".. ({} bytes)\n", bytes.len()) } else { String::new() };
     format!("{front}{more}")
 }
 
