@@ -1,6 +1,6 @@
 //! Times three f32 roots on the same million inputs, all compiled for release: `lane_sqrt` of target/staticlib/libhost.a, a
-//! plain Rust root that finds the root one bit at a time, and the processor's. Nanoseconds per call, the best of several
-//! rounds taken in turn. The three must agree.
+//! plain Rust root that finds the root one bit at a time, and the processor's. Nanoseconds per call, each part of the inputs by the
+//! best of several rounds taken in turn, so that other work on the machine counts little. The three must agree.
 
 use std::hint::{black_box, select_unpredictable};
 use std::time::Instant;
@@ -11,6 +11,7 @@ mod random;
 use random::Random;
 
 const INPUTS: usize = 1_000_000;
+const PART: usize = 10_000;
 const ROUNDS: usize = 25;
 const NAN: u32 = 0x7fc0_0000;
 const INFINITY: u32 = 0x7f80_0000;
@@ -47,14 +48,14 @@ fn bit_by_bit(bits: u32) -> u32 {
     ((half + 50) << 23) + (root >> 1) as u32 + (root & 1) as u32
 }
 
-/// Nanoseconds per call, and a sum of the results.
+/// Nanoseconds, and a sum of the results.
 fn timed(inputs: &[u32], f: impl Fn(u32) -> u32) -> (f64, u64) {
     let start = Instant::now();
     let mut sum = 0u64;
     for &bits in inputs {
         sum = sum.wrapping_mul(31).wrapping_add(u64::from(f(black_box(bits))));
     }
-    (start.elapsed().as_secs_f64() * 1e9 / inputs.len() as f64, sum)
+    (start.elapsed().as_secs_f64() * 1e9, sum)
 }
 
 fn main() {
@@ -63,17 +64,17 @@ fn main() {
     let inputs: Vec<u32> = (0..INPUTS).map(|_| r.below(u64::from(INFINITY)) as u32).collect();
     let roots: [(&str, fn(u32) -> u32); 3] =
         [("lane_sqrt", host::sqrt), ("plain Rust, one bit at a time", bit_by_bit), ("the processor", by_processor)];
-    let mut best = [f64::INFINITY; 3];
+    let mut best = vec![[f64::INFINITY; 3]; INPUTS / PART];
     for _ in 0..ROUNDS {
-        let sums = [0, 1, 2].map(|i| {
-            let (ns, sum) = timed(&inputs, roots[i].1);
-            best[i] = best[i].min(ns);
-            sum
-        });
-        assert!(sums[0] == sums[2] && sums[1] == sums[2], "the roots differ");
+        for (best, part) in best.iter_mut().zip(inputs.chunks(PART)) {
+            let times = roots.map(|(_, root)| timed(part, root));
+            assert!(times.iter().all(|t| t.1 == times[0].1), "the roots differ");
+            *best = [0, 1, 2].map(|i| best[i].min(times[i].0));
+        }
     }
-    for (ns, (name, _)) in best.iter().zip(roots) {
+    let per_call = [0, 1, 2].map(|i| best.iter().map(|b| b[i]).sum::<f64>() / INPUTS as f64);
+    for (ns, (name, _)) in per_call.iter().zip(roots) {
         println!("{name}: {ns:.2} ns per call");
     }
-    println!("lane_sqrt takes {:.2} of the plain root's time", best[0] / best[1]);
+    println!("lane_sqrt takes {:.2} of the plain root's time", per_call[0] / per_call[1]);
 }

@@ -10,12 +10,12 @@ use std::sync::mpsc::{Receiver, RecvTimeoutError, Sender, channel};
 use std::time::{Duration, Instant};
 
 /// An answer that takes longer does not come.
-const PATIENCE: Duration = Duration::from_secs(3);
+const PATIENCE: Duration = Duration::from_secs(5);
 /// How long nothing has to come where nothing is to be printed.
 const SILENCE: Duration = Duration::from_millis(2);
 
 /// Bytes of a text that a report shows.
-const SHOWN: usize = 2000;
+const SHOWN: usize = 800;
 
 /// Bytes of an input that are written in small pieces.
 const IN_PIECES: usize = 4000;
