@@ -98,9 +98,9 @@ const READ: usize = 1 << 16;
 const FLOOD: usize = 95_000;
 
 /// Two command streams as long as a read, the second after the first, of bursts in FSK mode with pulses of one sample: each is a
-/// frame, and 50 bytes of commands bring a line of 76.
+/// frame, and 50 bytes of commands bring a line of 76. A call's lines may take the most room: max_pulses is what the buffers hold.
 fn floods() -> [Vec<u8>; 2] {
-    let settings = Settings { mode: 1, min_steps: 1, floats: [1.0, 100.0, 0.0, 0.0], ..WORKED };
+    let settings = Settings { mode: 1, min_steps: 1, max_pulses: 2048, floats: [1.0, 100.0, 0.0, 0.0], ..WORKED };
     let tick = |i: u64| Tick { noise: 1.0, envelope: if i % 2 == 0 { 0.0 } else { 8.0 }, sample: [1.0, 0.0] };
     let index = (1 << 40) - 6000;
     let mut steps = (1..).map(|i| step_command(index + i, &tick(i)));
