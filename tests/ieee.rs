@@ -8,6 +8,7 @@ use std::process::ExitCode;
 
 mod bits;
 mod random;
+mod verdict;
 
 use bits::{NAN32, NAN64, Run, bits_of_f32, bits_of_f64, bits32, bits64, double, float, program, two_of_f32};
 use random::Random;
