@@ -7,13 +7,13 @@ use lib.Dec.{leb, eqb}
 use borrow.Author.Tests.{leb-true, eqb-false, not-true}
 use lib.ListN.{length}
 use Rattle.ook.specs.declared.Settings.{Settings}
-use Rattle.ook.specs.Tests.{both-true, other-true}
+use Rattle.ook.specs.Tests.{both-true}
 use Rattle.refusals.specs.Domain.{InDomain, settings-tell, settingsOk, indexOk, roomOk}
 use Rattle.refusals.specs.Order.{none-failed}
 use Rattle.lane.specs.declared.Lane.{Lane}
 use Rattle.lane.specs.declared.BeginArgs.{BeginArgs}
 use Rattle.lane.specs.declared.StepArgs.{StepArgs}
-use Rattle.lane.specs.Refusals.{openedOk, laneOk, lane-passes, beginFloatsOk, stepFloatsOk, followsOf, beginRefusal, stepRefusal}
+use Rattle.lane.specs.Refusals.{opened-tells, laneOk, lane-passes, beginFloatsOk, stepFloatsOk, followsOf, beginRefusal, stepRefusal}
 use Rattle.lane.specs.Idle.{idleLane}
 use Rattle.lane.specs.Begin.{leadLane}
 use Rattle.lane.specs.Advance.{advanceOf}
@@ -22,11 +22,11 @@ use Rattle.pulses.proofs.Flags.{clash}
 
 -- ---- what a call that is not refused tells
 pub begin-tells : (l : Lane) (b : BeginArgs) (ook fsk : ℕ) → beginRefusal l b ook fsk ≡ 0 → InDomain (l .settings) × (2 * l .settings .«max_pulses» ≤ ook)
-unfolding beginRefusal openedOk
+unfolding beginRefusal
 begin-tells l b ook fsk h =
     let t = none-failed (not (eqb (l .opened) 0)) (laneOk l) (eqb (l .phase) 0) (indexOk (b .index)) (beginFloatsOk b) (roomOk (l .settings) ook fsk) h in
-    let had = other-true (eqb (l .opened) 0 && eqb (l .phase) 0) (eqb (l .opened) 1 && settingsOk (l .settings)) (lane-passes l (t .1) .had) (rw (not-true (eqb (l .opened) 0) (t .0))) in (
-      settings-tell (l .settings) (both-true (eqb (l .opened) 1) (settingsOk (l .settings)) had .1),
+    let had = opened-tells (l .opened) (l .phase) (l .settings) (lane-passes l (t .1) .had) (rw (not-true (eqb (l .opened) 0) (t .0))) in (
+      settings-tell (l .settings) had,
       leb-true (2 * l .settings .«max_pulses») ook (both-true (leb (2 * l .settings .«max_pulses») ook) (eqb (l .settings .mode) 0 || leb (2 * l .settings .«max_pulses») fsk) (t .5) .0),
     )
 

@@ -1,5 +1,5 @@
 -- A list of calls run on a program, to be computed: `ran` unfolds demand 3's terms and demand 2's definitions.
-use lib.Ieee.{ofBits, add, sub, mul, div, neg, lt, le, eq, ofInt, toUnsigned}
+use lib.Ieee.{ofBits, toBits, add, sub, mul, div, neg, lt, le, eq, ofInt, toUnsigned}
 use Rattle.arith.specs.Leaves.{absOf, midpointOf, flushOf, crossOf, nearestIn}
 use Rattle.arith.specs.Rounding.{roundOf, narrowOf}
 use Rattle.arith.specs.Root.{sqrtOf, exactOf, roundExact, wholeRoot}
@@ -17,7 +17,7 @@ use Rattle.presence.specs.Move as move
 use Rattle.presence.specs.Presence.{sliceIfOf, sureIfOf, endsOf, endIfOf, longOf, carrierIfOf, presenceOf, snapOf, nearStartOf}
 use Rattle.presence.specs.Presence as presence
 use Rattle.burst.specs.Lead.{leadAddOf, largestFrom, beginBurstOf, leadAtOf, replayFrom, replayOf, leadFullOf}
-use Rattle.refusals.specs.Domain.{settingsOk}
+use Rattle.refusals.specs.Domain.{settingsOk, unsetOk}
 use Rattle.refusals.specs.State.{frameOk, burstOk, leadOk, candOk}
 use Rattle.refusals.specs.Order.{firstFailed}
 use Rattle.lane.specs.Answers.{replyOf, phaseOf}
@@ -42,5 +42,5 @@ pub record Ran (W : Program) : Type 0 where
   pub last : Place W
 
 unfoldable pub ran : (W : Program) → List Call → Ran W
-unfolding lent lentWell handedOn los his unused refusal levelled replayed stepSamples advanced ends givenBy returnedBy start after afterAll bursts firsts nth runEdge across pulseWidth row join runs size keep counted between pulses newLane opened begun stepped front partOf advance.advanceOf leadStep burstStep settleOf fillOf replayStep leadAddOf largestFrom leadFullOf historyOf beginLeadOf clearedOf leadLane noBurst idleLane openedOk laneOk historyOk beginFloatsOk stepFloatsOk followsOf beginRefusal stepRefusal replyOf phaseOf firstFailed frameOk burstOk leadOk candOk settingsOk beginBurstOf leadAtOf replayFrom replayOf sampleOf restOf lastOf snapIfOf snapOf nearStartOf presentOf presenceOf presence.advanceOf presThrOf upperOf movePresOf move.lengthenOf moveFrameOf sliceIfOf presence.dueOf sureIfOf endsOf endIfOf longOf carrierIfOf carrierOf goneOf hasPulsesOf gapOverOf waitOf tailOf dueOf confirmIf riseOf fallOf confirmOf actOf thresholdOf onOf refineDueOf highOf pacOf seeOf pushPulseOf closeGapOf emptyTrainOf finishOf endTrainOf pulseDoneOf gapRatioExceededOf refineLevelOf refineLoOf excessOf splitFrom refineInOf refineOf lengthenOf rejoinOf beginRunOf beginsOf advanceOf pacRunOf beginEnvOf satAddOf inc sqrtOf exactOf roundExact wholeRoot roundOf narrowOf absOf midpointOf flushOf crossOf nearestIn ofBits add sub mul div neg lt le eq ofInt toUnsigned
+unfolding lent lentWell handedOn los his unused refusal levelled replayed stepSamples advanced ends givenBy returnedBy start after afterAll bursts firsts nth runEdge across pulseWidth row join runs size keep counted between pulses newLane opened begun stepped front partOf advance.advanceOf leadStep burstStep settleOf fillOf replayStep leadAddOf largestFrom leadFullOf historyOf beginLeadOf clearedOf leadLane noBurst idleLane openedOk laneOk historyOk beginFloatsOk stepFloatsOk followsOf beginRefusal stepRefusal replyOf phaseOf firstFailed frameOk burstOk leadOk candOk settingsOk unsetOk beginBurstOf leadAtOf replayFrom replayOf sampleOf restOf lastOf snapIfOf snapOf nearStartOf presentOf presenceOf presence.advanceOf presThrOf upperOf movePresOf move.lengthenOf moveFrameOf sliceIfOf presence.dueOf sureIfOf endsOf endIfOf longOf carrierIfOf carrierOf goneOf hasPulsesOf gapOverOf waitOf tailOf dueOf confirmIf riseOf fallOf confirmOf actOf thresholdOf onOf refineDueOf highOf pacOf seeOf pushPulseOf closeGapOf emptyTrainOf finishOf endTrainOf pulseDoneOf gapRatioExceededOf refineLevelOf refineLoOf excessOf splitFrom refineInOf refineOf lengthenOf rejoinOf beginRunOf beginsOf advanceOf pacRunOf beginEnvOf satAddOf inc sqrtOf exactOf roundExact wholeRoot roundOf narrowOf absOf midpointOf flushOf crossOf nearestIn ofBits toBits add sub mul div neg lt le eq ofInt toUnsigned
 ran W cs = record { handed = handedOn unused cs; ended = bursts W (start W) cs; last = afterAll W (start W) cs }
