@@ -2,6 +2,7 @@
 use Prim.Native.Nat.{ℕ}
 use mathlib.Core.Bool.{Bool, true, false, cond}
 use mathlib.Core.Path.{_≡_, refl, sym, _∙_, ap}
+use mathlib.Core.Logic.{_⊎_, inl, inr}
 use mathlib.Core.List.{List, [], _++_, append-nil, append-assoc}
 use lib.ListN.{take, drop, replicate}
 use Rattle.lane.specs.Step.{newLane}
@@ -38,23 +39,26 @@ blocks-print {p = p} (more {q = q} {o = o} {u = u} {w = w} {v = v} {c = c} {x = 
     ∙ blocks-print before (c ++ t) (may-both last end c t came on may)
     ∙ ap (listing p) (sym (append-assoc u c t))
 
+-- the stream is over: it has ended, or no byte will come and none is left
+abbrev pub Over : Bool → Bool → List ℕ → Type 0
+Over last ended v = (ended ≡ true) ⊎ ((last ≡ true) × (v ≡ []))
+
 nothing : (q : State) → listing q [] ≡ []
 unfolding listing listed decoded
 nothing q = refl
 
--- a stream that has ended is printed whole, whatever comes after it; so is one that is used up
-pub ended-prints : {p q : State} {last : Bool} {u w v : List ℕ} → Blocks p last true u w q v → (t : List ℕ) → May last t → w ≡ listing p (u ++ t)
-ended-prints {w = w} b t may = sym (append-nil w) ∙ blocks-print b t may
-
-pub all-prints : {p q : State} {last : Bool} {u w : List ℕ} → Blocks p last false u w q [] → w ≡ listing p u
-all-prints {p = p} {q = q} {u = u} {w = w} b =
-    sym (append-nil w) ∙ ap (λ (z : List ℕ). w ++ z) (sym (nothing q)) ∙ blocks-print b [] (λ e. refl) ∙ ap (listing p) (append-nil u)
+-- a stream that is over is printed whole, whatever comes after its end
+pub over-prints : {p q : State} {last ended : Bool} {u w v : List ℕ} → Blocks p last ended u w q v → Over last ended v → (t : List ℕ) → May last t → w ≡ listing p (u ++ t)
+over-prints {q = q} {w = w} {v = v} b (inl e) t may =
+    sym (append-nil w) ∙ ap (λ (d : Bool). w ++ cond d [] (listing q (v ++ t))) (sym e) ∙ blocks-print b t may
+over-prints {q = q} {ended = ended} {w = w} {v = v} b (inr (e, n)) t may =
+    sym (append-nil w) ∙ ap (λ (z : List ℕ). w ++ z) (sym (go ended (ap (λ (z : List ℕ). listing q (z ++ t)) n ∙ ap (listing q) (may e) ∙ nothing q))) ∙ blocks-print b t may
+  where
+    go : (d : Bool) → listing q (v ++ t) ≡ [] → cond d [] (listing q (v ++ t)) ≡ []
+    go true h = refl
+    go false h = h
 
 -- so is the program's input
-pub program-prints : {q : State} {last : Bool} {u w : List ℕ} → Blocks (newLane, replicate 4096 0, replicate 4096 0) last false u w q [] → w ≡ listingOf u
+pub program-prints : {q : State} {last ended : Bool} {u w v : List ℕ} → Blocks (newLane, replicate 4096 0, replicate 4096 0) last ended u w q v → Over last ended v → (t : List ℕ) → May last t → w ≡ listingOf (u ++ t)
 unfolding listingOf
-program-prints b = all-prints b
-
-pub program-ends : {q : State} {last : Bool} {u w v : List ℕ} → Blocks (newLane, replicate 4096 0, replicate 4096 0) last true u w q v → (t : List ℕ) → May last t → w ≡ listingOf (u ++ t)
-unfolding listingOf
-program-ends b = ended-prints b
+program-prints b o = over-prints b o

@@ -2,13 +2,13 @@
 use Prim.Native.Nat.{ℕ, zero, suc, _+_, _-_, _<_, _≤_}
 use mathlib.Core.Bool.{Bool, true, false, cond}
 use mathlib.Core.Path.{_≡_, refl, sym, _∙_, ap, subst}
-use mathlib.Core.List.{List, [], _++_, append-nil, append-assoc}
+use mathlib.Core.List.{List, [], _∷_, _++_, append-nil, append-assoc}
 use native.Mathlib.Omega.{arith}
 use native.Mathlib.Nat.{not-suc-le-zero}
 use lib.ListN.{length, take, drop, length-take, length-drop, length-append, drop-of-length-le}
 use lib.Seq.{sets, sets-eq, take-at, drop-append-le, drop-drop}
-use lib.Dec.{eqb}
-use borrow.Author.Tests.{eqb-false, eq-eqb, ne-eqb}
+use lib.Dec.{eqb, ltb}
+use borrow.Author.Tests.{eqb-false, eq-eqb, ne-eqb, le-ltb}
 use Rattle.commands.specs.declared.Command.{Command}
 use Rattle.commands.specs.declared.Command.the-variants.{End, Open, Begin, Step, Unknown, Short}
 use Rattle.commands.specs.Command.{decoded, sizeOf}
@@ -227,6 +227,22 @@ module _ (last : Bool) (p₀ p : State) (s x : List ℕ) (used at : ℕ) (k : Co
 pub none-left : (last : Bool) (s : List ℕ) (used : ℕ) → length s ≤ used → waits last (decoded (drop used s)) ≡ true
 unfolding decoded
 none-left last s used h = ap (λ (u : List ℕ). waits last (decoded u)) (drop-of-length-le s h)
+
+-- and where no more will come, a command that is waited for is none
+waits-either : (b : Bool) (x y : Command) → waits true x ≡ false → waits true y ≡ false → waits true (cond b x y) ≡ false
+waits-either true x y h g = h
+waits-either false x y h g = g
+
+pub all-used : (s : List ℕ) → waits true (decoded s) ≡ true → s ≡ []
+unfolding decoded
+all-used [] w = refl
+all-used (b ∷ o) w =
+    let there : waits true (decoded (b ∷ o)) ≡ false =
+        simp (le-ltb (suc (length o)) 1 (omega arith))
+        (waits-either (eqb b 1) _ _ (waits-either (ltb (length o) 37) _ _ refl refl)
+        (waits-either (eqb b 2) _ _ (waits-either (ltb (length o) 60) _ _ refl refl)
+        (waits-either (eqb b 3) _ _ (waits-either (ltb (length o) 24) _ _ refl refl) refl))) in
+    let z : _≡_ {A = Bool} true false = sym w ∙ there in cc
 
 -- a block that was not ended
 pub stays : (b : Bool) (a w v : List ℕ) → b ≡ false → a ++ w ≡ v → a ++ cond b [] w ≡ v
