@@ -33,6 +33,10 @@ reading last full other i h =
     let n = none-of last full other h in
     record { none-after = never last _ (n .0); ended-stays = never last _ (n .0); none-while = never full _ (n .1) }
 
+pub first-false : (a b : Bool) → (a || b) ≡ false → a ≡ false
+first-false true b h = h
+first-false false b h = refl
+
 -- the bytes that came stand after those that were there
 came-after : (have n : ℕ) (x : List ℕ) → have ≤ length x → take (have + n) x ≡ take have x ++ take n (drop have x)
 came-after have n x h =

@@ -2,7 +2,7 @@
 -- that was read (crates/turns/specs/Blocks.antt), whose lines `program-prints` equates with the listing of the whole.
 use Prim.Native.Nat.{ℕ, _+_, _≤_}
 use mathlib.Core.Bool.{Bool, true, false, not, _&&_}
-use mathlib.Core.Path.{_≡_, refl, sym, _∙_, subst}
+use mathlib.Core.Path.{_≡_, refl, subst}
 use mathlib.Core.List.{List, [], _++_}
 use native.Mathlib.Omega.{arith}
 use lib.ListN.{length, take}
@@ -27,8 +27,11 @@ pub record Quiet (last full : Bool) (i : Input) : Type 0 where
   pub none-while : full ≡ true → i .came ≡ 0
 
 -- before the first read
+abbrev pub startedWith : Lane → Passed
+startedWith l = record { fed = record { lane = l; left = 0; at = 0; full = false; done = false }; last = false; failed = false }
+
 abbrev pub started : Passed
-started = record { fed = record { lane = newLane; left = 0; at = 0; full = false; done = false }; last = false; failed = false }
+started = startedWith newLane
 
 -- a pass feeds the bytes that were left, and after them those that came
 pub record Passes (p : Passed) (b ook fsk : List ℕ) (r : Passed) (x o f y : List ℕ) : Type 0 where
@@ -41,7 +44,6 @@ pub record Passes (p : Passed) (b ook fsk : List ℕ) (r : Passed) (x o f y : Li
 -- before a pass: of some bytes that were read the blocks printed some lines, and left the lane, the buffers and the bytes at the front of b
 pub record Standing (p : State) (a : Passed) (b ook fsk : List ℕ) : Type 0 where
   pub inside : a .fed .left ≤ length b
-  pub goes-on : a .fed .done ≡ false
   pub read : List ℕ
   pub printed : List ℕ
   pub blocks : Blocks p (a .last) false read printed (a .fed .lane, ook, fsk) (take (a .fed .left) b)
@@ -58,14 +60,13 @@ pub record Runs (p : State) (whole : Bool) (ook fsk : List ℕ) : Type 0 where
   pub over : whole ≡ true → Over last ended left
 
 pub starts : (b ook fsk : List ℕ) → Standing (newLane, ook, fsk) started b ook fsk
-starts b ook fsk = record { inside = omega arith; goes-on = refl; read = []; printed = []; blocks = none }
+starts b ook fsk = record { inside = omega arith; read = []; printed = []; blocks = none }
 
 -- a pass more
 pub goes : {p : State} {a r : Passed} {b ook fsk x o f y : List ℕ} → Standing p a b ook fsk → Passes a b ook fsk r x o f y → r .fed .done ≡ false → Standing p r x o f
 goes {p = p} {r = r} {x = x} {o = o} {f = f} {y = y} s g d =
     record {
       inside = g .feeds .inside;
-      goes-on = d;
       read = s .read ++ g .came;
       printed = s .printed ++ take (r .fed .at) y;
       blocks =
@@ -92,7 +93,7 @@ stops {r = r} {x = x} {y = y} s g =
     }
 
 -- no pass more, though the stream is not over
-pub stands : {p : State} {a : Passed} {b ook fsk : List ℕ} → Standing p a b ook fsk → Runs p (a .fed .done && not (a .failed)) ook fsk
+pub stands : {p : State} {a : Passed} {b ook fsk : List ℕ} → Standing p a b ook fsk → Runs p false ook fsk
 stands {a = a} {b = b} s =
     record {
       lane = a .fed .lane;
@@ -102,6 +103,5 @@ stands {a = a} {b = b} s =
       printed = s .printed;
       left = take (a .fed .left) b;
       blocks = s .blocks;
-      over = λ h. let z : _≡_ {A = Bool} false true = sym (s .goes-on) ∙ first (a .fed .done) (not (a .failed)) h in
-      let n : _≡_ {A = ℕ} 0 1 = cc in absurd (omega arith);
+      over = λ h. let z : _≡_ {A = Bool} false true = h in let n : _≡_ {A = ℕ} 0 1 = cc in absurd (omega arith);
     }

@@ -2,6 +2,7 @@
 // brings, and the lines of their calls to standard output before the next read. It only moves bytes:
 // what is printed is `feed::feed`'s.
 ghost use Prim.Native.Nat.{_≤_};
+ghost use mathlib.Core.Path.{_≡_};
 ghost use lib.ListN.{length};
 ghost use Rattle.lane.specs.Step.{newLane};
 ghost use Rattle.listing.specs.Passes.{Came, Quiet, started, Passes, Runs};
@@ -93,13 +94,7 @@ fn start() -> Passed
 }
 
 // One read, the turns of what is there, and one write.
-fn pass(
-    p: Passed,
-    buf: &mut [u8],
-    ook: &mut [u32],
-    fsk: &mut [u32],
-    text: &mut [u8],
-) -> Passed
+fn pass(p: Passed, buf: &mut [u8], ook: &mut [u32], fsk: &mut [u32], text: &mut [u8]) -> Passed
     requires { ⌜ p .fed .left ≤ length (now buf) ⌝ }
     ensures { λ r. ⌜ Passes p (now (buf .entry)) (now (ook .entry)) (now (fsk .entry)) r (now (buf .exit)) (now (ook .exit)) (now (fsk .exit)) (now (text .exit)) ⌝ }
 {
@@ -129,10 +124,10 @@ fn run(buf: &mut [u8], ook: &mut [u32], fsk: &mut [u32], text: &mut [u8]) -> boo
         passes -= 1;
         p = pass(p, buf, ook, fsk, text);
         if p.fed.done | p.failed {
-            break;
+            return p.fed.done & !p.failed;
         }
     }
-    p.fed.done & !p.failed
+    false
 }
 
 // Buffers for 2,048 pairs each. The text has room for the 172,400 bytes that one call may take, and

@@ -238,10 +238,10 @@ unfolding decoded
 all-used [] w = refl
 all-used (b ∷ o) w =
     let there : waits true (decoded (b ∷ o)) ≡ false =
-        simp (le-ltb (suc (length o)) 1 (omega arith))
-        (waits-either (eqb b 1) _ _ (waits-either (ltb (length o) 37) _ _ refl refl)
-        (waits-either (eqb b 2) _ _ (waits-either (ltb (length o) 60) _ _ refl refl)
-        (waits-either (eqb b 3) _ _ (waits-either (ltb (length o) 24) _ _ refl refl) refl))) in
+    simp (le-ltb (suc (length o)) 1 (omega arith))
+    (waits-either (eqb b 1) _ _ (waits-either (ltb (length o) 37) _ _ refl refl)
+    (waits-either (eqb b 2) _ _ (waits-either (ltb (length o) 60) _ _ refl refl)
+    (waits-either (eqb b 3) _ _ (waits-either (ltb (length o) 24) _ _ refl refl) refl))) in
     let z : _≡_ {A = Bool} true false = sym w ∙ there in cc
 
 -- a block that was not ended
