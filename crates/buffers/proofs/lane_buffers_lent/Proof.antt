@@ -61,8 +61,8 @@ same-length-2 c = search needs
 returns : tie.Need-returns Inv-loop μ-loop
 returns c =
     let v = c .before .loop in
-    left-whole (c .before .before .before .args .commands .now) (v .used) _ _ _ _ _ _ (c .before .before .new-lane .ensures) (v .inv .0) (v .inv .3)
-    (none-left (c .before .before .before .args .commands .now) (v .used) (omega (arith, c .loop-test .left)))
+    left-whole (c .before .before .before .before .before .before .args .commands .now) (v .used) _ _ _ _ _ _ (c .before .before .new-lane .ensures) (v .inv .0) (v .inv .3)
+    (none-left (c .before .before .before .before .before .before .args .commands .now) (v .used) (omega (arith, c .loop-test .left)))
 
 same-length-3 : tie.Need-same-length-3 Inv-loop μ-loop
 same-length-3 c = search needs
