@@ -1,11 +1,11 @@
-use Rattle.listing.proofs.Laws.{moved, kept}
+use Rattle.feed.proofs.Laws.{moved, kept, part}
 use Prim.Native.Nat.{ℕ, _-_, _≤_}
 use mathlib.Core.Path.{_≡_, refl, sym, ap, _∙_}
 use native.Mathlib.Omega.{arith}
 use lib.ListN.{length, take, drop}
 use borrow.Author.Needs.{needs}
-use Rattle.listing.proofs.shift.Statement.{statement}
-use Rattle.listing.proofs.shift.Tie as tie
+use Rattle.feed.proofs.shift.Statement.{statement}
+use Rattle.feed.proofs.shift.Tie as tie
 
 abbrev Inv-loop : tie.InvT-loop
 Inv-loop buf₀ from end n i₀ buf i =
@@ -53,7 +53,7 @@ returns c =
     let v = c .before .loop in
     let a = c .before .before .args in
     let e : v .i ≡ a .end - a .from = omega arith in
-    (omega arith, refl, ap (λ (j : ℕ). take j (v .buf)) (sym e) ∙ v .inv .2 ∙ ap (λ (j : ℕ). take j (drop (a .from) (a .buf .now))) e)
+    (omega arith, ap (λ (j : ℕ). take j (v .buf)) (sym e) ∙ v .inv .2 ∙ ap (λ (j : ℕ). take j (drop (a .from) (a .buf .now))) e ∙ part (a .from) (a .end) (a .buf .now))
 
 pub shift-spec : {M : Type 1} → statement M
 shift-spec =
