@@ -7,11 +7,14 @@ use std::fs::File;
 use std::process::{Command, Stdio};
 use std::time::Instant;
 
+#[allow(dead_code)]
 mod generator;
 mod random;
 #[allow(dead_code)]
 mod receiver;
+#[allow(dead_code)]
 mod signal;
+mod verdict;
 
 use generator::stream;
 use signal::KINDS;

@@ -1,8 +1,8 @@
 //! Times three f32 roots on the same million inputs, all compiled for release: `lane_sqrt` of target/staticlib/libhost.a, a
-//! plain Rust root that finds the root one bit at a time, and the processor's. Nanoseconds per call, the best of several
-//! rounds taken in turn. The three must agree.
+//! plain Rust root that finds the root one bit at a time, and the processor's. Nanoseconds per call, each part of the inputs by the
+//! best of several rounds taken in turn, so that other work on the machine counts little. The three must agree.
 
-use std::hint::black_box;
+use std::hint::{black_box, select_unpredictable};
 use std::time::Instant;
 
 mod host;
@@ -11,7 +11,8 @@ mod random;
 use random::Random;
 
 const INPUTS: usize = 1_000_000;
-const ROUNDS: usize = 9;
+const PART: usize = 10_000;
+const ROUNDS: usize = 25;
 const NAN: u32 = 0x7fc0_0000;
 const INFINITY: u32 = 0x7f80_0000;
 
@@ -19,19 +20,8 @@ fn by_processor(bits: u32) -> u32 {
     f32::from_bits(bits).sqrt().to_bits()
 }
 
-/// The largest whole number whose square is at most `n`, which is below 2^50.
-fn whole_root(n: u64) -> u64 {
-    let mut root = 0;
-    for place in (0..25).rev() {
-        let next = root | 1 << place;
-        if next * next <= n {
-            root = next;
-        }
-    }
-    root
-}
-
-/// The root, one bit at a time.
+/// The root, one bit at a time, without a branch on a digit: such a branch goes either way at random, and made the root take
+/// several times as long.
 fn bit_by_bit(bits: u32) -> u32 {
     if bits << 1 == 0 || bits == INFINITY {
         return bits;
@@ -40,36 +30,32 @@ fn bit_by_bit(bits: u32) -> u32 {
         // A NaN or a negative.
         return NAN;
     }
-    // The value is digits * 2^power.
-    let exponent = (bits >> 23) as i32;
-    let (mut digits, mut power) = match exponent {
-        0 => (u64::from(bits), -149),
-        _ => (u64::from(bits & 0x7f_ffff | 0x80_0000), exponent - 150),
+    // The value is digits * 2^(exponent - 150).
+    let (digits, exponent) = match bits >> 23 {
+        0 => (bits, 1),
+        e => (bits & 0x7f_ffff | 0x80_0000, e),
     };
     // By an even power of two to 2^48 or more and below 2^50.
-    let mut shift = digits.leading_zeros() as i32 - 14;
-    if (power - shift) % 2 != 0 {
-        shift -= 1;
+    let half = (33 - digits.leading_zeros() + exponent) / 2;
+    let scaled = u64::from(digits) << (50 + exponent - 2 * half);
+    let mut root = 0u64;
+    for place in (0..25).rev() {
+        let next = root | 1 << place;
+        root = select_unpredictable(next * next <= scaled, next, root);
     }
-    digits <<= shift;
-    power -= shift;
-    // 25 digits, of which the last is half a unit of the result.
-    let root = whole_root(digits);
-    let more = root * root < digits;
-    let kept = root >> 1;
-    let up = root & 1 == 1 && (more || kept & 1 == 1);
-    // kept has 24 digits; a carry out of them raises the exponent as it should.
-    (((power / 2 + 150) as u32) << 23) + (kept as u32 + u32::from(up))
+    // 25 digits, of which the last is half a unit of the result and stands for more: no root lies in the middle of two floats. A
+    // carry out of the 24 kept raises the exponent as it should.
+    ((half + 50) << 23) + (root >> 1) as u32 + (root & 1) as u32
 }
 
-/// Nanoseconds per call, and a sum of the results.
+/// Nanoseconds, and a sum of the results.
 fn timed(inputs: &[u32], f: impl Fn(u32) -> u32) -> (f64, u64) {
     let start = Instant::now();
     let mut sum = 0u64;
     for &bits in inputs {
         sum = sum.wrapping_mul(31).wrapping_add(u64::from(f(black_box(bits))));
     }
-    (start.elapsed().as_secs_f64() * 1e9 / inputs.len() as f64, sum)
+    (start.elapsed().as_secs_f64() * 1e9, sum)
 }
 
 fn main() {
@@ -78,17 +64,17 @@ fn main() {
     let inputs: Vec<u32> = (0..INPUTS).map(|_| r.below(u64::from(INFINITY)) as u32).collect();
     let roots: [(&str, fn(u32) -> u32); 3] =
         [("lane_sqrt", host::sqrt), ("plain Rust, one bit at a time", bit_by_bit), ("the processor", by_processor)];
-    let mut best = [f64::INFINITY; 3];
+    let mut best = vec![[f64::INFINITY; 3]; INPUTS / PART];
     for _ in 0..ROUNDS {
-        let sums = [0, 1, 2].map(|i| {
-            let (ns, sum) = timed(&inputs, roots[i].1);
-            best[i] = best[i].min(ns);
-            sum
-        });
-        assert!(sums[0] == sums[2] && sums[1] == sums[2], "the roots differ");
+        for (best, part) in best.iter_mut().zip(inputs.chunks(PART)) {
+            let times = roots.map(|(_, root)| timed(part, root));
+            assert!(times.iter().all(|t| t.1 == times[0].1), "the roots differ");
+            *best = [0, 1, 2].map(|i| best[i].min(times[i].0));
+        }
     }
-    for (ns, (name, _)) in best.iter().zip(roots) {
+    let per_call = [0, 1, 2].map(|i| best.iter().map(|b| b[i]).sum::<f64>() / INPUTS as f64);
+    for (ns, (name, _)) in per_call.iter().zip(roots) {
         println!("{name}: {ns:.2} ns per call");
     }
-    println!("lane_sqrt takes {:.2} of the plain root's time", best[0] / best[1]);
+    println!("lane_sqrt takes {:.2} of the plain root's time", per_call[0] / per_call[1]);
 }

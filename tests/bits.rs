@@ -7,6 +7,10 @@ use std::fmt::Debug;
 use std::process::ExitCode;
 
 use crate::random::Random;
+use crate::verdict::told;
+
+/// Cases that a run must have of each function, at the least.
+const LEAST: u64 = 100_000;
 
 pub const NAN32: u32 = 0x7fc0_0000;
 pub const NAN64: u64 = 0x7ff8_0000_0000_0000;
@@ -119,16 +123,11 @@ impl Run {
 /// Runs `all` with the options `--seed N` and `--cases N`, the cases for each function.
 pub fn program(all: impl Fn(&mut Run) -> Result<(), String>) -> ExitCode {
     let done = options().and_then(|mut run| all(&mut run).map(|()| run));
-    match done {
-        Ok(run) => {
-            println!("{} functions agree in {} cases each: {}", run.names.len(), run.cases, run.names.join(", "));
-            ExitCode::SUCCESS
-        }
-        Err(e) => {
-            println!("{e}");
-            ExitCode::FAILURE
-        }
-    }
+    told(done.and_then(|run| {
+        let figures =
+            format!("{} functions agree in {} cases each: {}", run.names.len(), run.cases, run.names.join(", "));
+        if run.cases < LEAST { Err(format!("{figures}\nand {LEAST} cases are wanted")) } else { Ok(figures) }
+    }))
 }
 
 fn options() -> Result<Run, String> {

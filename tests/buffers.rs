@@ -4,22 +4,34 @@
 //! The buffers hold any numbers before the first call; some are too short for the settings, and longer than they need.
 //!
 //!     buffers [--streams N] [--calls N] [--first SEED]
+//!     buffers --long SLOTS [--first SEED]      bursts that fill 65,536 pairs and that pass them, in buffers of so many slots, instead;
+//!                                              compared at some calls of each
 
 use std::process::ExitCode;
 
 mod generator;
+mod long;
 mod random;
 #[allow(dead_code)]
 mod receiver;
-#[allow(dead_code)]
 mod signal;
+mod verdict;
 
 use generator::stream;
+use long::Long;
 use random::Random;
-use receiver::Receiver;
+use receiver::{Receiver, Reply};
+use verdict::{Census, at_least};
 
 /// Room for the lines of a stream.
-const TEXT: usize = 1 << 21;
+const TEXT: usize = 1 << 24;
+
+/// The most pairs of a train.
+const PAIRS_MOST: u64 = 65_536;
+
+/// What a run must have compared, at the least: after how many calls, and after how many that left a slot other than it was.
+const LEAST: [(&str, u64); 2] = [("calls", 100_000), ("calls that write", 3000)];
+const LEAST_LONG: [(&str, u64); 2] = [("calls", 10), ("calls that write", 10)];
 
 unsafe extern "C" {
     fn lane_buffers(
@@ -71,66 +83,135 @@ fn by_lending(commands: &[u8], [ook, fsk]: &mut [Vec<u32>; 2], _: &mut [u8]) -> 
 const WAYS: [(&str, CallAll); 2] = [("by value", by_value), ("by lending", by_lending)];
 
 /// A buffer before the first call.
-fn any_buffer(r: &mut Random) -> Vec<u32> {
-    let slots = if r.once_in(4) { r.pick(&[0, 1, 7, 40, 127, 600, 4095, 5000]) } else { 4096 };
+fn filled(r: &mut Random, slots: usize) -> Vec<u32> {
     (0..slots).map(|_| r.u32()).collect()
 }
 
-#[derive(Default)]
-struct Figures {
-    calls: u64,
-    /// Calls that left a slot other than it was.
-    writing: u64,
+fn any_buffer(r: &mut Random) -> Vec<u32> {
+    let slots = if r.once_in(4) { r.pick(&[0, 1, 7, 40, 127, 600, 4095, 5000]) } else { 4096 };
+    filled(r, slots)
 }
 
-/// The stream's first calls one by one: the commands up to each are run from the start.
-fn compared(seed: u64, calls: u64, text: &mut [u8], figures: &mut Figures) -> Result<(), String> {
-    let mut r = Random::new(!seed);
-    let start = [any_buffer(&mut r), any_buffer(&mut r)];
-    let [ook, fsk] = start.clone();
-    let mut receiver = Receiver::with_buffers(ook, fsk);
-    let commands = stream(seed, calls, None).bytes;
-    let mut rest = &commands[..];
-    let mut before = start.clone();
-    let mut here = start.clone();
-    for _ in 0..calls {
-        if rest.is_empty() {
-            break;
-        }
-        let reply = receiver.call(&mut rest);
-        let front = if reply.ends() { &commands[..] } else { &commands[..commands.len() - rest.len()] };
-        figures.calls += 1;
+/// Commands, and both buffers before the first.
+struct Case {
+    commands: Vec<u8>,
+    start: [Vec<u32>; 2],
+}
+
+impl Case {
+    /// Runs the commands of the front from the start in each way: both buffers must be as the receiver's, and `taken` bytes used.
+    fn compared(&self, front: &[u8], taken: usize, receiver: &Receiver, run: &mut Run) -> Result<(), String> {
         for (way, call_all) in WAYS {
-            for (slots, first) in here.iter_mut().zip(&start) {
-                slots.copy_from_slice(first);
+            run.here.clone_from(&self.start);
+            let used = call_all(front, &mut run.here, &mut run.text);
+            if used != taken {
+                return Err(format!("{way}: {used} bytes of {} taken", front.len()));
             }
-            let taken = call_all(front, &mut here, text);
-            if taken != commands.len() - rest.len() {
-                return Err(format!("seed {seed}, {way}: {taken} bytes of {} taken", front.len()));
-            }
-            for (name, (slots, right)) in ["ook", "fsk"].iter().zip(here.iter().zip(receiver.buffers())) {
+            for (name, (slots, right)) in ["ook", "fsk"].iter().zip(run.here.iter().zip(receiver.buffers())) {
                 if let Some(i) = (0..right.len()).find(|&i| slots[i] != right[i]) {
                     let (got, bytes) = (slots[i], front.len());
-                    return Err(format!(
-                        "seed {seed}, first {bytes} bytes, {way}: {name} slot {i} is {got}, not {}",
-                        right[i]
-                    ));
+                    return Err(format!("first {bytes} bytes, {way}: {name} slot {i} is {got}, not {}", right[i]));
                 }
             }
         }
-        if here != before {
-            figures.writing += 1;
-            before.clone_from(&here);
-        }
-        if reply.ends() {
-            break;
-        }
+        run.count("calls", 1);
+        run.count("calls that write", u64::from(run.here != run.before));
+        run.before.clone_from(&run.here);
+        Ok(())
     }
-    Ok(())
+
+    /// Follows the first calls, and compares after each of them that `stops` names by its number and reply.
+    fn followed(&self, calls: u64, stops: impl Fn(u64, &Reply) -> bool, run: &mut Run) -> Result<(), String> {
+        let [ook, fsk] = self.start.clone();
+        let mut receiver = Receiver::with_buffers(ook, fsk);
+        let mut rest = &self.commands[..];
+        run.before.clone_from(&self.start);
+        for n in 0..calls {
+            if rest.is_empty() {
+                break;
+            }
+            let reply = receiver.call(&mut rest);
+            let taken = self.commands.len() - rest.len();
+            if stops(n, &reply) {
+                let front = if reply.ends() { &self.commands[..] } else { &self.commands[..taken] };
+                self.compared(front, taken, &receiver, run)?;
+            }
+            if reply.ends() {
+                break;
+            }
+        }
+        Ok(())
+    }
+}
+
+/// A run of cases: what it saw, the buffers that it works on, those after the comparison before, and room for lines.
+struct Run {
+    census: Census,
+    here: [Vec<u32>; 2],
+    before: [Vec<u32>; 2],
+    text: Vec<u8>,
+}
+
+impl Run {
+    fn new() -> Self {
+        Self { census: Census::new(), here: Default::default(), before: Default::default(), text: vec![0; TEXT] }
+    }
+
+    fn count(&mut self, what: &str, n: u64) {
+        *self.census.entry(what.to_string()).or_default() += n;
+    }
+
+    fn ended(&self, least: &[(&str, u64)]) -> Result<String, String> {
+        let figures = format!("both buffers equal, by value and by lending, after {}", verdict::words(&self.census));
+        at_least(&self.census, least).map_err(|e| format!("{figures}\n{e}"))?;
+        Ok(figures)
+    }
+}
+
+fn seeded(streams: u64, calls: u64, first: u64) -> Result<String, String> {
+    let mut run = Run::new();
+    for seed in first..first + streams {
+        let mut r = Random::new(!seed);
+        let start = [any_buffer(&mut r), any_buffer(&mut r)];
+        let case = Case { commands: stream(seed, calls, None).bytes, start };
+        case.followed(calls, |_, _| true, &mut run).map_err(|e| format!("seed {seed}, {e}"))?;
+        run.count("streams", 1);
+    }
+    run.ended(&LEAST)
+}
+
+/// A long burst, compared after each quarter of its calls and where a burst ends.
+fn long_burst(burst: &Long, slots: usize, seed: u64, run: &mut Run) -> Result<(), String> {
+    let mut r = Random::new(!seed);
+    let start = [filled(&mut r, slots), filled(&mut r, slots)];
+    let [ook, fsk] = start.clone();
+    let s = burst.stream(seed, Receiver::with_buffers(ook, fsk))?;
+    let quarter = s.calls / 4;
+    let case = Case { commands: s.bytes, start };
+    let stops = |n, reply: &Reply| matches!(reply, Reply::Idle { .. }) || n > 0 && n % quarter == 0;
+    run.count("streams", 1);
+    case.followed(s.calls, stops, run).map_err(|e| format!("{}: {e}", burst.name()))
+}
+
+/// The bursts that are tried: fewer where the buffers are longer than any train.
+fn bursts(slots: usize) -> Vec<Long> {
+    let [_, full, over, frame, frame_over, _, auto_over, auto_frame_over, both] = long::filling(PAIRS_MOST);
+    if slots as u64 > 2 * PAIRS_MOST {
+        return vec![over, frame];
+    }
+    vec![full, over, frame, frame_over, auto_over, auto_frame_over, both]
+}
+
+fn long_bursts(slots: usize, seed: u64) -> Result<String, String> {
+    let mut run = Run::new();
+    for burst in bursts(slots) {
+        long_burst(&burst, slots, seed, &mut run)?;
+    }
+    run.ended(&LEAST_LONG)
 }
 
 fn run() -> Result<String, String> {
-    let (mut streams, mut calls, mut first) = (400u64, 400u64, 1u64);
+    let (mut streams, mut calls, mut first, mut slots) = (400u64, 400u64, 1u64, None);
     let mut args = std::env::args().skip(1);
     while let Some(a) = args.next() {
         let value = args.next().and_then(|v| v.parse().ok()).ok_or(format!("{a}: a number"))?;
@@ -138,28 +219,13 @@ fn run() -> Result<String, String> {
             "--streams" => streams = value,
             "--calls" => calls = value,
             "--first" => first = value,
-            _ => return Err("buffers [--streams N] [--calls N] [--first SEED]".to_string()),
+            "--long" => slots = Some(value as usize),
+            _ => return Err("buffers [--streams N] [--calls N] [--first SEED] [--long SLOTS]".to_string()),
         }
     }
-    let mut text = vec![0; TEXT];
-    let mut figures = Figures::default();
-    for seed in first..first + streams {
-        compared(seed, calls, &mut text, &mut figures)?;
-    }
-    let Figures { calls, writing } = figures;
-    if writing * 1000 < calls {
-        return Err(format!("only {writing} of {calls} calls write a slot"));
-    }
-    Ok(format!(
-        "both buffers equal after each of {calls} calls of {streams} streams, by value and by lending, {writing} of which write a slot"
-    ))
+    slots.map_or_else(|| seeded(streams, calls, first), |slots| long_bursts(slots, first))
 }
 
 fn main() -> ExitCode {
-    let (figures, code) = match run() {
-        Ok(figures) => (figures, ExitCode::SUCCESS),
-        Err(e) => (e, ExitCode::FAILURE),
-    };
-    println!("{figures}");
-    code
+    verdict::told(run())
 }

@@ -1,28 +1,56 @@
 //! Runs a listing program on seeded command streams and compares what it prints with the reference receiver.
 //!
 //!     compare PROGRAM [--streams N] [--calls N] [--first SEED] [--kind KIND]
+//!     compare PROGRAM --long [--first SEED]      long bursts instead: trains that fill the program's buffers, and that pass them
 //!
 //! On the first difference the stream is cut down to few calls that still differ; they are printed, and written to
 //! target/tests/differing.bin.
 
-use std::collections::BTreeMap;
-use std::io::Write;
-use std::process::{Command, ExitCode, Stdio};
+use std::process::ExitCode;
+use std::time::{Duration, Instant};
 
 mod generator;
+mod long;
+mod program;
 mod random;
 #[allow(dead_code)]
 mod receiver;
 mod signal;
+mod verdict;
 
-use generator::stream;
+use generator::{Stream, stream};
+use program::{printed, shortened};
 use receiver::{Receiver, Reply};
 use signal::{KINDS, Kind};
+use verdict::{Census, at_least};
 
 const LEFT: &str = "target/tests/differing.bin";
 
-/// Bytes of a stream that are written in small pieces.
-const IN_PIECES: usize = 4000;
+/// The time for cutting a stream down, and the calls of what is left that are printed.
+const SHRINKING: Duration = Duration::from_secs(20);
+const SHOWN: usize = 60;
+
+/// What a run of streams of every kind must have seen, at the least; one of a single kind sees fewer.
+const LEAST: [(&str, u64); 18] = [
+    ("opening", 4000),
+    ("begin", 15_000),
+    ("step", 2_500_000),
+    ("ook vector", 6000),
+    ("fsk angle", 2000),
+    ("fsk vector", 4000),
+    ("cut train", 2000),
+    ("NaN in a record", 3),
+    ("infinity in a record", 20),
+    ("idle", 10_000),
+    ("carrier", 3000),
+    ("refused 1", 10),
+    ("refused 2", 20),
+    ("refused 3", 2000),
+    ("refused 5", 6000),
+    ("refused 6", 8000),
+    ("refused 7", 2500),
+    ("refused 8", 100),
+];
 
 /// What the reference prints.
 fn reference(mut input: &[u8]) -> Vec<u8> {
@@ -36,36 +64,6 @@ fn reference(mut input: &[u8]) -> Vec<u8> {
         }
     }
     out
-}
-
-/// Writes the input, the front of it in small pieces: a program reads what is there, and a command may lie across two reads.
-fn feed(mut stdin: impl Write, input: &[u8]) -> std::io::Result<()> {
-    let (front, rest) = input.split_at(input.len().min(IN_PIECES));
-    let mut sizes = [1, 7, 24, 25, 26, 61, 300].into_iter().cycle();
-    let mut front = front;
-    while !front.is_empty() {
-        let (piece, after) = front.split_at(sizes.next().unwrap_or(1).min(front.len()));
-        stdin.write_all(piece)?;
-        stdin.flush()?;
-        front = after;
-    }
-    stdin.write_all(rest)
-}
-
-/// What the program prints.
-fn printed(program: &str, input: &[u8]) -> Result<Vec<u8>, String> {
-    let mut child = Command::new(program)
-        .stdin(Stdio::piped())
-        .stdout(Stdio::piped())
-        .spawn()
-        .map_err(|e| format!("{program}: {e}"))?;
-    let stdin = child.stdin.take().unwrap();
-    std::thread::scope(|s| {
-        // A program that has met refusal 1 may close its input early.
-        s.spawn(move || drop(feed(stdin, input)));
-        let output = child.wait_with_output().map_err(|e| e.to_string())?;
-        if output.status.success() { Ok(output.stdout) } else { Err(format!("{program} ended with {}", output.status)) }
-    })
 }
 
 fn differs(program: &str, input: &[u8]) -> bool {
@@ -113,12 +111,16 @@ fn joined(calls: &[Call]) -> Vec<u8> {
     bytes
 }
 
-/// Without every stretch of calls that the difference does not need, long stretches first.
+/// Without every stretch of calls that the difference does not need, long stretches first, as far as the time goes.
 fn shrunken(program: &str, mut kept: Vec<Call>) -> Vec<Call> {
+    let until = Instant::now() + SHRINKING;
     let mut size = kept.len() / 2;
     while size > 0 {
         let mut at = 0;
         while at + size <= kept.len() {
+            if Instant::now() > until {
+                return kept;
+            }
             let mut fewer = kept.clone();
             fewer.drain(at..at + size);
             if differs(program, &joined(&fewer)) {
@@ -156,12 +158,12 @@ fn reported(program: &str, seed: u64, input: &[u8]) -> String {
     let bytes = joined(&kept);
     let left = std::fs::write(LEFT, &bytes).map_or_else(|e| e.to_string(), |()| LEFT.to_string());
     let mut report = format!("seed {seed}: {} calls differ ({left})\n", kept.len());
-    for call in calls(&bytes) {
+    for call in calls(&bytes).iter().take(SHOWN) {
         report += &format!("  {}\n", words(&call.bytes));
     }
     let here = printed(program, &bytes).unwrap_or_else(String::into_bytes);
-    report += &format!("reference:\n{}", String::from_utf8_lossy(&reference(&bytes)));
-    report + &format!("{program}:\n{}", String::from_utf8_lossy(&here))
+    report += &format!("reference:\n{}", shortened(&reference(&bytes)));
+    report + &format!("{program}:\n{}", shortened(&here))
 }
 
 struct Options {
@@ -170,13 +172,20 @@ struct Options {
     calls: u64,
     first: u64,
     kind: Option<Kind>,
+    long: bool,
 }
+
+const USE: &str = "compare PROGRAM [--streams N] [--calls N] [--first SEED] [--kind KIND] [--long]";
 
 fn options() -> Result<Options, String> {
     let mut args = std::env::args().skip(1);
-    let program = args.next().ok_or("compare PROGRAM [--streams N] [--calls N] [--first SEED] [--kind KIND]")?;
-    let mut o = Options { program, streams: 200, calls: 20_000, first: 1, kind: None };
+    let program = args.next().ok_or(USE)?;
+    let mut o = Options { program, streams: 400, calls: 20_000, first: 1, kind: None, long: false };
     while let Some(a) = args.next() {
+        if a == "--long" {
+            o.long = true;
+            continue;
+        }
         let value = args.next().ok_or(format!("{a}: a value"))?;
         let number = || value.parse().map_err(|_| format!("{a}: a number"));
         match a.as_str() {
@@ -184,20 +193,22 @@ fn options() -> Result<Options, String> {
             "--calls" => o.calls = number()?,
             "--first" => o.first = number()?,
             "--kind" => o.kind = Some(KINDS.iter().find(|k| k.0 == value).ok_or("--kind: unknown")?.1),
-            _ => return Err(format!("unknown option {a}")),
+            _ => return Err(USE.to_string()),
         }
     }
     Ok(o)
 }
 
-fn run() -> Result<String, String> {
-    let o = options()?;
-    let (mut calls, mut census) = (0, BTreeMap::<String, u64>::new());
+/// The same lines of the program and the reference.
+fn agrees(o: &Options, seed: u64, s: &Stream) -> Result<(), String> {
+    if differs(&o.program, &s.bytes) { Err(reported(&o.program, seed, &s.bytes)) } else { Ok(()) }
+}
+
+fn seeded(o: &Options) -> Result<String, String> {
+    let (mut calls, mut census) = (0, Census::new());
     for seed in o.first..o.first + o.streams {
         let s = stream(seed, o.calls, o.kind);
-        if differs(&o.program, &s.bytes) {
-            return Err(reported(&o.program, seed, &s.bytes));
-        }
+        agrees(o, seed, &s)?;
         calls += s.calls;
         for (what, n) in s.census {
             // Trains by kind, refusals by number.
@@ -205,19 +216,24 @@ fn run() -> Result<String, String> {
             *census.entry(what).or_default() += n;
         }
     }
-    let words: Vec<String> = census.iter().map(|(what, n)| format!("{what} {n}")).collect();
-    Ok(format!("{} streams of {calls} calls agree: {}", o.streams, words.join(", ")))
+    let figures = format!("{} streams of {calls} calls agree: {}", o.streams, verdict::words(&census));
+    let least = if o.kind.is_none() { &LEAST[..] } else { &[("step", 1)] };
+    at_least(&census, least).map_err(|e| format!("{figures}\n{e}"))?;
+    Ok(figures)
+}
+
+fn long_bursts(o: &Options) -> Result<String, String> {
+    let bursts = long::listed();
+    let (mut calls, mut longest) = (0, 0);
+    for burst in &bursts {
+        let s = burst.stream(o.first, Receiver::new())?;
+        agrees(o, o.first, &s).map_err(|e| format!("{}: {e}", burst.name()))?;
+        calls += s.calls;
+        longest = s.decided.iter().map(|d| d.1).fold(longest, u64::max);
+    }
+    Ok(format!("{} long bursts of {calls} calls agree, the longest train of {longest} pairs", bursts.len()))
 }
 
 fn main() -> ExitCode {
-    match run() {
-        Ok(figures) => {
-            println!("{figures}");
-            ExitCode::SUCCESS
-        }
-        Err(e) => {
-            println!("{e}");
-            ExitCode::FAILURE
-        }
-    }
+    verdict::told(options().and_then(|o| if o.long { long_bursts(&o) } else { seeded(&o) }))
 }

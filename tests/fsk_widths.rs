@@ -6,12 +6,12 @@
 //!
 //! tests/fsk_widths_kept.rs replays the sample where the published source is not at hand.
 
-use std::collections::BTreeMap;
 use std::process::ExitCode;
 
 mod host;
 mod lists;
 mod random;
+mod verdict;
 
 #[allow(dead_code)]
 mod published {
@@ -26,6 +26,10 @@ mod published {
 
 use lists::{CLASSES, Class, SLOTS_MOST};
 use random::Random;
+use verdict::{Census, at_least};
+
+/// Lists that a comparison must have of each class, at the least.
+const LEAST: u64 = 1000;
 
 fn ours(slots: &[u32]) -> Result<Vec<u32>, u32> {
     let mut widths = slots.to_vec();
@@ -70,28 +74,29 @@ fn smaller(slots: &[u32]) -> impl Iterator<Item = Vec<u32>> + '_ {
     shorter.chain(lower)
 }
 
-fn failed(what: &str, slots: &[u32]) -> Result<(), String> {
+fn failed(what: &str, slots: &[u32]) -> String {
     let small = shrunken(slots.to_vec());
-    Err(format!("{what}: slots {small:?}\n  published {:?}\n  here      {:?}", published::widths(&small), ours(&small)))
+    format!("{what}: slots {small:?}\n  published {:?}\n  here      {:?}", published::widths(&small), ours(&small))
 }
 
-fn compare(r: &mut Random, count: u64) -> Result<(), String> {
-    let mut counts = BTreeMap::new();
+fn compare(r: &mut Random, count: u64) -> Result<String, String> {
+    let mut counts = Census::new();
     for i in 0..count {
         let class = if i == 0 { Class::Empty } else { CLASSES[i as usize % CLASSES.len()] };
         let slots = lists::list(r, class);
-        *counts.entry(class).or_insert(0u64) += 1;
+        *counts.entry(format!("{class:?}")).or_default() += 1;
         if differs(&slots) {
-            return failed(&format!("{class:?}, list {i}"), &slots);
+            return Err(failed(&format!("{class:?}, list {i}"), &slots));
         }
     }
-    let words: Vec<String> = counts.iter().map(|(c, n)| format!("{c:?} {n}")).collect();
-    println!("{count} lists agree: {}", words.join(", "));
-    Ok(())
+    for class in CLASSES {
+        at_least(&counts, &[(&format!("{class:?}"), LEAST)])?;
+    }
+    Ok(format!("{count} lists agree: {}", verdict::words(&counts)))
 }
 
 /// The longest list, of a frame on a grid and of any numbers, and a list of two less.
-fn longest(r: &mut Random) -> Result<(), String> {
+fn longest(r: &mut Random) -> Result<String, String> {
     for n in [SLOTS_MOST, SLOTS_MOST - 2] {
         let frame = lists::frame(r, n, 700.0, 0.1);
         let any: Vec<u32> = (0..n).map(|_| r.u32()).collect();
@@ -101,12 +106,11 @@ fn longest(r: &mut Random) -> Result<(), String> {
             }
         }
     }
-    println!("4 lists of {} and {SLOTS_MOST} slots agree", SLOTS_MOST - 2);
-    Ok(())
+    Ok(format!("4 lists of {} and {SLOTS_MOST} slots agree", SLOTS_MOST - 2))
 }
 
 /// Refusal 9 changes nothing.
-fn refusals(r: &mut Random) -> Result<(), String> {
+fn refusals(r: &mut Random) -> Result<String, String> {
     let lengths = (0..200).chain([4 * SLOTS_MOST - 4, 4 * SLOTS_MOST + 4, 4 * SLOTS_MOST + 8, 8 * SLOTS_MOST]);
     let mut tried = 0;
     for n in lengths.filter(|n| n % 8 != 0 || *n > 4 * SLOTS_MOST) {
@@ -118,8 +122,7 @@ fn refusals(r: &mut Random) -> Result<(), String> {
         }
         tried += 1;
     }
-    println!("{tried} odd, overlong and broken lists refused by 9");
-    Ok(())
+    Ok(format!("{tried} odd, overlong and broken lists refused by 9"))
 }
 
 /// A few lists of each class: `slots : widths`.
@@ -136,33 +139,25 @@ fn write_sample() {
     }
 }
 
-fn run() -> Result<(), String> {
+fn run() -> Result<String, String> {
     let (mut seed, mut count) = (1, 200_000);
     let mut args = std::env::args().skip(1);
     while let Some(a) = args.next() {
         let number = |v: Option<String>| v.and_then(|v| v.parse().ok()).ok_or(format!("{a}: a number"));
         match a.as_str() {
-            "--write" => {
-                write_sample();
-                return Ok(());
-            }
             "--lists" => count = number(args.next())?,
             "--seed" => seed = number(args.next())?,
             _ => return Err(format!("unknown option {a}")),
         }
     }
     let mut r = Random::new(seed);
-    compare(&mut r, count)?;
-    longest(&mut r)?;
-    refusals(&mut r)
+    Ok([compare(&mut r, count)?, longest(&mut r)?, refusals(&mut r)?].join("\n"))
 }
 
 fn main() -> ExitCode {
-    match run() {
-        Ok(()) => ExitCode::SUCCESS,
-        Err(e) => {
-            println!("{e}");
-            ExitCode::FAILURE
-        }
+    if std::env::args().nth(1).as_deref() == Some("--write") {
+        write_sample();
+        return ExitCode::SUCCESS;
     }
+    verdict::told(run())
 }

@@ -1,13 +1,12 @@
 //! Command streams from a seed: openings, bursts of every kind of signal, refused commands in between, damaged ones. A reference
 //! receiver follows the stream, so that a burst is begun where the lane is idle and stepped until it is idle again.
 
-use std::collections::BTreeMap;
-
 use crate::random::Random;
 use crate::receiver::{Receiver, Reply};
 use crate::signal::{
     AT_EDGES, Generator, KINDS, Kind, OUTSIDE, Tick, WORKED, begin_command, part, step_command, value,
 };
+use crate::verdict::Census;
 
 const INDEX_MOST: u64 = 1 << 40;
 
@@ -22,6 +21,9 @@ fn size(command: Option<&u8>) -> usize {
     }
 }
 
+/// A decided train or frame by its line: the kind, the pairs, whether it is cut.
+pub type Decided = (&'static str, u64, bool);
+
 /// A stream under way: its bytes, those that made calls, and the receiver that follows them.
 pub struct Stream {
     pub bytes: Vec<u8>,
@@ -30,12 +32,14 @@ pub struct Stream {
     pub calls: u64,
     ended: bool,
     /// How often each kind of call and reply came.
-    pub census: BTreeMap<String, u64>,
+    pub census: Census,
+    pub decided: Vec<Decided>,
 }
 
 impl Stream {
-    fn new() -> Self {
-        Self { bytes: Vec::new(), taken: 0, receiver: Receiver::new(), calls: 0, ended: false, census: BTreeMap::new() }
+    pub fn new(receiver: Receiver) -> Self {
+        let (bytes, census, decided) = (Vec::new(), Census::new(), Vec::new());
+        Self { bytes, taken: 0, receiver, calls: 0, ended: false, census, decided }
     }
 
     fn count(&mut self, what: &str) {
@@ -43,7 +47,7 @@ impl Stream {
     }
 
     /// Sends bytes; the receiver makes every call that is whole by now. True if the last one was accepted.
-    fn send(&mut self, bytes: &[u8]) -> bool {
+    pub fn send(&mut self, bytes: &[u8]) -> bool {
         let mut accepted = false;
         self.bytes.extend(bytes);
         while !self.ended && self.bytes.len() - self.taken >= size(self.bytes[self.taken..].first()) {
@@ -85,12 +89,14 @@ impl Stream {
                 "ook" | "fsk" => {
                     let cut = if words[3] == "1" { ", cut" } else { "" };
                     let pairs = words[words.len().min(if words[6] == "angle" { 8 } else { 9 })];
-                    let size = match pairs.parse::<u64>().unwrap() {
+                    let pairs = pairs.parse().unwrap();
+                    let size = match pairs {
                         0 => "no pair",
                         1 => "1 pair",
                         2..=9 => "2 to 9 pairs",
                         _ => "10 pairs or more",
                     };
+                    self.decided.push((if words[0] == "ook" { "ook" } else { "fsk" }, pairs, words[3] == "1"));
                     self.count(&format!("{} {}, {size}{cut}", words[0], words[6]));
                     let floats = &words[5..words.len().min(9)];
                     for (what, found) in [
@@ -106,6 +112,17 @@ impl Stream {
                 word => self.count(word),
             }
         }
+    }
+}
+
+/// A burst from the index on, undisturbed: begin, and steps until the lane is idle again.
+pub fn whole_burst(s: &mut Stream, index: u64, factor: f32, ticks: &[Tick]) {
+    s.send(&begin_command(index, factor, &ticks[0], [1.0, 0.0], &[0.0; 7]));
+    for (i, t) in (index + 1..).zip(&ticks[1..]) {
+        if s.receiver.idle() {
+            break;
+        }
+        s.send(&step_command(i, t));
     }
 }
 
@@ -234,7 +251,7 @@ pub fn stream(seed: u64, calls: u64, kind: Option<Kind>) -> Stream {
     let by_seed = KINDS[r.below(KINDS.len() as u64) as usize].1;
     let kind = kind.unwrap_or(by_seed);
     let mut g = Generator { r, kind, settings: WORKED };
-    let mut s = Stream::new();
+    let mut s = Stream::new(Receiver::new());
     if g.r.once_in(4) {
         // Before any settings.
         burst(&mut g, &mut s);

@@ -8,13 +8,15 @@ use std::process::ExitCode;
 
 mod bits;
 mod random;
+mod verdict;
 
-use bits::{NAN32, NAN64, Run, bits_of_f64, bits32, bits64, double, float, program, two_of_f32};
+use bits::{NAN32, NAN64, Run, bits_of_f32, bits_of_f64, bits32, bits64, double, float, program, two_of_f32};
 use random::Random;
 
 unsafe extern "C" {
     safe fn leaf_round(x: u64) -> u64;
     safe fn leaf_narrow(x: u64) -> u32;
+    safe fn leaf_widen(x: u32) -> u64;
     safe fn leaf_to_u32(x: u64) -> u32;
     safe fn leaf_to_u64(x: u64) -> u64;
     safe fn leaf_u32_to_f32(n: u32) -> u32;
@@ -58,6 +60,24 @@ const NARROW: [(u64, u32); 12] = [
     (NAN64, NAN32),
 ];
 
+/// convertFormat (5.4.2) to the wider format: exact, with the sign of zeros and infinities.
+const WIDEN: [(u32, u64); 14] = [
+    (0, 0),
+    (1 << 31, MINUS),
+    (1, 0x36a0_0000_0000_0000), // the smallest subnormal, 2^-149
+    (0x8000_0001, 0xb6a0_0000_0000_0000),
+    (0x007f_ffff, 0x380f_ffff_c000_0000), // the largest subnormal
+    (0x0080_0000, 0x3810_0000_0000_0000), // the smallest normal number, 2^-126
+    (0x3f80_0000, 0x3ff0_0000_0000_0000), // 1
+    (0xbfc0_0000, 0xbff8_0000_0000_0000), // -1.5
+    (0x7f7f_ffff, 0x47ef_ffff_e000_0000), // the largest number
+    (0xff7f_ffff, 0xc7ef_ffff_e000_0000),
+    (0x7f80_0000, INF64),
+    (0xff80_0000, MINUS | INF64),
+    (NAN32, NAN64),
+    (0xff80_0001, NAN64), // a signalling NaN
+];
+
 /// Towards zero (convertToIntegerTowardZero, 5.8); what the standard calls invalid is the nearest end of the range, and 0 for
 /// a NaN. As a u32 and as a u64.
 const WHOLE: [(u64, u32, u64); 9] = [
@@ -83,6 +103,9 @@ fn vectors() -> Result<(), String> {
     for (x, wanted) in NARROW {
         vector("narrow", x, leaf_narrow(x), wanted)?;
     }
+    for (x, wanted) in WIDEN {
+        vector("widen", x, leaf_widen(x), wanted)?;
+    }
     for (x, wanted32, wanted64) in WHOLE {
         vector("to_u32", x, leaf_to_u32(x), wanted32)?;
         vector("to_u64", x, leaf_to_u64(x), wanted64)?;
@@ -94,6 +117,17 @@ fn vectors() -> Result<(), String> {
     vector("u64_to_f64", u64::MAX, leaf_u64_to_f64(u64::MAX), 0x43f0_0000_0000_0000)
 }
 
+/// `widen` with every sign and exponent's field, at both ends of the digits and between, against Rust's `as f64`.
+fn every_exponent() -> Result<(), String> {
+    for above in 0..1 << 9 {
+        for digits in [0, 1, 2, 0x2a_aaaa, 0x3f_ffff, 0x40_0000, 0x40_0001, 0x7f_fffe, 0x7f_ffff] {
+            let x = above << 23 | digits;
+            vector("widen", x, leaf_widen(x), bits64(float(x) as f64))?;
+        }
+    }
+    Ok(())
+}
+
 /// Rust leaves open which zero `max` and `min` of two zeros is; the lane does not see it.
 fn either_zero(bits: u32) -> u32 {
     if bits == 1 << 31 { 0 } else { bits }
@@ -101,8 +135,10 @@ fn either_zero(bits: u32) -> u32 {
 
 fn all(run: &mut Run) -> Result<(), String> {
     vectors()?;
+    every_exponent()?;
     run.compare("round", bits_of_f64, |x| leaf_round(x), |x| bits64(double(x).round()))?;
     run.compare("narrow", bits_of_f64, |x| leaf_narrow(x), |x| bits32(double(x) as f32))?;
+    run.compare("widen", bits_of_f32, |x| leaf_widen(x), |x| bits64(float(x) as f64))?;
     run.compare("to_u32", bits_of_f64, |x| leaf_to_u32(x), |x| double(x) as u32)?;
     run.compare("to_u64", bits_of_f64, |x| leaf_to_u64(x), |x| double(x) as u64)?;
     let any32 = |r: &mut Random| r.u32() >> r.below(32);

@@ -3,9 +3,13 @@
 //!
 //!     kept [PROGRAM...]
 
-use std::collections::BTreeMap;
 use std::fs::{File, read, read_to_string};
 use std::process::{Command, ExitCode};
+
+mod program;
+mod verdict;
+
+use verdict::{Census, at_least};
 
 const STREAM: &str = "crates/listing/stdin";
 const LISTING: &str = "crates/listing/stdout";
@@ -16,7 +20,7 @@ const FRONT: &str = "ook 11 15 0 4 41000000 vector 40800000 00000000 1 4 0\nidle
 
 /// What the stream and its listing must have, with the least number of each. No list of calls meets refusal 4, refusals 1 and 2
 /// end a stream, and refusal 9 is not a command's.
-const LEAST: [(&str, u64); 22] = [
+const LEAST: [(&str, u64); 24] = [
     ("opening, mode 0", 2),
     ("opening, mode 1", 2),
     ("opening, mode 2", 2),
@@ -28,6 +32,8 @@ const LEAST: [(&str, u64); 22] = [
     ("ook cut", 1),
     ("fsk cut", 1),
     ("train of 10 pairs or more", 10),
+    ("train of 300 pairs or more", 6),
+    ("train of 2,048 pairs", 1),
     ("frame of no pair", 1),
     ("NaN in a record", 1),
     ("infinity in a record", 1),
@@ -49,6 +55,8 @@ fn train(words: &[&str]) -> Vec<String> {
     let named = [
         ("train", true),
         ("train of 10 pairs or more", pairs >= 10),
+        ("train of 300 pairs or more", pairs >= 300),
+        ("train of 2,048 pairs", pairs == 2048),
         ("frame of no pair", pairs == 0),
         ("NaN in a record", floats.contains(&"7fc00000")),
         ("infinity in a record", floats.contains(&"7f800000") || floats.contains(&"ff800000")),
@@ -92,7 +100,7 @@ fn commands(mut rest: &[u8]) -> (Vec<String>, usize) {
     }
 }
 
-fn counted(stream: &[u8], listing: &str) -> Result<BTreeMap<String, u64>, String> {
+fn counted(stream: &[u8], listing: &str) -> Result<Census, String> {
     let (kinds, left) = commands(stream);
     if left > 60 {
         return Err(format!("{STREAM}: {left} bytes after the last command"));
@@ -100,16 +108,11 @@ fn counted(stream: &[u8], listing: &str) -> Result<BTreeMap<String, u64>, String
     if !listing.starts_with(FRONT) {
         return Err(format!("{LISTING}: M6, M7 and M8 are not first"));
     }
-    let mut census = BTreeMap::new();
+    let mut census = Census::new();
     for kind in kinds.into_iter().chain(listing.lines().flat_map(line)) {
         *census.entry(kind).or_default() += 1;
     }
-    for (kind, least) in LEAST {
-        let n = census.get(kind).copied().unwrap_or(0);
-        if n < least {
-            return Err(format!("{STREAM} has {n} of `{kind}`, and {least} are wanted"));
-        }
-    }
+    at_least(&census, &LEAST).map_err(|e| format!("{STREAM}: {e}"))?;
     Ok(census)
 }
 
@@ -121,19 +124,13 @@ fn run() -> Result<String, String> {
     for program in &programs {
         let input = File::open(STREAM).map_err(|e| e.to_string())?;
         let output = Command::new(program).stdin(input).output().map_err(|e| format!("{program}: {e}"))?;
-        if output.stdout != listing.as_bytes() {
+        if program::good(program, output)? != listing.as_bytes() {
             return Err(format!("{program} prints other lines than {LISTING}"));
         }
     }
-    let words: Vec<String> = census.iter().map(|(kind, n)| format!("{kind}: {n}")).collect();
-    Ok(format!("{} prints {LISTING}: {}", programs.join(" and "), words.join(", ")))
+    Ok(format!("{} prints {LISTING}: {}", programs.join(" and "), verdict::words(&census)))
 }
 
 fn main() -> ExitCode {
-    let (figures, code) = match run() {
-        Ok(figures) => (figures, ExitCode::SUCCESS),
-        Err(e) => (e, ExitCode::FAILURE),
-    };
-    println!("{figures}");
-    code
+    verdict::told(run())
 }

@@ -7,6 +7,7 @@ use std::process::ExitCode;
 
 mod bits;
 mod random;
+mod verdict;
 
 use bits::{Run, bits_of_f32, bits_of_f64, float, program, two_of_f32};
 use random::Random;

@@ -31,12 +31,13 @@ pub const KINDS: [(&str, Kind); 6] = [
 #[derive(Clone, Copy)]
 pub struct Settings {
     pub mode: u8,
-    min_steps: u32,
-    gap_steps: u32,
-    pre_timeout: u32,
-    long_steps: u32,
-    max_pulses: u32,
-    floats: [f32; 4],
+    pub min_steps: u32,
+    pub gap_steps: u32,
+    pub pre_timeout: u32,
+    pub long_steps: u32,
+    pub max_pulses: u32,
+    /// alpha, gap_ratio, fsk_delta, fsk_split.
+    pub floats: [f32; 4],
 }
 
 /// The settings of M6 to M8.
@@ -117,9 +118,9 @@ pub const OUTSIDE: [f32; 8] =
 /// One stretch of the plan of a burst: its length, whether the carrier is on, its turn per sample in radians.
 #[derive(Clone, Copy)]
 pub struct Stretch {
-    len: u64,
-    on: bool,
-    turn: f64,
+    pub len: u64,
+    pub on: bool,
+    pub turn: f64,
 }
 
 pub struct Generator {
@@ -459,6 +460,23 @@ impl Generator {
             }
         }
         ticks
+    }
+
+    /// The factor and the samples of a burst that shows its plan: sharp edges, low noise.
+    pub fn clear_samples(&mut self, plan: &[Stretch], ripple: f64) -> (f32, Vec<Tick>) {
+        let shape = Shape {
+            level: 8.0,
+            quiet: 0.08,
+            factor: 2.0,
+            noise: 3,
+            edge: 0,
+            sample: 3,
+            low_pass: 1.0,
+            ripple,
+            weak: 1.0,
+            odd_values: false,
+        };
+        (shape.factor, self.ticks(&shape, plan))
     }
 
     /// The factor and the samples of a burst.

@@ -8,6 +8,7 @@ use std::process::ExitCode;
 
 mod host;
 mod random;
+mod verdict;
 
 use random::Random;
 
@@ -76,14 +77,5 @@ fn main() -> ExitCode {
         ["--seed", seed] => sample(seed.parse().expect("a number")),
         _ => Err("sqrt [--seed N | --all]".to_string()),
     };
-    match result {
-        Ok(count) => {
-            println!("{count} patterns agree");
-            ExitCode::SUCCESS
-        }
-        Err(e) => {
-            println!("{e}");
-            ExitCode::FAILURE
-        }
-    }
+    verdict::told(result.map(|count| format!("{count} patterns agree")))
 }

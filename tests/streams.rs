@@ -1,6 +1,7 @@
 //! Writes a command stream for the listing program (document 01, "Commands") to standard output.
 //!
 //!     streams [--seed N] [--calls N] [--kind KIND] [--census]
+//!     streams --long [--seed N]      the long bursts of the kept stream instead, a seed each
 //!
 //! Kinds: ook, fsk, auto (settings of that mode), exact (values that meet thresholds and ties exactly), edges (values and
 //! settings at and past the ends of the domain), damaged (commands with changed, lost or repeated bytes; such a stream may end
@@ -9,16 +10,19 @@
 use std::io::{self, Write};
 
 mod generator;
+mod long;
 mod random;
 #[allow(dead_code)]
 mod receiver;
 mod signal;
+mod verdict;
 
 use generator::stream;
+use receiver::Receiver;
 use signal::KINDS;
 
 fn main() -> io::Result<()> {
-    let (mut seed, mut calls, mut kind, mut census) = (1u64, 10_000u64, None, false);
+    let (mut seed, mut calls, mut kind, mut census, mut long) = (1u64, 10_000u64, None, false, false);
     let mut args = std::env::args().skip(1);
     while let Some(a) = args.next() {
         let mut value = || args.next().unwrap_or_else(|| usage());
@@ -27,8 +31,14 @@ fn main() -> io::Result<()> {
             "--calls" => calls = value().parse().unwrap_or_else(|_| usage()),
             "--kind" => kind = Some(value()),
             "--census" => census = true,
+            "--long" => long = true,
             _ => usage(),
         }
+    }
+    if long {
+        let streams = (seed..).zip(long::kept()).map(|(seed, burst)| burst.stream(seed, Receiver::new()));
+        let streams = streams.collect::<Result<Vec<_>, _>>().map_err(io::Error::other)?;
+        return streams.iter().try_for_each(|s| io::stdout().lock().write_all(&s.bytes));
     }
     let kind = kind.filter(|k| k != "any").map(|name| {
         let found = KINDS.iter().find(|(n, _)| *n == name);
@@ -44,6 +54,6 @@ fn main() -> io::Result<()> {
 }
 
 fn usage() -> ! {
-    eprintln!("streams [--seed N] [--calls N] [--kind ook|fsk|auto|exact|edges|damaged|any] [--census]");
+    eprintln!("streams [--seed N] [--calls N] [--kind ook|fsk|auto|exact|edges|damaged|any] [--census] [--long]");
     std::process::exit(2)
 }

@@ -1,13 +1,14 @@
 -- A value by its exponent's field e and its digits' field t, at either width: the fraction that it equals. And `narrowOf` by any fraction that a value equals. Assumes nothing.
 use mathlib.Core.Path.{_≡_, refl, sym, ap, _∙_, subst}
-use Prim.Native.Nat.{ℕ, zero, suc, _+_, _-_, _*_, _/_, _%_, _^_, _<_}
-use native.Mathlib.Nat.{mul-one, mod-eq-of-lt, lt-irrefl}
+use Prim.Native.Nat.{ℕ, zero, suc, _+_, _-_, _*_, _/_, _%_, _^_, _≤_, _<_}
+use native.Mathlib.Nat.{mul-one, mod-eq-of-lt, lt-irrefl, le-of-lt, lt-of-lt-of-le}
 use native.Mathlib.Omega.{arith}
 use mathlib.Core.Bool.{Bool, true, false, not, cond, _&&_}
 use lib.Dec.{T, leb, eqb, eqb→eq}
 use borrow.Author.Tests.{ne-eqb, lt-leb}
-use lib.Ieee.{Float, nan, inf, fin, Format, binary32, binary64, prec, low, hid, ones, top, up, down, odd, round, ofBits, ofFields, toBits, fits, isNan, nanBits}
-use lib.Ieee.Fits.{down-pos, eq→eqb}
+use lib.Pow.{shl-lt, pow-mono}
+use lib.Ieee.{Float, nan, inf, fin, Format, binary32, binary64, prec, emax, low, hid, ones, top, up, down, odd, round, ofBits, ofFields, toBits, fits, isNan, nanBits}
+use lib.Ieee.Fits.{down-pos, eq→eqb, odd-fits}
 use lib.Ieee.Bits.{ofBits-toBits, nanBits-is}
 use lib.Ieee.Exact.{HasValue, odd-sign}
 use lib.Ieee.Scale.{round-same}
@@ -45,6 +46,32 @@ pub value-zero : (f : Format) (s : Bool) (t : ℕ) → HasValue (ofFields f s 0 
 value-zero f s t =
     subst (λ (y : Float). HasValue y s t (2 ^ low f)) (sym (zero-is f s t))
     (subst (λ (k : ℕ). HasValue (odd (prec f) s t 0 (low f)) s k (2 ^ low f)) (mul-one t) (odd-sign (prec f) s t 0 (low f)))
+
+-- ---- fields below an infinity's are a number that the format holds
+with-leading : (f : Format) (t : ℕ) → t < hid f → hid f + t < 2 ^ prec f
+with-leading binary32 t h = omega arith
+with-leading binary64 t h = omega arith
+
+without-leading : (f : Format) (t : ℕ) → t < hid f → t < 2 ^ prec f
+without-leading binary32 t h = omega arith
+without-leading binary64 t h = omega arith
+
+below-top : (f : Format) (x : ℕ) → suc x < ones f → prec f + x ≤ low f + suc (emax f)
+below-top binary32 x h = omega arith
+below-top binary64 x h = omega arith
+
+zero-below-top : (f : Format) → prec f + 0 ≤ low f + suc (emax f)
+zero-below-top binary32 = omega arith
+zero-below-top binary64 = omega arith
+
+pub fields-fit : (f : Format) (s : Bool) (e t : ℕ) → e < ones f → t < hid f → T (fits f (ofFields f s e t))
+fields-fit f s zero t h k =
+    let d = without-leading f t k in
+    subst (λ (y : Float). T (fits f y)) (sym (zero-is f s t)) (odd-fits f (prec f) s t 0 d (le-of-lt d) (lt-of-lt-of-le (shl-lt (prec f) 0 d) (pow-mono (zero-below-top f))))
+fields-fit f s (suc x) t h k =
+    let d = with-leading f t k in
+    subst (λ (y : Float). T (fits f y)) (sym (finite-is f s x t h))
+    (odd-fits f (prec f) s (hid f + t) x d (le-of-lt d) (lt-of-lt-of-le (shl-lt (prec f) x d) (pow-mono (below-top f x h))))
 
 pub value-top : (f : Format) (s : Bool) → ofFields f s (ones f) 0 ≡ inf s
 unfolding ofFields

@@ -6,6 +6,7 @@ pub mod Fields
 pub mod Short
 pub mod HalfUp
 pub mod Narrowing
+pub mod Widening
 pub mod Integral
 pub mod Signs
 pub mod Magnitude

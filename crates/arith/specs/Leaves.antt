@@ -31,7 +31,7 @@ absOf nan = nan
 absOf (inf s) = inf false
 absOf (fin s m e) = fin false m e
 
--- document 01: f32::midpoint is here both widened to f64, added, halved, narrowed to nearest even. Widening (convertFormat, 5.4.2) is exact, and a number of either format is the same data.
+-- document 01: f32::midpoint is here both widened to f64, added, halved, narrowed to nearest even. Widening changes no f32 (`Wider` in RoundingNearest.antt), so a and b are the widened operands too.
 unfoldable pub midpointOf : Float → Float → Float
 unfolding narrowOf
 midpointOf a b = narrowOf (div binary64 (add binary64 a b) (ofBits binary64 0x4000_0000_0000_0000))
@@ -65,7 +65,7 @@ cmulConjOf x y = record {
   im = sub binary32 (mul binary32 (x .im) (y .re)) (mul binary32 (x .re) (y .im));
 }
 
--- where the line from prev to cur crosses thr, as a part of the step; 1 unless the difference is above 0 in magnitude
+-- where the line from prev to cur crosses thr, as a part of the step; 1 unless the difference is above 0 in magnitude. The f32 quotient is widened, which does not change it, and held to 0 and 1 as an f64.
 unfoldable pub crossOf : Float → Float → Float → Float
 unfolding absOf
 crossOf prev cur thr = cond (lt zero32 (absOf (sub binary32 cur prev))) (clampOf (div binary32 (sub binary32 thr prev) (sub binary32 cur prev))) one64

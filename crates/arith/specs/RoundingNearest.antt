@@ -1,11 +1,11 @@
--- What the two roundings have to be, said without saying how they are found; only one number is such (`integral-unique`, `single-unique`). Definitions only.
+-- What the two roundings have to be, said without saying how they are found; only one number is such (`integral-unique`, `single-unique`). And what widening has to be (`Wider`). Definitions only.
 -- Sizes are counted in units of 2 ^ -1074, an f64's smallest value: each f64 and each f32 is a whole number of them.
-use Prim.Native.Nat.{ℕ, _-_, _*_, _%_, _^_, _≤_, _<_}
+use Prim.Native.Nat.{ℕ, _+_, _-_, _*_, _%_, _^_, _≤_, _<_}
 use mathlib.Core.Path.{_≡_}
 use mathlib.Core.Logic.{_⊎_}
 use mathlib.Core.Bool.{Bool}
 use lib.Dec.{T}
-use lib.Ieee.{Float, inf, binary32, binary64, fits, toBits}
+use lib.Ieee.{Float, nan, inf, binary32, binary64, fits, ofFields, toBits}
 use lib.Ieee.Scale.{finite}
 use lib.Ieee.Exact.{HasValue}
 use Rattle.arith.specs.Units.{inUnits, signOf, distance}
@@ -42,3 +42,14 @@ pub record NearestSingle (x y : Float) : Type 0 where
   pub nearest : T (finite y) → (z : Float) → T (fits binary32 z) → T (finite z) → toNumber x y ≤ toNumber x z
   pub even : T (finite y) → (z : Float) → T (fits binary32 z) → T (finite z) → toNumber x y ≡ toNumber x z
       → (inUnits binary64 z ≡ inUnits binary64 y) ⊎ (toBits binary32 y % 2 ≡ 0)
+
+-- convertFormat to a wider format is exact (5.4.2): each number of binary32 stays the number that it is, zeros and infinities keep their sign, and a NaN stays a NaN.
+-- By the fields of the two patterns (3.4): the exponent's field e goes from the bias 127 to the bias 1023, 896 more, and 29 zeros follow the 23 digits t.
+-- A subnormal number, 2 ^ j + d times 2 ^ -149, becomes a normal one: its leading digit, worth 2 ^ (j - 149), goes to the place that is not written, and the field is 1023 + j - 149.
+pub record Wider (wide : Float → Float) : Type 0 where
+  pub keeps : (x : Float) → T (fits binary32 x) → wide x ≡ x
+  pub no-number : wide nan ≡ nan
+  pub infinity : (s : Bool) → wide (inf s) ≡ inf s
+  pub zero : (s : Bool) → wide (ofFields binary32 s 0 0) ≡ ofFields binary64 s 0 0
+  pub subnormal : (s : Bool) (j d : ℕ) → j < 23 → d < 2 ^ j → wide (ofFields binary32 s 0 (2 ^ j + d)) ≡ ofFields binary64 s (874 + j) (d * 2 ^ (52 - j))
+  pub normal : (s : Bool) (e t : ℕ) → 0 < e → e < 255 → t < 2 ^ 23 → wide (ofFields binary32 s e t) ≡ ofFields binary64 s (896 + e) (t * 2 ^ 29)

@@ -8,7 +8,7 @@ ghost use lib.Ieee.{binary32, binary64};
 ghost use lib.IntN.{pos};
 ghost use lib.Ieee.Nearest.{closest};
 ghost use Rattle.arith.specs.Root.{IsRoot, exactOf, roundExactOf, scaled, sqrtOf};
-ghost use Rattle.arith.specs.Rounding.{roundOf, narrowOf};
+ghost use Rattle.arith.specs.Rounding.{roundOf, narrowOf, widenOf};
 ghost use Rattle.arith.specs.Leaves.{absOf, midpointOf, flushOf, maxOf, minOf, cmulConjOf, crossOf, edgeOf, stepOf, wholeOf, widthOf, fskWidthOf, runFixOf, gainOf, leadLenOf};
 ghost use Rattle.arith.specs.Angle.{octant, atan2Of};
 
@@ -148,7 +148,7 @@ pub fn round(x: f64) -> f64
 
 // x at the wider format, which holds each f32.
 pub fn widen(x: f32) -> f64
-    ensures { λ r. ⌜ r ≡ x ⌝ }
+    ensures { λ r. ⌜ r ≡ widenOf x ⌝ }
 {
     std::num::f32_to_f64_with_nan(x)
 }

@@ -2,13 +2,13 @@
 // link this crate, and nothing else does.
 ghost use mathlib.Core.Path.{_≡_};
 ghost use Rattle.turns.specs.Turn.{Called, called};
-ghost use Rattle.buffers.specs.Left.{Left};
+ghost use Rattle.buffers.specs.Left.{LeftWhole, LeftWithin};
 use commands::Command;
 use lane::Answer;
 use lane::Lane;
 
 // Makes the calls of the commands on the lane that never had settings, with both buffers and room for
-// the lines lent. Answers how many bytes the calls took.
+// the lines lent, until the stream ends or the room does. Answers how many bytes the calls took.
 #[no_mangle]
 pub extern "C" fn lane_buffers(
     commands: &[u8],
@@ -16,7 +16,7 @@ pub extern "C" fn lane_buffers(
     fsk: &mut [u32],
     text: &mut [u8],
 ) -> usize
-    ensures { λ r. ⌜ Left (now (commands .entry)) r (now (ook .entry)) (now (fsk .entry)) (now (ook .exit)) (now (fsk .exit)) ⌝ }
+    ensures { λ r. ⌜ LeftWithin (now (commands .entry)) r (now (ook .entry)) (now (fsk .entry)) (now (ook .exit)) (now (fsk .exit)) (now (text .exit)) ⌝ }
 {
     let l = lane::new_lane();
     let r = turns::block(l, commands, true, ook, fsk, text);
@@ -36,7 +36,7 @@ fn call(l: Lane, k: Command, ook: &mut [u32], fsk: &mut [u32]) -> Answer
 // As `lane_buffers`, with no lines, and each step by the entry that is lent the lane.
 #[no_mangle]
 pub extern "C" fn lane_buffers_lent(commands: &[u8], ook: &mut [u32], fsk: &mut [u32]) -> usize
-    ensures { λ r. ⌜ Left (now (commands .entry)) r (now (ook .entry)) (now (fsk .entry)) (now (ook .exit)) (now (fsk .exit)) ⌝ }
+    ensures { λ r. ⌜ LeftWhole (now (commands .entry)) r (now (ook .entry)) (now (fsk .entry)) (now (ook .exit)) (now (fsk .exit)) ⌝ }
 {
     let mut l = lane::new_lane();
     let mut used = 0;

@@ -1,29 +1,18 @@
 -- The commands as document 01, "Commands", has them: over lists of bytes, little-endian.
-use Prim.Native.Nat.{ℕ, _+_, _*_}
+use Prim.Native.Nat.{ℕ, _+_}
 use mathlib.Core.Bool.{cond}
 use mathlib.Core.List.{List}
 use lib.ListN.{length, getD, drop}
 use lib.Dec.{eqb, ltb}
-use lib.Ieee.{Float, binary32, ofBits}
 use Rattle.arith.specs.declared.C32.{C32}
+unfoldable pub use Rattle.words.specs.Words.{u32At, u64At}
+pub use Rattle.words.specs.Words.{f32At}
 use Rattle.ook.specs.declared.Settings.{Settings}
 use Rattle.lane.specs.declared.BeginArgs.{BeginArgs}
 use Rattle.lane.specs.declared.StepArgs.{StepArgs}
 use Rattle.lane.specs.declared.History.{History}
 use Rattle.commands.specs.declared.Command.{Command}
 use Rattle.commands.specs.declared.Command.the-variants.{End, Open, Begin, Step, Unknown, Short}
-
--- the four bytes from i on, the least significant first
-unfoldable pub u32At : List ℕ → ℕ → ℕ
-u32At o i = getD o i 0 + getD o (i + 1) 0 * 0x100 + getD o (i + 2) 0 * 0x1_0000 + getD o (i + 3) 0 * 0x100_0000
-
--- the eight bytes from i on
-unfoldable pub u64At : List ℕ → ℕ → ℕ
-u64At o i = u32At o i + u32At o (i + 4) * 0x1_0000_0000
-
--- the float of the four bytes from i on: `nan` for every pattern of a NaN
-abbrev pub f32At : List ℕ → ℕ → Float
-f32At o i = ofBits binary32 (u32At o i)
 
 -- a sample, the real part first
 abbrev pub pairAt : List ℕ → ℕ → C32

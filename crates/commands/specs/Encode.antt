@@ -1,14 +1,15 @@
 -- The commands as bytes, and the other direction of decoding: whatever values document 01's layout can carry, their
 -- bytes decode to these values and are not refused, whatever comes after them. Assumes nothing.
-use Prim.Native.Nat.{ℕ, _+_, _*_, _/_, _%_, _<_}
-use mathlib.Core.Path.{_≡_, _∙_, ap}
+use Prim.Native.Nat.{ℕ, _<_}
+use mathlib.Core.Path.{_≡_}
 use mathlib.Core.List.{List, [], _∷_, _++_}
 use native.Mathlib.Omega.{arith}
 use lib.ListN.{length, drop}
 use lib.Dec.{T}
-use lib.Ieee.{Float, binary32, ofBits, toBits, fits}
-use lib.Ieee.Bits.{ofBits-toBits, toBits-lt}
+use lib.Ieee.{Float, binary32, fits}
 use borrow.Author.Tests.{le-ltb}
+use Rattle.words.specs.Words.{word, word64, float}
+use Rattle.words.specs.Laws.{Word, word-back, word64-back, float-back}
 use Rattle.ook.specs.declared.Settings.{Settings}
 use Rattle.lane.specs.declared.BeginArgs.{BeginArgs}
 use Rattle.lane.specs.declared.StepArgs.{StepArgs}
@@ -16,16 +17,6 @@ use Rattle.commands.specs.declared.Command.the-variants.{Open, Begin, St
 use Rattle.commands.specs.Command.{u32At, u64At, settingsOf, beginArgsOf, stepArgsOf, historyOf, decoded}
 
 -- ---- the layout
-
--- four bytes, the least significant first
-abbrev pub word : ℕ → List ℕ
-word n = (n % 256) ∷ (n / 256 % 256) ∷ (n / 256 / 256 % 256) ∷ (n / 256 / 256 / 256 % 256) ∷ []
-
-abbrev pub word64 : ℕ → List ℕ
-word64 n = word (n % 0x1_0000_0000) ++ word (n / 0x1_0000_0000)
-
-abbrev pub float : Float → List ℕ
-float x = word (toBits binary32 x)
 
 -- 01
 abbrev pub openBytes : Settings → List ℕ
@@ -49,9 +40,6 @@ stepBytes s = 3 ∷ (word64 (s .index) ++ (float (s .noise) ++ (float (s .envelo
 
 -- ---- the values that the layout can carry
 
-abbrev pub Word : ℕ → Type 0
-Word n = n < 0x1_0000_0000
-
 abbrev pub Single : Float → Type 0
 Single x = T (fits binary32 x)
 
@@ -73,19 +61,6 @@ StepFits s =
 
 -- ---- bytes and back
 
--- the number that four bytes stand for
-abbrev back : ℕ → ℕ
-back n = n % 256 + n / 256 % 256 * 256 + n / 256 / 256 % 256 * 65536 + n / 256 / 256 / 256 % 256 * 16777216
-
-word-back : (n : ℕ) → Word n → back n ≡ n
-word-back n h = omega arith
-
-index-back : (n : ℕ) → n < 0x1_0000_0000_0000_0000 → back (n % 0x1_0000_0000) + back (n / 0x1_0000_0000) * 0x1_0000_0000 ≡ n
-index-back n h = omega (arith, word-back (n % 0x1_0000_0000) (omega arith), word-back (n / 0x1_0000_0000) (omega arith))
-
-float-back : (x : Float) → Single x → ofBits binary32 (back (toBits binary32 x)) ≡ x
-float-back x h = ap (ofBits binary32) (word-back (toBits binary32 x) (toBits-lt binary32 x h)) ∙ ofBits-toBits binary32 x h
-
 pub open-back : (p : Settings) (t : List ℕ) → OpenFits p → decoded (openBytes p ++ t) ≡ Open p
 unfolding decoded settingsOf u32At u64At
 open-back p t (a, b, c, d, e, f, g, i, j) =
@@ -94,9 +69,9 @@ open-back p t (a, b, c, d, e, f, g, i, j) =
 pub begin-back : (b : BeginArgs) (t : List ℕ) → BeginFits b → decoded (beginBytes b ++ t) ≡ Begin b
 unfolding decoded beginArgsOf historyOf u32At u64At
 begin-back b t (i, f, e, x, y, p, q, e1, e2, e3, e4, e5, e6, e7) =
-    simp (le-ltb (length (beginBytes b ++ t)) 1 (omega arith), le-ltb (length (drop 1 (beginBytes b ++ t))) 60 (omega arith), index-back, float-back)
+    simp (le-ltb (length (beginBytes b ++ t)) 1 (omega arith), le-ltb (length (drop 1 (beginBytes b ++ t))) 60 (omega arith), word64-back, float-back)
 
 pub step-back : (s : StepArgs) (t : List ℕ) → StepFits s → decoded (stepBytes s ++ t) ≡ Step s
 unfolding decoded stepArgsOf u32At u64At
 step-back s t (i, n, e, r, m) =
-    simp (le-ltb (length (stepBytes s ++ t)) 1 (omega arith), le-ltb (length (drop 1 (stepBytes s ++ t))) 24 (omega arith), index-back, float-back)
+    simp (le-ltb (length (stepBytes s ++ t)) 1 (omega arith), le-ltb (length (drop 1 (stepBytes s ++ t))) 24 (omega arith), word64-back, float-back)

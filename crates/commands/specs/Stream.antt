@@ -9,7 +9,7 @@ use lib.Dec.{eqb, ltb, leb}
 use borrow.Author.Tests.{ltb-false, leb-true, le-ltb}
 use native.Mathlib.Nat.{not-suc-le-zero}
 use Rattle.commands.specs.declared.Command.{Command}
-use Rattle.commands.specs.declared.Command.the-variants.{Open, Begin, Step, Short}
+use Rattle.commands.specs.declared.Command.the-variants.{End, Open, Begin, Step, Unknown, Short}
 use Rattle.commands.specs.Command.{u32At, u64At, settingsOf, beginArgsOf, stepArgsOf, historyOf, within, decoded, sizeOf}
 
 -- ---- a command that lies in the bytes takes no more of them than there are
@@ -68,18 +68,33 @@ step-more : (o t : List ℕ) → 24 ≤ length o → stepArgsOf (o ++ t) ≡ ste
 unfolding stepArgsOf
 step-more o t h = simp (u64-more o t 24 h, u32-more o t 24 h)
 
-within-more : (n : ℕ) (o t : List ℕ) (x y : Command) → n ≤ length o → x ≡ y → within n (o ++ t) x ≡ within n o y
-within-more n o t x y h e =
-    simp (le-ltb (length (o ++ t)) n (omega (arith, length-append o t)), le-ltb (length o) n h, e)
+-- whether the bytes of a command are all there: a byte that no command begins with is refused by itself
+abbrev pub whole : Command → Bool
+whole End = false
+whole (Open p) = true
+whole (Begin b) = true
+whole (Step s) = true
+whole Unknown = true
+whole Short = false
 
-pub decoded-more : (s t : List ℕ) → 61 ≤ length s → decoded (s ++ t) ≡ decoded s
+-- with the n operand bytes there, more bytes give the same command; without them there is none
+within-whole : (n : ℕ) (o t : List ℕ) (x y : Command) → (n ≤ length o → x ≡ y) → whole (within n o y) ≡ true → within n (o ++ t) x ≡ within n o y
+within-whole n o t x y e = go (ltb (length o) n) refl
+  where
+    go : (b : Bool) → ltb (length o) n ≡ b → whole (cond b Short y) ≡ true → within n (o ++ t) x ≡ cond b Short y
+    go true q w = let z : _≡_ {A = Bool} false true = w in cc
+    go false q w = let h = ltb-false (length o) n q in simp (le-ltb (length (o ++ t)) n (omega (arith, h, length-append o t)), e h)
+
+choose : (b : Bool) (x y u v : Command) → (whole x ≡ true → u ≡ x) → (whole y ≡ true → v ≡ y) → whole (cond b x y) ≡ true → cond b u v ≡ cond b x y
+choose true x y u v f g w = f w
+choose false x y u v f g w = g w
+
+pub decoded-more : (s t : List ℕ) → whole (decoded s) ≡ true → decoded (s ++ t) ≡ decoded s
 unfolding decoded
-decoded-more [] t h = absurd (not-suc-le-zero h)
-decoded-more (b ∷ o) t h =
-    simp (
-      le-ltb (suc (length (o ++ t))) 1 (omega arith),
-      le-ltb (suc (length o)) 1 (omega arith),
-      within-more 37 o t (Open (settingsOf (o ++ t))) (Open (settingsOf o)) (omega arith) (ap Open (settings-more o t (omega arith))),
-      within-more 60 o t (Begin (beginArgsOf (o ++ t))) (Begin (beginArgsOf o)) (omega arith) (ap Begin (begin-more o t (omega arith))),
-      within-more 24 o t (Step (stepArgsOf (o ++ t))) (Step (stepArgsOf o)) (omega arith) (ap Step (step-more o t (omega arith))),
-    )
+decoded-more [] t w = let z : _≡_ {A = Bool} false true = w in cc
+decoded-more (b ∷ o) t w =
+    simp (le-ltb (suc (length (o ++ t))) 1 (omega arith), le-ltb (suc (length o)) 1 (omega arith))
+    (choose (eqb b 1) _ _ _ _ (within-whole 37 o t _ _ (λ h. ap Open (settings-more o t h)))
+    (choose (eqb b 2) _ _ _ _ (within-whole 60 o t _ _ (λ h. ap Begin (begin-more o t h)))
+    (choose (eqb b 3) _ _ _ _ (within-whole 24 o t _ _ (λ h. ap Step (step-more o t h))) (λ q. refl)))
+    (simp (le-ltb (suc (length o)) 1 (omega arith)) at w))

@@ -3,7 +3,7 @@
 ghost use mathlib.Core.Path.{_≡_};
 ghost use Prim.Native.Nat.{_+_, _≤_, _<_};
 ghost use lib.ListN.{length, drop};
-ghost use Rattle.commands.specs.Command.{u32At, u64At, f32At, pairAt, historyOf, settingsOf, beginArgsOf, stepArgsOf, decoded, sizeOf};
+ghost use Rattle.commands.specs.Command.{pairAt, historyOf, settingsOf, beginArgsOf, stepArgsOf, decoded, sizeOf};
 use arith::C32;
 use lane::BeginArgs;
 use lane::History;
@@ -30,40 +30,12 @@ fn wide(b: u8) -> u32
     b as u32
 }
 
-// The four bytes from i on, little-endian.
-fn u32_at(o: &[u8], i: usize) -> u32
-    requires { ⌜ i + 4 ≤ length (now o) ⌝ }
-    ensures { λ r. ⌜ r ≡ u32At (now (o .entry)) i ⌝ }
-{
-    let a = wide(o[i]);
-    let b = wide(o[i + 1]);
-    let c = wide(o[i + 2]);
-    let d = wide(o[i + 3]);
-    a + b * 0x100 + c * 0x1_0000 + d * 0x100_0000
-}
-
-fn u64_at(o: &[u8], i: usize) -> u64
-    requires { ⌜ i + 8 ≤ length (now o) ⌝ }
-    ensures { λ r. ⌜ r ≡ u64At (now (o .entry)) i ⌝ }
-{
-    let low = u32_at(o, i) as u64;
-    let high = u32_at(o, i + 4) as u64;
-    low + high * 0x1_0000_0000
-}
-
-fn f32_at(o: &[u8], i: usize) -> f32
-    requires { ⌜ i + 4 ≤ length (now o) ⌝ }
-    ensures { λ r. ⌜ r ≡ f32At (now (o .entry)) i ⌝ }
-{
-    arith::f32_of_bits(u32_at(o, i))
-}
-
 fn pair_at(o: &[u8], i: usize) -> C32
     requires { ⌜ i + 8 ≤ length (now o) ⌝ }
     ensures { λ r. ⌜ r ≡ pairAt (now (o .entry)) i ⌝ }
 {
-    let re = f32_at(o, i);
-    let im = f32_at(o, i + 4);
+    let re = words::f32_at(o, i);
+    let im = words::f32_at(o, i + 4);
     C32 { re, im }
 }
 
@@ -73,15 +45,15 @@ fn settings_of(o: &[u8]) -> Settings
 {
     Settings {
         mode: wide(o[0]),
-        min_steps: u32_at(o, 1),
-        gap_steps: u32_at(o, 5),
-        pre_timeout: u32_at(o, 9),
-        long_steps: u32_at(o, 13),
-        max_pulses: u32_at(o, 17),
-        alpha: f32_at(o, 21),
-        gap_ratio: f32_at(o, 25),
-        fsk_delta: f32_at(o, 29),
-        fsk_split: f32_at(o, 33),
+        min_steps: words::u32_at(o, 1),
+        gap_steps: words::u32_at(o, 5),
+        pre_timeout: words::u32_at(o, 9),
+        long_steps: words::u32_at(o, 13),
+        max_pulses: words::u32_at(o, 17),
+        alpha: words::f32_at(o, 21),
+        gap_ratio: words::f32_at(o, 25),
+        fsk_delta: words::f32_at(o, 29),
+        fsk_split: words::f32_at(o, 33),
     }
 }
 
@@ -90,13 +62,13 @@ fn history_of(o: &[u8]) -> History
     ensures { λ r. ⌜ r ≡ historyOf (now (o .entry)) ⌝ }
 {
     History {
-        e1: f32_at(o, 32),
-        e2: f32_at(o, 36),
-        e3: f32_at(o, 40),
-        e4: f32_at(o, 44),
-        e5: f32_at(o, 48),
-        e6: f32_at(o, 52),
-        e7: f32_at(o, 56),
+        e1: words::f32_at(o, 32),
+        e2: words::f32_at(o, 36),
+        e3: words::f32_at(o, 40),
+        e4: words::f32_at(o, 44),
+        e5: words::f32_at(o, 48),
+        e6: words::f32_at(o, 52),
+        e7: words::f32_at(o, 56),
     }
 }
 
@@ -105,9 +77,9 @@ fn begin_args(o: &[u8]) -> BeginArgs
     ensures { λ r. ⌜ r ≡ beginArgsOf (now (o .entry)) ⌝ }
 {
     BeginArgs {
-        index: u64_at(o, 0),
-        factor: f32_at(o, 8),
-        envelope: f32_at(o, 12),
+        index: words::u64_at(o, 0),
+        factor: words::f32_at(o, 8),
+        envelope: words::f32_at(o, 12),
         x: pair_at(o, 16),
         before: pair_at(o, 24),
         history: history_of(o),
@@ -119,9 +91,9 @@ fn step_args(o: &[u8]) -> StepArgs
     ensures { λ r. ⌜ r ≡ stepArgsOf (now (o .entry)) ⌝ }
 {
     StepArgs {
-        index: u64_at(o, 0),
-        noise: f32_at(o, 8),
-        envelope: f32_at(o, 12),
+        index: words::u64_at(o, 0),
+        noise: words::f32_at(o, 8),
+        envelope: words::f32_at(o, 12),
         x: pair_at(o, 16),
     }
 }

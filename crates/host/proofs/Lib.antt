@@ -1,4 +1,4 @@
 -- What holds of the exported functions' definitions, and the laws that their proofs cite.
 pub mod SpecialPatterns
-pub mod WordLoops
+pub mod InPlace
 pub mod Refusal

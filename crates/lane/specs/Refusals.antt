@@ -1,23 +1,33 @@
 -- Document 01, "Replies other than an answer, in checking order", for begin and step.
 use Prim.Native.Nat.{ℕ, _+_, _-_}
-use mathlib.Core.Bool.{Bool, true, false, not, _&&_, _||_}
+use mathlib.Core.Bool.{Bool, true, false, cond, not, _&&_}
 use mathlib.Core.Path.{_≡_, refl, sym}
 use native.Mathlib.Omega.{arith}
 use borrow.Author.Tests.{eqb-true, eqb-false, eq-eqb, ne-eqb}
 use lib.Dec.{leb, eqb}
 use Rattle.ook.specs.declared.Settings.{Settings}
-use Rattle.refusals.specs.Domain.{settingsOk, factorOk, envelopeOk, sampleOk, indexOk, roomOk}
+use Rattle.refusals.specs.Domain.{settingsOk, unsetOk, factorOk, envelopeOk, sampleOk, indexOk, roomOk}
 use Rattle.refusals.specs.State.{burstOk, leadOk, candOk}
 use Rattle.refusals.specs.Order.{firstFailed}
-use Rattle.ook.specs.Tests.{six-true}
+use Rattle.ook.specs.Tests.{both-true, six-true}
 use Rattle.lane.specs.declared.History.{History}
 use Rattle.lane.specs.declared.BeginArgs.{BeginArgs}
 use Rattle.lane.specs.declared.StepArgs.{StepArgs}
 use Rattle.lane.specs.declared.Lane.{Lane}
 
--- a lane that never had settings is idle; one that had has them in the domain
+-- a lane that never had settings is idle, and has none; one that had has them in the domain
 unfoldable pub openedOk : ℕ → ℕ → Settings → Bool
-openedOk had phase p = (eqb had 0 && eqb phase 0) || (eqb had 1 && settingsOk p)
+openedOk had phase p = cond (eqb had 0) (eqb phase 0 && unsetOk p) (eqb had 1 && settingsOk p)
+
+-- so a lane that had settings, or is not idle, has them in the domain
+pub opened-tells : (had phase : ℕ) (p : Settings) → openedOk had phase p ≡ true → (eqb had 0 && eqb phase 0) ≡ false → settingsOk p ≡ true
+unfolding openedOk
+opened-tells had phase p = go (eqb had 0) (eqb phase 0)
+  where
+    go : (none idle : Bool) → cond none (idle && unsetOk p) (eqb had 1 && settingsOk p) ≡ true → (none && idle) ≡ false → settingsOk p ≡ true
+    go true true h e = cc
+    go true false h e = cc
+    go false idle h e = both-true (eqb had 1) (settingsOk p) h .1
 
 -- refusal 4
 unfoldable pub laneOk : Lane → Bool

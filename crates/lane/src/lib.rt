@@ -94,7 +94,11 @@ pub struct Answer {
 fn opened_ok(opened: u32, phase: u32, p: Settings) -> bool
     ensures { λ r. ⌜ r ≡ openedOk opened phase p ⌝ }
 {
-    ((opened == 0) & (phase == 0)) | ((opened == 1) & refusals::settings_ok(p))
+    let none = opened == 0;
+    if none {
+        return (phase == 0) & refusals::unset_ok(p);
+    }
+    (opened == 1) & refusals::settings_ok(p)
 }
 
 fn lane_ok(l: Lane) -> bool

@@ -4,7 +4,7 @@ ghost use mathlib.Core.Path.{_≡_};
 ghost use lib.Ieee as Ieee;
 ghost use lib.Ieee.{binary32, binary64};
 ghost use lib.IntN.{pos};
-ghost use Rattle.arith.specs.Rounding.{roundOf, narrowOf};
+ghost use Rattle.arith.specs.Rounding.{roundOf, narrowOf, widenOf};
 ghost use Rattle.arith.specs.Leaves.{midpointOf, flushOf, maxOf, minOf, crossOf, edgeOf, stepOf, wholeOf, widthOf, fskWidthOf, runFixOf, gainOf, leadLenOf};
 ghost use Rattle.arith.specs.Angle.{atan2Of};
 
@@ -20,6 +20,13 @@ pub extern "C" fn leaf_narrow(x: u64) -> u32
     ensures { λ r. ⌜ r ≡ Ieee.toBits binary32 (narrowOf (Ieee.ofBits binary64 x)) ⌝ }
 {
     arith::bits_of_f32(arith::narrow(arith::f64_of_bits(x)))
+}
+
+#[no_mangle]
+pub extern "C" fn leaf_widen(x: u32) -> u64
+    ensures { λ r. ⌜ r ≡ Ieee.toBits binary64 (widenOf (Ieee.ofBits binary32 x)) ⌝ }
+{
+    arith::bits_of_f64(arith::widen(arith::f32_of_bits(x)))
 }
 
 #[no_mangle]

@@ -6,6 +6,7 @@ use mathlib.Core.List.{List}
 use native.Mathlib.Omega.{arith}
 use lib.Dec.{eqb}
 use lib.Ieee.{Float}
+use Rattle.domain.specs.Limits.{maxSteps}
 use Rattle.ook.specs.Answers.{isStayOf}
 use Rattle.ook.specs.Params.{fskMinOf}
 use Rattle.ook.specs.Limits.{either, by-test}
@@ -65,7 +66,7 @@ module _ (p : Settings) where
       (λ e. last-counted (s .on) (a .e) (withBody (q .0 .pres) (q .0 .body) b) (q .1) (q .2) (h .running e))
       (λ e. record { flags = h .flags; frame-within = h .frame-within; running = h .running })
 
-  module _ (small : p .«long_steps» ≤ 2 ^ 24) where
+  module _ (small : p .«long_steps» ≤ maxSteps) where
     rest-counted : (a : At) (ep : Float) (s : Seen) (b : Burst) (ook fsk : List ℕ) → Runs p b → Counted p (restOf p a ep s b ook fsk)
     unfolding restOf presentOf
     rest-counted a ep s b ook fsk r =
@@ -93,7 +94,7 @@ module _ (p : Settings) where
         (snap-if-within (s .began) (s .on) (s .env .times .«c_run») (b .pres) (b .frame) r)
 
 module _ (p : Settings) (fits : p .«max_pulses» < 2 ^ 32) where
-  module _ (small : p .«long_steps» ≤ 2 ^ 24) where
+  module _ (small : p .«long_steps» ≤ maxSteps) where
     -- a sample of a burst under way
     pub sample-within : (a : At) (ring : List Float) (b : Burst) (ook fsk : List ℕ) → BurstWithin p b → Runs p b → StepsWithin p (sampleOf p a ring b ook fsk)
     sample-within a ring b ook fsk h r =

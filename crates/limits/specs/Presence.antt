@@ -1,6 +1,6 @@
 -- Presence stays within refusal 4's limits. The counts of a frame are bounded by the length of its presence, which ends at long_steps:
 -- while the carrier is present, and in a short absence, a frame has at most one counted sample and two committed runs for each sample of its presence.
-use Prim.Native.Nat.{ℕ, _+_, _*_, _-_, _^_, _<_, _≤_}
+use Prim.Native.Nat.{ℕ, _+_, _*_, _-_, _<_, _≤_}
 use mathlib.Core.Bool.{Bool, true, false, cond}
 use mathlib.Core.Path.{_≡_, refl, sym}
 use mathlib.Core.List.{List}
@@ -9,6 +9,7 @@ use lib.Dec.{ltb, leb, eqb}
 use lib.IntN.{pos}
 use lib.Ieee.{Float, add, sub, binary64, ofInt}
 use borrow.Author.Tests.{eqb-true, eqb-false, ltb-false}
+use Rattle.domain.specs.Limits.{maxSteps, maxCount}
 use Rattle.arith.specs.Leaves.{one64, edgeOf, crossOf}
 use Rattle.ook.specs.Counts.{satAddOf}
 use Rattle.ook.specs.Answers.{isStayOf}
@@ -67,7 +68,7 @@ record OffMoved (max least long : ℕ) (s : Pres) (fr : Frame) : Type 0 where
   most : FrameWithin max least (long + 1) (2 * long + 3) fr
   absent : s .«p_confirmed» ≡ 0 → (s .«p_prev» ≤ long) × FrameWithin max least (s .«p_prev») (2 * s .«p_prev») fr
 
-module _ (max least long : ℕ) (small : long ≤ 2 ^ 24) (some : 0 < least) (s : Pres) (fr : Frame) (tc : Float) (h : Running max least long s fr) where
+module _ (max least long : ℕ) (small : long ≤ maxSteps) (some : 0 < least) (s : Pres) (fr : Frame) (tc : Float) (h : Running max least long s fr) where
   on-moved : (same short : Bool) → eqb 1 (s .«p_level») ≡ same → eqb (s .«p_confirmed») 0 ≡ short → OnMoved max least long (movePresOf s 1 tc) (moveFrameOf s true 1 tc fr)
   unfolding movePresOf moveFrameOf lengthenOf rejoinOf beginRunOf extendOf satAddOf
   on-moved true short q r =
@@ -180,7 +181,7 @@ module _ (p : Settings) (a : Inputs) (ook : List ℕ) where
   after-off least s b fsk false q none sure h f = off-answer p a least s b ook fsk none sure h f
 
   -- one sample of the presence machine, from a burst under way
-  pub presence-within : p .«long_steps» ≤ 2 ^ 24 → (s : Pres) (b : Body) (fsk : List ℕ) → Running (p .«max_pulses») (fskMinOf (p .«min_steps»)) (p .«long_steps») s (b .frame) → AnswerWithin (p .«max_pulses») (fskMinOf (p .«min_steps»)) (p .«long_steps») (presenceOf p a s b ook fsk)
+  pub presence-within : p .«long_steps» ≤ maxSteps → (s : Pres) (b : Body) (fsk : List ℕ) → Running (p .«max_pulses») (fskMinOf (p .«min_steps»)) (p .«long_steps») s (b .frame) → AnswerWithin (p .«max_pulses») (fskMinOf (p .«min_steps»)) (p .«long_steps») (presenceOf p a s b ook fsk)
   unfolding presenceOf advanceOf sliceIfOf
   presence-within small s b fsk h = go (upperOf (eqb (s .«p_level») 1) (a .e) thr) (edgeOf (a .idx) (crossOf (a .ep) (a .e) thr))
     where
@@ -220,6 +221,6 @@ snap-within max least long s fr tc h = go (nearStartOf (s .«p_level») (fr .«f
         }
     go false = h
 
--- the bounds are below 2 ^ 27, the limit of refusal 4
-pub below-limit : (long : ℕ) → long ≤ 2 ^ 24 → (long + 1 ≤ 2 ^ 27) × (2 * long + 3 ≤ 2 ^ 27)
+-- the bounds are below the limit of refusal 4
+pub below-limit : (long : ℕ) → long ≤ maxSteps → (long + 1 ≤ maxCount) × (2 * long + 3 ≤ maxCount)
 below-limit long h = omega arith

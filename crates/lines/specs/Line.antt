@@ -7,6 +7,7 @@ use lib.ListN.{length, drop}
 use lib.Seq.{sets}
 use lib.Dec.{eqb, ltb, leb}
 use lib.Ieee.{Float, binary32, toBits}
+pub use Rattle.domain.specs.Limits.{maxSlots}
 use Rattle.ook.specs.declared.Out.{Out}
 use Rattle.ook.specs.declared.Carrier.{Carrier}
 use Rattle.ook.specs.Answers.{carrierKindOf, carrierFirstOf, carrierSecondOf}
@@ -123,10 +124,6 @@ pub record Put (w : List ℕ) (most at : ℕ) (s : List ℕ) (r : ℕ) (t : List
   pub near : r ≤ at + most
 
 -- ---- room
-
--- the most slots of a part: two for each of document 01's 65,536 pulses
-abbrev pub maxSlots : ℕ
-maxSlots = 131072
 
 -- the most that a train line of n widths takes
 abbrev pub trainRoom : ℕ → ℕ

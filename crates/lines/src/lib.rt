@@ -112,7 +112,7 @@ fn wide(x: u32) -> u64
     x as u64
 }
 
-// The sum of the widths, which 131,072 of them cannot take past 2^49.
+// The sum of the widths, which a part's slots cannot take past 2^49.
 fn span_of(part: &[u32]) -> u64
     requires { ⌜ length (now part) ≤ maxSlots ⌝ }
     ensures { λ r. ⌜ r ≡ span (now (part .entry)) ⌝ }
@@ -306,7 +306,7 @@ pub fn larger(n: usize, m: usize) -> usize
 pub fn has_room(n: usize, len: usize, at: usize) -> bool
     ensures { λ r. ⌜ r ≡ hasRoom n len at ⌝ }
 {
-    if 131072 < n {
+    if domain::MAX_SLOTS < n {
         return false;
     }
     if len < at {

@@ -1,35 +1,61 @@
--- What the moves of the buffer leave in it. Assumes nothing.
-use Prim.Native.Nat.{ℕ, _+_, _<_, _≤_}
-use mathlib.Core.Path.{_≡_, sym, _∙_, ap}
-use mathlib.Core.List.{List, [], _∷_, _++_}
+-- What a read leaves in the buffer, and what a pass feeds. Assumes nothing.
+use Prim.Native.Nat.{ℕ, _+_, _≤_}
+use mathlib.Core.Bool.{Bool, true, false, _||_}
+use mathlib.Core.Path.{_≡_, refl, sym, _∙_, ap, subst}
+use mathlib.Core.List.{List, _++_}
 use native.Mathlib.Omega.{arith}
-use native.Mathlib.Nat.{add-comm}
-use native.Mathlib.Numerals.{add-one}
-use lib.ListN.{length, getD, take, drop, set, length-drop}
-use lib.Seq.{take-suc, take-suc-set, drop-set-lt, drop-drop, getD-drop, take-at, length-take-le}
-
-module _ (b b₀ : List ℕ) (from i : ℕ) (h : from + i < length b) (e : length b ≡ length b₀)
-    (p : take i b ≡ take i (drop from b₀)) (q : drop i b ≡ drop i b₀) where
-  value : getD b (from + i) 0 ≡ getD (drop from b₀) i 0
-  value =
-      ap (λ (j : ℕ). getD b j 0) (add-comm from i)
-      ∙ sym (getD-drop i b from 0)
-      ∙ ap (λ (l : List ℕ). getD l from 0) q
-      ∙ getD-drop i b₀ from 0
-      ∙ ap (λ (j : ℕ). getD b₀ j 0) (add-comm i from)
-      ∙ sym (getD-drop from b₀ i 0)
-
-  pub moved : take (i + 1) (set b i (getD b (from + i) 0)) ≡ take (i + 1) (drop from b₀)
-  moved =
-      ap (λ (j : ℕ). take j (set b i (getD b (from + i) 0))) (add-one i)
-      ∙ take-suc-set b i (getD b (from + i) 0) (omega arith)
-      ∙ ap (λ (l : List ℕ). l ++ (getD b (from + i) 0 ∷ [])) p
-      ∙ ap (λ (v : ℕ). take i (drop from b₀) ++ (v ∷ [])) value
-      ∙ sym (take-suc (drop from b₀) i 0 (omega (arith, length-drop from b₀)))
-      ∙ ap (λ (j : ℕ). take j (drop from b₀)) (sym (add-one i))
-
-  pub kept : (v : ℕ) → drop (i + 1) (set b i v) ≡ drop (i + 1) b₀
-  kept v = drop-set-lt (i + 1) b i v (omega arith) ∙ sym (drop-drop 1 i b) ∙ ap (drop 1) q ∙ drop-drop 1 i b₀
+use lib.ListN.{length, take, drop, take-append-drop}
+use lib.Seq.{take-at, length-take-le, take-append-add}
+use Rattle.feed.specs.declared.Fed.{Fed}
+use Rattle.feed.specs.Feeds.{Feeds}
+use Rattle.listing.specs.declared.Input.{Input}
+use Rattle.listing.specs.declared.Passed.{Passed}
+use Rattle.listing.specs.Passes.{Came, Quiet, Passes}
 
 pub front : (n : ℕ) (l z : List ℕ) → n ≤ length l → take n (take n l ++ z) ≡ take n l
 front n l z h = take-at (take n l) z n (length-take-le n l h)
+
+-- nothing is read
+pub quiet : (last full : Bool) (i : Input) → i .came ≡ 0 → i .last ≡ last → Quiet last full i
+quiet last full i n e = record { none-after = λ h. n; ended-stays = λ h. e ∙ h; none-while = λ h. n }
+
+-- or the input has not ended, and all that was there is answered
+never : (b : Bool) (A : Type 0) → b ≡ false → b ≡ true → A
+never b A f t = let z : _≡_ {A = Bool} false true = sym f ∙ t in let n : _≡_ {A = ℕ} 0 1 = cc in absurd (omega arith)
+
+none-of : (a b c : Bool) → ((a || b) || c) ≡ false → (a ≡ false) × (b ≡ false)
+none-of true b c h = (h, let z : _≡_ {A = Bool} true false = h in cc)
+none-of false true c h = (refl, h)
+none-of false false c h = (refl, refl)
+
+pub reading : (last full other : Bool) (i : Input) → ((last || full) || other) ≡ false → Quiet last full i
+reading last full other i h =
+    let n = none-of last full other h in
+    record { none-after = never last _ (n .0); ended-stays = never last _ (n .0); none-while = never full _ (n .1) }
+
+pub first-false : (a b : Bool) → (a || b) ≡ false → a ≡ false
+first-false true b h = h
+first-false false b h = refl
+
+-- the bytes that came stand after those that were there
+came-after : (have n : ℕ) (x : List ℕ) → have ≤ length x → take (have + n) x ≡ take have x ++ take n (drop have x)
+came-after have n x h =
+    ap (take (have + n)) (sym (take-append-drop have x))
+    ∙ ap (λ (k : ℕ). take (k + n) (take have x ++ drop have x)) (sym (length-take-le have x h))
+    ∙ take-append-add (take have x) (drop have x) n
+
+pub passes : (p r : Passed) (i : Input) (b c ook fsk x o f y : List ℕ) (end : ℕ) → Came b (p .fed .left) i c → Quiet (p .last) (p .fed .full) i
+    → end ≡ p .fed .left + i .came → r .last ≡ i .last → Feeds (p .fed .lane, ook, fsk) (take end c) (r .last) (r .fed) (r .fed .lane, o, f) x y
+    → Passes p b ook fsk r x o f y
+passes p r i b c ook fsk x o f y end came quiet de dl g =
+    record {
+      came = take (i .came) (drop (p .fed .left) c);
+      none-after = λ h. ap (λ (n : ℕ). take n (drop (p .fed .left) c)) (quiet .none-after h);
+      ended-stays = λ h. dl ∙ quiet .ended-stays h;
+      none-while = λ h. ap (λ (n : ℕ). take n (drop (p .fed .left) c)) (quiet .none-while h);
+      feeds =
+          subst (λ (s : List ℕ). Feeds (p .fed .lane, ook, fsk) s (r .last) (r .fed) (r .fed .lane, o, f) x y)
+          (ap (λ (n : ℕ). take n c) de ∙ came-after (p .fed .left) (i .came) c (omega (arith, came .inside))
+          ∙ ap (λ (l : List ℕ). l ++ take (i .came) (drop (p .fed .left) c)) (came .front))
+          g;
+    }

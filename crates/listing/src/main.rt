@@ -1,125 +1,137 @@
-// The listing program (document 01, "Commands"): commands from standard input in blocks of 64 KiB,
-// the lines of each call to standard output. It only moves bytes: what is printed is `turns::block`'s.
-ghost use Prim.Native.Nat.{_+_, _-_, _≤_};
-ghost use lib.ListN.{length, take, drop};
+// The listing program (document 01, "Commands"): commands from standard input, as many as a read
+// brings, and the lines of their calls to standard output before the next read. It only moves bytes:
+// what is printed is `feed::feed`'s.
+ghost use Prim.Native.Nat.{_≤_};
 ghost use mathlib.Core.Path.{_≡_};
-use lane::Lane;
+ghost use lib.ListN.{length};
+ghost use Rattle.lane.specs.Step.{newLane};
+ghost use Rattle.listing.specs.Passes.{Came, Quiet, started, Passes, Runs};
+use feed::Fed;
 use libc::STDIN_FILENO;
 use libc::STDOUT_FILENO;
-
-// One read to the place `have` of the buffer, and how many bytes came.
-fn fill(buf: &mut [u8], have: usize) -> usize
-    requires { ⌜ have ≤ length (now buf) ⌝ }
-    ensures { λ r. ⌜ (have + r ≤ length (now (buf .exit))) × (take have (now (buf .exit)) ≡ take have (now (buf .entry))) ⌝ }
-{
-    let got = libc::read(STDIN_FILENO, &mut buf[have..]);
-    io::count(got, &buf[have..])
-}
 
 struct Input {
     came: usize,
     // Whether the input has ended: nothing is read after that.
     last: bool,
+    failed: bool,
 }
 
-// The bytes that come next: none where the input has ended, or where the buffer is full.
-fn read_more(buf: &mut [u8], have: usize, last: bool) -> Input
+// One read to the place `have` of the buffer. A read that fails is said on standard error.
+fn fill(buf: &mut [u8], have: usize) -> Input
     requires { ⌜ have ≤ length (now buf) ⌝ }
-    ensures { λ r. ⌜ (have + r .came ≤ length (now (buf .exit))) × (take have (now (buf .exit)) ≡ take have (now (buf .entry))) ⌝ }
+    ensures { λ r. ⌜ Came (now (buf .entry)) have r (now (buf .exit)) ⌝ }
 {
-    if last {
-        return Input {
-            came: 0,
-            last: true,
-        };
-    }
-    if have == buf.len() {
+    let got = libc::read(STDIN_FILENO, &mut buf[have..]);
+    if got < 0 {
+        os::fail(b"listing: read");
         return Input {
             came: 0,
             last: false,
+            failed: true,
         };
     }
-    let came = fill(buf, have);
+    let came = io::count(got, &buf[have..]);
     Input {
         came,
         last: came == 0,
+        failed: false,
     }
 }
 
-// Moves the bytes from `from` to `end` to the front, and answers how many they are.
-fn shift(buf: &mut [u8], from: usize, end: usize) -> usize
-    requires { ⌜ (from ≤ end) × (end ≤ length (now buf)) ⌝ }
-    ensures { λ r. ⌜ (r ≤ length (now (buf .exit))) × (r ≡ end - from) × (take r (now (buf .exit)) ≡ take r (drop from (now (buf .entry)))) ⌝ }
+// The bytes that come next. Nothing is read where the input has ended, where bytes that are there
+// may still be answered (`full`), or where the buffer has no room.
+fn read_more(buf: &mut [u8], have: usize, last: bool, full: bool) -> Input
+    requires { ⌜ have ≤ length (now buf) ⌝ }
+    ensures { λ r. ⌜ Came (now (buf .entry)) have r (now (buf .exit)) × Quiet last full r ⌝ }
 {
-    let n = end - from;
-    let mut i = 0;
-    while i < n {
-        buf[i] = buf[from + i];
-        i += 1;
+    let stays = last | full | (have == buf.len());
+    if stays {
+        return Input {
+            came: 0,
+            last,
+            failed: false,
+        };
     }
-    n
+    fill(buf, have)
+}
+
+// Writes the lines. A write that fails is said on standard error.
+fn put(text: &[u8]) -> bool {
+    let written = io::write_all(STDOUT_FILENO, text);
+    if !written {
+        os::fail(b"listing: write");
+    }
+    written
 }
 
 struct Passed {
-    lane: Lane,
-    // The bytes at the front of the buffer that no command has taken yet.
-    have: usize,
+    // What was fed last: its bytes that no command has taken are at the front of the buffer.
+    fed: Fed,
+    // Whether the input has ended.
     last: bool,
-    // Whether another pass follows.
-    more: bool,
+    // Whether a read or a write has failed.
+    failed: bool,
+}
+
+// Before the first read.
+fn start() -> Passed
+    ensures { λ r. ⌜ r ≡ started ⌝ }
+{
+    let lane = lane::new_lane();
+    let fed = Fed {
+        lane,
+        left: 0,
+        at: 0,
+        full: false,
+        done: false,
+    };
+    Passed {
+        fed,
+        last: false,
+        failed: false,
+    }
 }
 
 // One read, the turns of what is there, and one write.
-fn pass(
-    l: Lane,
-    buf: &mut [u8],
-    have: usize,
-    last: bool,
-    ook: &mut [u32],
-    fsk: &mut [u32],
-    text: &mut [u8],
-) -> Passed
-    requires { ⌜ have ≤ length (now buf) ⌝ }
-    ensures { λ r. ⌜ r .have ≤ length (now (buf .exit)) ⌝ }
+fn pass(p: Passed, buf: &mut [u8], ook: &mut [u32], fsk: &mut [u32], text: &mut [u8]) -> Passed
+    requires { ⌜ p .fed .left ≤ length (now buf) ⌝ }
+    ensures { λ r. ⌜ Passes p (now (buf .entry)) (now (ook .entry)) (now (fsk .entry)) r (now (buf .exit)) (now (ook .exit)) (now (fsk .exit)) (now (text .exit)) ⌝ }
 {
-    let i = read_more(buf, have, last);
-    let end = have + i.came;
-    let r = turns::block(l, &buf[..end], i.last, ook, fsk, text);
-    let n = r.lane;
-    let at = r.at;
-    let used = r.used;
-    let written = io::write_all(STDOUT_FILENO, &text[..at]);
-    let left = shift(buf, used, end);
-    let done = r.ended || (i.last && left == 0);
+    let q = p.fed;
+    let lane = q.lane;
+    let i = read_more(buf, q.left, p.last, q.full);
+    let end = q.left + i.came;
+    let f = feed::feed(lane, buf, end, i.last, ook, fsk, text);
+    let at = f.at;
+    let written = put(&text[..at]);
     Passed {
-        lane: n,
-        have: left,
+        fed: f,
         last: i.last,
-        more: written && !done,
+        failed: i.failed | !written,
     }
 }
 
-// Passes until the stream ends or the output is closed. A proved loop has to end, and nothing says
-// that the input does: it counts down from a number that no run uses up.
-fn run(buf: &mut [u8], ook: &mut [u32], fsk: &mut [u32], text: &mut [u8]) {
-    let mut l = lane::new_lane();
-    let mut have = 0;
-    let mut last = false;
+// Passes until the stream is over or a read or a write fails; answers whether the stream is over and
+// nothing failed. A proved loop has to end, and nothing says that the input does: it counts down from
+// a number that no run uses up.
+fn run(buf: &mut [u8], ook: &mut [u32], fsk: &mut [u32], text: &mut [u8]) -> bool
+    ensures { λ r. ⌜ Runs (newLane, now (ook .entry), now (fsk .entry)) r (now (ook .exit)) (now (fsk .exit)) ⌝ }
+{
+    let mut p = start();
     let mut passes = u64::MAX;
     while passes > 0 {
         passes -= 1;
-        let p = pass(l, buf, have, last, ook, fsk, text);
-        l = p.lane;
-        have = p.have;
-        last = p.last;
-        if !p.more {
-            break;
+        p = pass(p, buf, ook, fsk, text);
+        if p.fed.done | p.failed {
+            return p.fed.done & !p.failed;
         }
     }
+    false
 }
 
 // Buffers for 2,048 pairs each. The text has room for the 172,400 bytes that one call may take, and
-// is written once for each block where the calls print less than the rest of it.
+// is written once for each read where the calls print less than the rest of it.
 fn main() {
     let mut buf = io::large_buffer();
     let mut ook = [0u32; 4096];

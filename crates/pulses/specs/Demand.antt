@@ -1,18 +1,97 @@
--- Demand 3 as a statement: what it says of a burst that ended, and of every burst that ends in a list of calls.
--- The terms stand in Runs (record, run, edge, pulse) and Calls (lists, bursts, trains); the theorem is `demand-3` in Theorem.
+-- Demand 3 as a statement of a program, `Demand3`: lists of calls run on it, the trains that it returns, and what is asked of them. Record,
+-- run, edge and pulse stand in Runs, the yardstick in Yardstick. `demand-3` in proofs/Theorem is `Demand3 theLane`.
 use mathlib.Core.Path.{_≡_}
+use mathlib.Core.Bool.{Bool, true, cond}
 use mathlib.Core.Option.{some}
-use mathlib.Core.List.{List, [], _∷_, map}
-use Prim.Native.Nat.{ℕ, _*_, _≤_, min}
+use mathlib.Core.List.{List, [], _∷_, _++_, map}
+use Prim.Native.Nat.{ℕ, _*_, min}
 use lib.Dec.{ltb}
 use lib.ListN.{length, take}
 use lib.Ieee.{Float}
 use Rattle.arith.specs.Leaves.{widthOf}
 use Rattle.ook.specs.declared.Settings.{Settings}
+use Rattle.ook.specs.declared.Out.{Out}
 use Rattle.ook.specs.Counts.{bit}
+use Rattle.lane.specs.declared.Reply.{Reply}
+use Rattle.lane.specs.declared.Lane.{Lane}
+use Rattle.lane.specs.declared.Answer.{Answer}
+use Rattle.lane.specs.declared.BeginArgs.{BeginArgs}
+use Rattle.lane.specs.declared.StepArgs.{StepArgs}
+use Rattle.lane.specs.Step.{newLane, opened, begun, stepped}
 use Rattle.pulses.specs.Runs.{Pulse, pulses, pulseWidth}
-use Rattle.pulses.specs.Calls.{Given, Ended}
+use Rattle.pulses.specs.Yardstick.{lent, Call, opening, begin, step, Given, givenBy, Yardstick, unused, accepts, advanced, ends, handedOn}
 
+-- ---- programs
+-- What begin and step return: reply, lane, OOK record, and both buffers as the call leaves them. Of the reply demands 1 and 2 speak.
+pub record Returned (L : Type 0) : Type 0 where
+  pub reply : Reply
+  pub lane : L
+  pub out : Out
+  pub ook : List ℕ
+  pub fsk : List ℕ
+
+-- A program, right or hollow: lanes of any type, the one that never had settings, and the three calls. Opening returns a lane alone.
+pub record Program : Type 1 where
+  pub Lanes : Type 0
+  pub new : Lanes
+  pub opening : Lanes → Settings → Lanes
+  pub begin : Lanes → BeginArgs → List ℕ → List ℕ → Returned Lanes
+  pub step : Lanes → StepArgs → List ℕ → List ℕ → Returned Lanes
+
+-- the program of this repository: the definitions that the contracts of `new_lane`, `open`, `begin` and `step` cite
+unfoldable pub returnedBy : Answer × List ℕ × List ℕ → Returned Lane
+returnedBy r = record { reply = r .0 .reply; lane = r .0 .lane; out = r .0 .lane .burst .«out_ook»; ook = r .1; fsk = r .2 }
+
+abbrev pub theLane : Program
+theLane = record {
+  Lanes = Lane;
+  new = newLane;
+  opening = λ l p. opened l p .lane;
+  begin = λ l b ook fsk. returnedBy (begun l b ook fsk, ook, fsk);
+  step = λ l s ook fsk. returnedBy (stepped l s ook fsk);
+}
+
+-- ---- lists of calls
+-- Where a list stands: the program's lane, the OOK buffer as its last accepted begin or step left it, and the trains that the last burst
+-- gave; and the yardstick.
+pub record Place (W : Program) : Type 0 where
+  pub lane : W .Lanes
+  pub ook : List ℕ
+  pub trains : List Given
+  pub yard : Yardstick
+
+module _ (W : Program) where
+  unfoldable pub start : Place W
+  start = record { lane = W .new; ook = []; trains = []; yard = unused }
+
+  -- "A burst gives a train where a call of it returns an OOK record that decides one": begin or step c returned r, and earlier are the
+  -- trains that its burst had given before. A refusal returns its number alone.
+  abbrev taken : Bool → Place W → Call → List Given → Returned (W .Lanes) → Place W
+  taken a k c earlier r = record {
+    lane = r .lane;
+    ook = cond a (r .ook) (k .ook);
+    trains = cond a (earlier ++ givenBy (r .out) (r .ook) (r .fsk)) (k .trains);
+    yard = advanced a (k .yard) c;
+  }
+
+  -- After a call, accepted (true) or refused: "Each call works on the lane as the one before left it."
+  unfoldable pub after : Bool → Place W → Call → Place W
+  after a k (opening p) = record { lane = W .opening (k .lane) p; ook = k .ook; trains = cond a [] (k .trains); yard = advanced a (k .yard) (opening p) }
+  after a k (begin b ook fsk) = taken a k (begin b ook fsk) [] (W .begin (k .lane) b ook fsk)
+  after a k (step s o fsk) = taken a k (step s o fsk) (k .trains) (W .step (k .lane) s (lent o (k .ook)) fsk)
+
+  -- where the list ends, and where bursts end in it
+  unfoldable pub afterAll : Place W → List Call → Place W
+  afterAll k [] = k
+  afterAll k (c ∷ cs) = afterAll (after (accepts (k .yard) c) k c) cs
+
+  unfoldable pub bursts : Place W → List Call → List (Place W)
+  bursts k [] = []
+  bursts k (c ∷ cs) =
+      let a : Bool = accepts (k .yard) c in
+      cond (ends a (k .yard) c) (after a k c ∷ []) [] ++ bursts (after a k c) cs
+
+-- ---- what is asked of a burst
 -- the first slot of each pair
 unfoldable pub firsts : List ℕ → List ℕ
 firsts [] = []
@@ -23,26 +102,46 @@ firsts (x ∷ y ∷ l) = x ∷ firsts l
 abbrev pub width : Float → Float → ℕ
 width a b = widthOf a b .0
 
--- The one train of a burst whose record has the pulses ps. Each width is `some`: both edges are there, and no default stands for one.
-pub record OneTrain (p : Settings) (ps : List (Pulse Float)) (trains : List Given) : Type 0 where
-  pub given : Given
-  pub only : trains ≡ given ∷ []
-  pub pairs : given .out .pairs ≡ min (length ps) (p .«max_pulses»)
-  pub whole : length (given .part) ≡ 2 * given .out .pairs
-  pub widths : map some (firsts (given .part)) ≡ map (pulseWidth width (p .«min_steps»)) (take (p .«max_pulses») ps)
-  pub cut : given .out .cut ≡ bit (ltb (p .«max_pulses») (length ps))
+-- The train g of a burst whose record has the pulses ps.
+pub record TrainOf (p : Settings) (ps : List (Pulse Float)) (g : Given) : Type 0 where
+  -- the record is an OOK train's
+  pub kind : g .out .fsk ≡ 0
+  -- "The number of pairs is the smaller of the record's pulse count and max_pulses."
+  pub pairs : g .out .pairs ≡ min (length ps) (p .«max_pulses»)
+  -- two slots for each
+  pub whole : length (g .part) ≡ 2 * g .out .pairs
+  -- "Pair by pair they are the record's pulses from the first on, each once, in order". A width is `some`: both edges are there.
+  pub widths : map some (firsts (g .part)) ≡ map (pulseWidth width (p .«min_steps»)) (take (p .«max_pulses») ps)
+  -- "The train is marked cut exactly when the record has more than max_pulses."
+  pub cut : g .out .cut ≡ bit (ltb (p .«max_pulses») (length ps))
 
--- the pulses of a burst's record
-abbrev pub recordPulses : Ended → List (Pulse Float)
-recordPulses b = pulses (b .settings .«min_steps») (b .recorded)
+-- "the burst gives a train, one only, exactly when its record has a pulse"
+unfoldable pub Gives : Settings → List (Pulse Float) → List Given → Type 0
+Gives p [] trains = trains ≡ []
+Gives p (q ∷ qs) trains = (g : Given) × (trains ≡ g ∷ []) × TrainOf p (q ∷ qs) g
 
--- Demand 3 of one burst: it gives a train, one only, exactly when its record has a pulse. The record is of the burst's first samples.
-pub record Holds (b : Ended) : Type 0 where
-  pub first-samples : length (b .recorded) ≤ length (b .samples)
-  pub no-train : recordPulses b ≡ [] → b .trains ≡ []
-  pub one-train : (recordPulses b ≡ [] → ⊥) → OneTrain (b .settings) (recordPulses b) (b .trains)
+abbrev pub settingsAt : {W : Program} → Place W → Settings
+settingsAt k = k .yard .lane .settings
+
+abbrev pub pulsesAt : {W : Program} → Place W → List (Pulse Float)
+pulsesAt k = pulses (settingsAt k .«min_steps») (k .yard .recorded)
+
+-- Where a burst has ended. "Its gaps and other numbers are those that demand 2's definition gives."
+pub record Holds {W : Program} (k : Place W) : Type 0 where
+  pub gives : Gives (settingsAt k) (pulsesAt k) (k .trains)
+  pub numbers : k .trains ≡ k .yard .trains
 
 -- of every OOK burst (mode 0)
-unfoldable pub Each : List Ended → Type 0
+unfoldable pub Each : {W : Program} → List (Place W) → Type 0
 Each [] = Unit {0}
-Each (b ∷ bs) = (b .settings .mode ≡ 0 → Holds b) × Each bs
+Each (k ∷ ks) = (settingsAt k .mode ≡ 0 → Holds k) × Each ks
+
+-- Where a burst is under way (the yardstick's phase is not idle, 0) it has given no train. So neither has one that an opening drops, since
+-- this is asked where any list ends: "which has then not ended and gives no train".
+abbrev pub NoneYet : {W : Program} → Place W → Type 0
+NoneYet k = (k .yard .lane .phase ≡ 0 → ⊥) → settingsAt k .mode ≡ 0 → k .trains ≡ []
+
+-- "for every list of openings, begins and steps, refused ones included, from a lane that never had settings, lane and OOK buffer handed
+-- on as document 01 says, and for every OOK burst that ends in the list"
+unfoldable pub Demand3 : Program → Type 0
+Demand3 W = (cs : List Call) → handedOn unused cs ≡ true → Each (bursts W (start W) cs) × NoneYet (afterAll W (start W) cs)

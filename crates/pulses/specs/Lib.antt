@@ -1,17 +1,9 @@
--- Demand 3 over lists of calls. What it says is in Runs, Calls, Demand and Theorem; Examples has small lists. The rest is its proof.
+-- Demand 3. What it says is in Runs, Yardstick and Demand. Hollow has programs that do not meet it, Examples what the lane gives in small
+-- lists; Lists and Ran serve both.
 pub mod Runs
-pub mod Calls
+pub mod Yardstick
 pub mod Demand
-pub mod Theorem
+pub mod Lists
+pub mod Ran
+pub mod Hollow
 pub mod Examples
-pub mod Division
-pub mod Machine
-pub mod Edges
-pub mod Flags
-pub mod RunState
-pub mod TrainState
-pub mod OokSample
-pub mod BurstState
-pub mod BurstEnd
-pub mod Accepted
-pub mod Proof

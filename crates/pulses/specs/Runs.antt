@@ -1,5 +1,5 @@
--- Sample, run, run that counts, edge and pulse of a burst's record: document 01, "Lists, burst records and pulses".
--- Nothing here knows of a lane: a record is a list of levels with the edge that stands for the run at each sample.
+-- Sample, run, run that counts, pulse and edge of a burst's record: document 01, "Lists, burst records and pulses".
+-- Nothing here knows of a lane. A record is a list of samples, and E is the type of edges.
 use mathlib.Core.Bool.{Bool, true, false}
 use mathlib.Core.Option.{Option, none, some}
 use mathlib.Core.List.{List, [], _∷_, _++_}
@@ -7,9 +7,9 @@ use Prim.Native.Nat.{ℕ, zero, suc, _-_}
 use lib.Dec.{leb}
 use lib.ListN.{length}
 
--- A sample of a record: its level, high (true) or low, and the edge that demand 2's definition holds for its run once it is taken.
+-- A sample: its level, high (true) or low, and the edge that demand 2's definition has for its run once it has seen it.
 pub data Sample (E : Type 0) : Type 0 where
-  entry : Bool → E → Sample E
+  sample : Bool → E → Sample E
 
 -- A run: its level, and the edges held at its samples in order.
 pub data Run (E : Type 0) : Type 0 where
@@ -25,10 +25,10 @@ module _ {E : Type 0} where
   join false e (run true es ∷ rs) = run false (e ∷ []) ∷ run true es ∷ rs
 
   -- "A run is a stretch of neighbouring samples of one level in the burst's record, as long as it can be." That no other list of
-  -- runs divides the record so is `runs-unique` in Division.
+  -- runs divides the record so is `runs-unique` in proofs/Division.
   unfoldable pub runs : List (Sample E) → List (Run E)
   runs [] = []
-  runs (entry l e ∷ xs) = join l e (runs xs)
+  runs (sample l e ∷ xs) = join l e (runs xs)
 
   unfoldable pub size : Run E → ℕ
   size (run l es) = length es
@@ -62,7 +62,7 @@ module _ {E : Type 0} where
     row f more (run true es ∷ rs) = row f (more ++ (es ∷ [])) rs
     row f more (run false es ∷ rs) = record { first = f; more = more; closing = es } ∷ between rs
 
-  -- the pulses of a record, where a run counts from m samples on
+  -- the pulses of a record, where min_steps is m
   unfoldable pub pulses : ℕ → List (Sample E) → List (Pulse E)
   pulses m xs = between (counted m (runs xs))
 
@@ -80,6 +80,6 @@ module _ {E : Type 0} where
   across width (some a) none = none
   across width none b = none
 
-  -- a pulse's width, between the edges of its first run and its closing run
+  -- "each width the one between demand 2's edges of the pulse's first run and its closing run"
   unfoldable pub pulseWidth : (E → E → ℕ) → ℕ → Pulse E → Option ℕ
   pulseWidth width m q = across width (runEdge m (q .first)) (runEdge m (q .closing))

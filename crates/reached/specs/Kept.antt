@@ -1,11 +1,12 @@
 -- What begin and step keep of a burst (crate limits) passes refusal 4's check.
-use Prim.Native.Nat.{ℕ, _+_, _*_, _^_, _≤_}
+use Prim.Native.Nat.{ℕ, _+_, _*_, _≤_}
 use mathlib.Core.Bool.{Bool, true, false, not, _||_}
 use mathlib.Core.Path.{_≡_, refl}
 use native.Mathlib.Omega.{arith}
 use lib.Dec.{ltb, eqb}
 use lib.Ieee.{Float}
 use borrow.Author.Tests.{le-leb, lt-ltb, eqb-true}
+use Rattle.domain.specs.Limits.{maxCount}
 use Rattle.ook.specs.Params.{fskMinOf}
 use Rattle.ook.specs.Limits.{EnvWithin, TrainWithin, OutWithin}
 use Rattle.ook.specs.declared.Env.{Env}
@@ -37,12 +38,12 @@ out-ok max o h = simp (le-leb (o .state) 1 (h .state-flag), le-leb (o .cut) 1 (h
 pres-ok : (q : Pres) → PresWithin q → presOk q ≡ true
 pres-ok q h = simp (le-leb (q .«p_level») 1 (h .level-flag), le-leb (q .«p_confirmed») 1 (h .confirmed-flag))
 
-frame-ok : (max least k m : ℕ) (f : Frame) → k ≤ 2 ^ 27 → m ≤ 2 ^ 27 → FrameWithin max least k m f → frameOk max f ≡ true
+frame-ok : (max least k m : ℕ) (f : Frame) → k ≤ maxCount → m ≤ maxCount → FrameWithin max least k m f → frameOk max f ≡ true
 unfolding frameOk
 frame-ok max least k m f i j h =
     simp (
       le-leb (f .«fsk_phase») 1 (h .phase-flag),
-      le-leb (f .mean .«fsk_cnt») (2 ^ 27) (omega (arith, h .count)),
+      le-leb (f .mean .«fsk_cnt») maxCount (omega (arith, h .count)),
       le-leb (f .early .early) 1 (h .early-flag),
       le-leb (f .runs .«fsk_level») 1 (h .runs-within .level-flag),
       le-leb (f .runs .«fsk_confirmed») 1 (h .runs-within .confirmed-flag),
@@ -50,10 +51,10 @@ frame-ok max least k m f i j h =
       le-leb (f .done .«fsk_open») 1 (h .done-within .open-flag),
       le-leb (f .done .«fsk_full») 1 (h .done-within .full-flag),
       le-leb (f .done .«fsk_n» + f .done .«fsk_open») max (h .done-within .pairs),
-      le-leb (f .done .«fsk_runs») (2 ^ 27) (omega (arith, h .done-within .runs-most)),
+      le-leb (f .done .«fsk_runs») maxCount (omega (arith, h .done-within .runs-most)),
     )
 
--- the counts are bounded by long_steps, which the domain ends at 2^24
+-- the counts are bounded by long_steps, which the domain ends at maxSteps
 pub burst-ok : {p : Settings} {b : Burst} → InDomain p → BurstWithin p b → burstOk (p .«max_pulses») b ≡ true
 unfolding burstOk
 burst-ok {p} {b} d h =

@@ -1,5 +1,5 @@
 -- The lanes that calls hand back, from the lane that never had settings on, pass refusal 4's check: so no list of calls meets refusal 4.
-use Prim.Native.Nat.{ℕ, _^_, _<_, _≤_}
+use Prim.Native.Nat.{ℕ, _<_, _≤_}
 use mathlib.Core.Bool.{Bool, true, false, cond, not, _&&_, _||_}
 use mathlib.Core.Path.{_≡_, refl}
 use mathlib.Core.List.{List}
@@ -7,8 +7,9 @@ use native.Mathlib.Omega.{arith}
 use lib.ListN.{length, getD}
 use lib.Dec.{leb, ltb, eqb}
 use lib.IntN.{pos}
-use lib.Ieee.{Float, nan, binary64, ofInt}
+use lib.Ieee.{Float, nan, binary64, ofInt, ofBits, toBits}
 use borrow.Author.Tests.{leb-true, le-leb, lt-ltb, ltb-true, eqb-true, eqb-false, not-true}
+use Rattle.domain.specs.Limits.{maxIndex}
 use Rattle.arith.specs.Leaves.{leadLenOf}
 use Rattle.ook.specs.declared.Settings.{Settings}
 use Rattle.ook.specs.Answers.{isStayOf}
@@ -18,7 +19,7 @@ use Rattle.burst.specs.declared.Burst.{Burst}
 use Rattle.burst.specs.declared.Lead.{Lead}
 use Rattle.burst.specs.declared.Sampled.{Sampled}
 use Rattle.burst.specs.Lead.{leadAddOf, largestOf, beginBurstOf, staying, replayOf, leadFullOf}
-use Rattle.refusals.specs.Domain.{InDomain, settings-tell, settingsOk, indexOk, roomOk}
+use Rattle.refusals.specs.Domain.{InDomain, settings-tell, settingsOk, unsetOk, indexOk, roomOk}
 use Rattle.refusals.specs.State.{burstOk, frameOk, leadOk, candOk}
 use Rattle.refusals.specs.Order.{firstFailed, none-failed}
 use Rattle.ook.specs.Tests.{both-true}
@@ -50,28 +51,28 @@ pub record Within (l : Lane) : Type 0 where
   pub going : l .phase ≡ 2 → Runs (l .settings) (l .burst)
   pub named : l .phase ≤ 2
   pub filled : l .phase ≡ 1 → l .lead .«lead_n» < leadLenOf (l .settings .«min_steps»)
-  pub from : l .lead .«lead_at» ≤ 2 ^ 40
-  pub near : l .last ≤ 2 ^ 40
+  pub from : l .lead .«lead_at» ≤ maxIndex
+  pub near : l .last ≤ maxIndex
 
 -- the lane that never had settings, or one of those
 pub data Sound : Lane → Type 0 where
   unopened : Sound newLane
   within : {l : Lane} → Within l → Sound l
 
-lead-ok : (phase m : ℕ) (ld : Lead) → (phase ≡ 1 → ld .«lead_n» < leadLenOf m) → ld .«lead_at» ≤ 2 ^ 40 → leadOk phase m ld ≡ true
+lead-ok : (phase m : ℕ) (ld : Lead) → (phase ≡ 1 → ld .«lead_n» < leadLenOf m) → ld .«lead_at» ≤ maxIndex → leadOk phase m ld ≡ true
 unfolding leadOk
 lead-ok phase m ld n a = go (eqb phase 1) refl
   where
-    go : (b : Bool) → eqb phase 1 ≡ b → (leb (ld .«lead_at») (2 ^ 40) && (not b || ltb (ld .«lead_n») (leadLenOf m))) ≡ true
-    go true q = simp (le-leb (ld .«lead_at») (2 ^ 40) a, lt-ltb (ld .«lead_n») (leadLenOf m) (n (eqb-true phase 1 q)))
-    go false q = simp (le-leb (ld .«lead_at») (2 ^ 40) a)
+    go : (b : Bool) → eqb phase 1 ≡ b → (leb (ld .«lead_at») maxIndex && (not b || ltb (ld .«lead_n») (leadLenOf m))) ≡ true
+    go true q = simp (le-leb (ld .«lead_at») maxIndex a, lt-ltb (ld .«lead_n») (leadLenOf m) (n (eqb-true phase 1 q)))
+    go false q = simp (le-leb (ld .«lead_at») maxIndex a)
 
 had-ok : (had phase : ℕ) (p : Settings) → had ≡ 1 → settingsOk p ≡ true → openedOk had phase p ≡ true
 unfolding openedOk
 had-ok had phase p e h = rw e (rw h refl)
 
 pub sound-ok : {l : Lane} → Sound l → laneOk l ≡ true
-unfolding newLane idleLane noBurst laneOk openedOk burstOk frameOk leadOk candOk
+unfolding newLane idleLane noBurst laneOk openedOk unsetOk burstOk frameOk leadOk candOk ofBits toBits
 sound-ok unopened = refl
 sound-ok {l} (within h) =
     passes-lane l
@@ -81,7 +82,7 @@ sound-ok {l} (within h) =
       within = burst-ok (settings-tell (l .settings) (h .domain)) (h .kept);
       filled = lead-ok (l .phase) (l .settings .«min_steps») (l .lead) (h .filled) (h .from);
       waits = cand-ok (l .phase) (h .kept);
-      near = le-leb (l .last) (2 ^ 40) (h .near);
+      near = le-leb (l .last) maxIndex (h .near);
     })
 
 -- opening
@@ -104,7 +105,7 @@ lead-sound : {l : Lane} (b : BeginArgs) (m n : ℕ) → beginRefusal l b m n ≡
 unfolding beginRefusal leadLane beginLeadOf newLane idleLane
 lead-sound b m n e unopened = let z : _≡_ {A = Bool} false true = none-failed false (laneOk newLane) true (indexOk (b .index)) (beginFloatsOk b) (roomOk (newLane .settings) m n) e .0 in absurd (let y : _≡_ {A = ℕ} 0 1 = cc in omega arith)
 lead-sound {l} b m n e (within h) =
-    let t : b .index ≤ 2 ^ 40 = leb-true (b .index) (2 ^ 40) (none-failed (not (eqb (l .opened) 0)) (laneOk l) (eqb (l .phase) 0) (indexOk (b .index)) (beginFloatsOk b) (roomOk (l .settings) m n) e .3) in
+    let t : b .index ≤ maxIndex = leb-true (b .index) maxIndex (none-failed (not (eqb (l .opened) 0)) (laneOk l) (eqb (l .phase) 0) (indexOk (b .index)) (beginFloatsOk b) (roomOk (l .settings) m n) e .3) in
     let d : InDomain (l .settings) = settings-tell (l .settings) (h .domain) in
     let w : Within (leadLane l b) = record { had = h .had; domain = h .domain; kept = factor-within (b .factor) (cleared-within (h .kept)); going = λ q. absurd (omega arith); named = omega arith; filled = λ q. omega (arith, d .min-steps .0, d .min-steps .1); from = t; near = t } in
     within w
@@ -133,14 +134,14 @@ phase-ends next.Idle = (omega arith, λ e. omega arith, λ e. absurd (omega arit
 phase-ends (next.IdleAt x) = (omega arith, λ e. omega arith, λ e. absurd (omega arith))
 
 settled-sound : {l : Lane} (s : StepArgs) (ld : Lead) (ring : List Float) (r : Sampled) → Within l → SampledWithin (l .settings) r
-    → ld .«lead_at» ≤ 2 ^ 40 → s .index ≤ 2 ^ 40 → Sound (settleOf l s ld ring r .lane)
+    → ld .«lead_at» ≤ maxIndex → s .index ≤ maxIndex → Sound (settleOf l s ld ring r .lane)
 unfolding settleOf
 settled-sound {l} s ld ring r h g a i =
     let t : (phaseOf (r .next) ≤ 2) × (phaseOf (r .next) ≡ 1 → ⊥) × (phaseOf (r .next) ≡ 2 → isStayOf (r .next) ≡ true) = phase-ends (r .next) in
     let w : Within (laneOf l (phaseOf (r .next)) (s .index) (s .x) ld ring (r .burst)) = record { had = h .had; domain = h .domain; kept = g .within; going = λ e. g .running (t .2 e); named = t .0; filled = λ e. absurd (t .1 e); from = a; near = i } in
     within w
 
-lead-step-sound : {l : Lane} (s : StepArgs) (ring : List Float) (ook fsk : List ℕ) → Within l → s .index ≤ 2 ^ 40 → Sound (leadStep l s ring ook fsk .0 .lane)
+lead-step-sound : {l : Lane} (s : StepArgs) (ring : List Float) (ook fsk : List ℕ) → Within l → s .index ≤ maxIndex → Sound (leadStep l s ring ook fsk .0 .lane)
 unfolding leadStep replayStep fillOf leadAddOf
 lead-step-sound {l} s ring ook fsk h i = go (ltb (ld .«lead_n») (leadLenOf (l .settings .«min_steps»))) refl
   where
@@ -153,13 +154,13 @@ lead-step-sound {l} s ring ook fsk h i = go (ltb (ld .«lead_n») (leadLenOf (l 
         within w
     go false n = settled-sound s ld ring _ h (lead-within (l .settings) (s .noise) ring ld (clearedOf (l .burst)) ook fsk (settings-tell (l .settings) (h .domain)) (cleared-within (h .kept))) (h .from) i
 
-burst-step-sound : {l : Lane} (s : StepArgs) (ring : List Float) (ook fsk : List ℕ) → Within l → l .phase ≡ 2 → s .index ≤ 2 ^ 40 → Sound (burstStep l s ring ook fsk .0 .lane)
+burst-step-sound : {l : Lane} (s : StepArgs) (ring : List Float) (ook fsk : List ℕ) → Within l → l .phase ≡ 2 → s .index ≤ maxIndex → Sound (burstStep l s ring ook fsk .0 .lane)
 unfolding burstStep
 burst-step-sound {l} s ring ook fsk h e i =
     let d : InDomain (l .settings) = settings-tell (l .settings) (h .domain) in
     settled-sound s (l .lead) ring _ h (sample-within (l .settings) (omega (arith, d .max-pulses .1)) (d .long-steps .1) _ ring (clearedOf (l .burst)) ook fsk (cleared-within (h .kept)) (cleared-runs (l .settings) (l .burst) (h .going e))) (h .from) i
 
-advance-sound : {l : Lane} (s : StepArgs) (ook fsk : List ℕ) → Within l → (l .phase ≡ 0 → ⊥) → s .index ≤ 2 ^ 40 → Sound (advanceOf l s ook fsk .0 .lane)
+advance-sound : {l : Lane} (s : StepArgs) (ook fsk : List ℕ) → Within l → (l .phase ≡ 0 → ⊥) → s .index ≤ maxIndex → Sound (advanceOf l s ook fsk .0 .lane)
 unfolding advanceOf
 advance-sound {l} s ook fsk h busy i = go (eqb (l .phase) 1) refl
   where
@@ -175,7 +176,7 @@ unfolding stepRefusal newLane idleLane
 accepted-sound s ook fsk e unopened = let z : _≡_ {A = Bool} false true = none-failed true (laneOk newLane) false (indexOk (s .index) && followsOf 0 (s .index)) (stepFloatsOk s) (roomOk (newLane .settings) (length ook) (length fsk)) e .2 in absurd (let y : _≡_ {A = ℕ} 0 1 = cc in omega arith)
 accepted-sound {l} s ook fsk e (within h) =
     let t = none-failed true (laneOk l) (not (eqb (l .phase) 0)) (indexOk (s .index) && followsOf (l .last) (s .index)) (stepFloatsOk s) (roomOk (l .settings) (length ook) (length fsk)) e in
-    advance-sound s ook fsk h (eqb-false (l .phase) 0 (not-true (eqb (l .phase) 0) (t .2))) (leb-true (s .index) (2 ^ 40) (both-true (indexOk (s .index)) (followsOf (l .last) (s .index)) (t .3) .0))
+    advance-sound s ook fsk h (eqb-false (l .phase) 0 (not-true (eqb (l .phase) 0) (t .2))) (leb-true (s .index) maxIndex (both-true (indexOk (s .index)) (followsOf (l .last) (s .index)) (t .3) .0))
 
 step-sound : {l : Lane} (s : StepArgs) (ook fsk : List ℕ) → Sound l → Sound (stepped l s ook fsk .0 .lane)
 unfolding stepped

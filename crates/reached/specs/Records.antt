@@ -1,7 +1,7 @@
 -- The records of an accepted call, whatever the lane value: an opening and a begin leave none, and each that a step leaves has at most
--- max_pulses pairs. So the slots that belong to a record are at most 2 * max_pulses, which the domain ends at 131,072.
+-- max_pulses pairs. So the slots that belong to a record are at most 2 * max_pulses, which the domain ends at maxSlots.
 -- A refused call answers 3 (`replyNumberOf`) and prints no record.
-use Prim.Native.Nat.{ℕ, _+_, _*_, _^_, _≤_}
+use Prim.Native.Nat.{ℕ, _+_, _*_, _≤_}
 use mathlib.Core.Bool.{Bool, true, false, cond, not, _&&_}
 use mathlib.Core.Path.{_≡_, refl}
 use mathlib.Core.List.{List}
@@ -11,8 +11,9 @@ use lib.Dec.{leb, ltb, eqb}
 use lib.IntN.{pos}
 use lib.Ieee.{Float, nan, binary64, ofInt}
 use borrow.Author.Tests.{leb-true, eqb-true, not-true}
+use Rattle.domain.specs.Limits.{maxSlots, maxCount}
 use Rattle.arith.specs.Leaves.{leadLenOf}
-use Rattle.ook.specs.Tests.{both-true, other-true, six-true}
+use Rattle.ook.specs.Tests.{both-true, six-true}
 use Rattle.ook.specs.Limits.{either, EnvWithin, TrainWithin}
 use Rattle.ook.specs.declared.Env.{Env}
 use Rattle.ook.specs.declared.Train.{Train}
@@ -33,7 +34,7 @@ use Rattle.lane.specs.declared.StepArgs.{StepArgs}
 use Rattle.lane.specs.declared.Lane.{Lane}
 use Rattle.lane.specs.declared.Answer.{Answer}
 use Rattle.lane.specs.Answers.{replyNumberOf}
-use Rattle.lane.specs.Refusals.{openedOk, laneOk, followsOf, stepFloatsOk, beginRefusal, stepRefusal, Passes, lane-passes}
+use Rattle.lane.specs.Refusals.{openedOk, opened-tells, laneOk, followsOf, stepFloatsOk, beginRefusal, stepRefusal, Passes, lane-passes}
 use Rattle.lane.specs.Idle.{noOut, noBurst, idleLane}
 use Rattle.lane.specs.Begin.{ringOf, clearedOf, leadLane}
 use Rattle.lane.specs.Advance.{settleOf, fillOf, replayStep, leadStep, atOf, burstStep, advanceOf}
@@ -60,14 +61,14 @@ train-tells max t h =
 
 pairs-tell : (max : ℕ) (c : Committed) → committedOk max c ≡ true → Paired max c
 pairs-tell max c h =
-    let q = four-true (flag (c .«fsk_open»)) (flag (c .«fsk_full»)) (leb (c .«fsk_n» + c .«fsk_open») max) (leb (c .«fsk_runs») (2 ^ 27)) h in
+    let q = four-true (flag (c .«fsk_open»)) (flag (c .«fsk_full»)) (leb (c .«fsk_n» + c .«fsk_open») max) (leb (c .«fsk_runs») maxCount) h in
     record { open-flag = leb-true _ _ (q .0); full-flag = leb-true _ _ (q .1); pairs = leb-true _ _ (q .2); runs-most = omega arith }
 
 frame-tells : (max : ℕ) (f : Frame) → frameOk max f ≡ true → Paired max (f .done)
 unfolding frameOk
 frame-tells max f h =
     pairs-tell max (f .done)
-    (both-true (flag (f .«fsk_phase») && leb (f .mean .«fsk_cnt») (2 ^ 27) && flag (f .early .early) && runsOk (f .runs)) (committedOk max (f .done)) h .1)
+    (both-true (flag (f .«fsk_phase») && leb (f .mean .«fsk_cnt») maxCount && flag (f .early .early) && runsOk (f .runs)) (committedOk max (f .done)) h .1)
 
 burst-tells : (max : ℕ) (b : Burst) → burstOk max b ≡ true → BurstFits max (clearedOf b)
 unfolding burstOk
@@ -84,10 +85,7 @@ record Ready (l : Lane) : Type 0 where
 
 -- out of idle a lane has settings
 domain-tells : (had phase : ℕ) (p : Settings) → eqb phase 0 ≡ false → openedOk had phase p ≡ true → InDomain p
-unfolding openedOk
-domain-tells had phase p busy h =
-    let none : (eqb had 0 && eqb phase 0) ≡ false = go (eqb had 0) (eqb phase 0) busy in
-    settings-tell p (both-true (eqb had 1) (settingsOk p) (other-true (eqb had 0 && eqb phase 0) (eqb had 1 && settingsOk p) h none) .1)
+domain-tells had phase p busy h = settings-tell p (opened-tells had phase p h (go (eqb had 0) (eqb phase 0) busy))
   where
     go : (a b : Bool) → b ≡ false → (a && b) ≡ false
     go true b q = q
@@ -188,7 +186,7 @@ parts-fit-open l p e most = none-most most (opened l p .lane .burst) (records-no
 pub domain-step : (l : Lane) (s : StepArgs) (m n : ℕ) → stepRefusal l s m n ≡ 0 → InDomain (l .settings)
 domain-step l s m n e = ready l s m n e .domain
 
-pub slots-step : (l : Lane) (s : StepArgs) (m n : ℕ) → stepRefusal l s m n ≡ 0 → 2 * l .settings .«max_pulses» ≤ 131072
+pub slots-step : (l : Lane) (s : StepArgs) (m n : ℕ) → stepRefusal l s m n ≡ 0 → 2 * l .settings .«max_pulses» ≤ maxSlots
 slots-step l s m n e = omega (arith, domain-step l s m n e .max-pulses .1)
 
 -- a call that does not answer 3 is accepted

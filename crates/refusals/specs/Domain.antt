@@ -1,11 +1,12 @@
 -- Document 01, "Domain": each range has both its ends. By IEEE 754-2019, 5.11, -0 compares as 0 does, and a NaN with
 -- nothing, so that it lies in no range.
-use Prim.Native.Nat.{ℕ, _*_, _^_, _≤_}
+use Prim.Native.Nat.{ℕ, _*_, _≤_}
 use mathlib.Core.Bool.{Bool, true, _&&_, _||_}
 use mathlib.Core.Path.{_≡_}
 use lib.Dec.{leb, eqb}
 use borrow.Author.Tests.{leb-true}
-use lib.Ieee.{Float, binary32, le, neg, ofBits}
+use lib.Ieee.{Float, binary32, le, neg, ofBits, toBits}
+use Rattle.domain.specs.Limits.{maxPulses, maxSteps, maxIndex}
 use Rattle.arith.specs.Leaves.{zero32, one32}
 use Rattle.arith.specs.declared.C32.{C32}
 use Rattle.ook.specs.declared.Settings.{Settings}
@@ -31,24 +32,38 @@ minusLimit32 = neg limit32
 unfoldable pub settingsOk : Settings → Bool
 settingsOk p =
     leb (p .mode) 2
-    && within 1 (2 ^ 24) (p .«min_steps»)
-    && within 1 (2 ^ 24) (p .«gap_steps»)
+    && within 1 maxSteps (p .«min_steps»)
+    && within 1 maxSteps (p .«gap_steps»)
     && within 1 (p .«gap_steps») (p .«pre_timeout»)
-    && within 1 (2 ^ 24) (p .«long_steps»)
-    && within 1 65536 (p .«max_pulses»)
+    && within 1 maxSteps (p .«long_steps»)
+    && within 1 maxPulses (p .«max_pulses»)
     && between zero32 one32 (p .alpha)
     && between zero32 million32 (p .«gap_ratio»)
     && between zero32 million32 (p .«fsk_delta»)
     && between zero32 million32 (p .«fsk_split»)
 
+-- the settings of the lane that never had any: every number is 0, and every float +0, which its pattern tells from -0
+unfoldable pub unsetOk : Settings → Bool
+unsetOk p =
+    eqb (p .mode) 0
+    && eqb (p .«min_steps») 0
+    && eqb (p .«gap_steps») 0
+    && eqb (p .«pre_timeout») 0
+    && eqb (p .«long_steps») 0
+    && eqb (p .«max_pulses») 0
+    && eqb (toBits binary32 (p .alpha)) 0
+    && eqb (toBits binary32 (p .«gap_ratio»)) 0
+    && eqb (toBits binary32 (p .«fsk_delta»)) 0
+    && eqb (toBits binary32 (p .«fsk_split»)) 0
+
 -- the ranges of the whole numbers, one by one
 pub record InDomain (p : Settings) : Type 0 where
   pub mode : p .mode ≤ 2
-  pub min-steps : (1 ≤ p .«min_steps») × (p .«min_steps» ≤ 2 ^ 24)
-  pub gap-steps : (1 ≤ p .«gap_steps») × (p .«gap_steps» ≤ 2 ^ 24)
+  pub min-steps : (1 ≤ p .«min_steps») × (p .«min_steps» ≤ maxSteps)
+  pub gap-steps : (1 ≤ p .«gap_steps») × (p .«gap_steps» ≤ maxSteps)
   pub pre-timeout : (1 ≤ p .«pre_timeout») × (p .«pre_timeout» ≤ p .«gap_steps»)
-  pub long-steps : (1 ≤ p .«long_steps») × (p .«long_steps» ≤ 2 ^ 24)
-  pub max-pulses : (1 ≤ p .«max_pulses») × (p .«max_pulses» ≤ 65536)
+  pub long-steps : (1 ≤ p .«long_steps») × (p .«long_steps» ≤ maxSteps)
+  pub max-pulses : (1 ≤ p .«max_pulses») × (p .«max_pulses» ≤ maxPulses)
 
 within-tells : (lo hi n : ℕ) → within lo hi n ≡ true → (lo ≤ n) × (n ≤ hi)
 within-tells lo hi n q = let t : (leb lo n ≡ true) × (leb n hi ≡ true) = both-true (leb lo n) (leb n hi) q in (leb-true lo n (t .0), leb-true n hi (t .1))
@@ -61,19 +76,19 @@ pub settings-tell : (p : Settings) → settingsOk p ≡ true → InDomain p
 unfolding settingsOk
 settings-tell p q =
     let a : Bool = leb (p .mode) 2 in
-    let b : Bool = within 1 (2 ^ 24) (p .«min_steps») in
-    let c : Bool = within 1 (2 ^ 24) (p .«gap_steps») in
+    let b : Bool = within 1 maxSteps (p .«min_steps») in
+    let c : Bool = within 1 maxSteps (p .«gap_steps») in
     let d : Bool = within 1 (p .«gap_steps») (p .«pre_timeout») in
-    let e : Bool = within 1 (2 ^ 24) (p .«long_steps») in
-    let f : Bool = within 1 65536 (p .«max_pulses») in
+    let e : Bool = within 1 maxSteps (p .«long_steps») in
+    let f : Bool = within 1 maxPulses (p .«max_pulses») in
     let t : (a ≡ true) × (b ≡ true) × (c ≡ true) × (d ≡ true) × (e ≡ true) × (f ≡ true) = six-true a b c d e f (first-six a b c d e f (between zero32 one32 (p .alpha)) (between zero32 million32 (p .«gap_ratio»)) (between zero32 million32 (p .«fsk_delta»)) (between zero32 million32 (p .«fsk_split»)) q) in
     record {
       mode = leb-true (p .mode) 2 (t .0);
-      min-steps = within-tells 1 (2 ^ 24) (p .«min_steps») (t .1);
-      gap-steps = within-tells 1 (2 ^ 24) (p .«gap_steps») (t .2);
+      min-steps = within-tells 1 maxSteps (p .«min_steps») (t .1);
+      gap-steps = within-tells 1 maxSteps (p .«gap_steps») (t .2);
       pre-timeout = within-tells 1 (p .«gap_steps») (p .«pre_timeout») (t .3);
-      long-steps = within-tells 1 (2 ^ 24) (p .«long_steps») (t .4);
-      max-pulses = within-tells 1 65536 (p .«max_pulses») (t .5);
+      long-steps = within-tells 1 maxSteps (p .«long_steps») (t .4);
+      max-pulses = within-tells 1 maxPulses (p .«max_pulses») (t .5);
     }
 
 abbrev pub factorOk : Float → Bool
@@ -88,7 +103,7 @@ abbrev pub sampleOk : C32 → Bool
 sampleOk x = between minusLimit32 limit32 (x .re) && between minusLimit32 limit32 (x .im)
 
 abbrev pub indexOk : ℕ → Bool
-indexOk i = leb i (2 ^ 40)
+indexOk i = leb i maxIndex
 
 -- refusal 8: the slots of the OOK buffer, and outside OOK mode those of the FSK buffer
 abbrev pub roomOk : Settings → ℕ → ℕ → Bool

@@ -1,9 +1,10 @@
 -- Refusal 4 of document 01, for the parts of a lane. A flag is a number that the Rust keeps at 0 or 1; a record's state (none or
 -- to be decided), cut mark and kind are flags too.
-use Prim.Native.Nat.{ℕ, _+_, _^_}
+use Prim.Native.Nat.{ℕ, _+_}
 use mathlib.Core.Bool.{Bool, not, _&&_, _||_}
 use mathlib.Core.Path.{_≡_, refl}
 use lib.Dec.{leb, ltb, eqb}
+use Rattle.domain.specs.Limits.{maxIndex, maxCount}
 use Rattle.arith.specs.Leaves.{leadLenOf}
 use Rattle.ook.specs.Params.{fskMinOf}
 use Rattle.ook.specs.declared.Env.{Env}
@@ -32,14 +33,14 @@ presOk q = flag (q .«p_level») && flag (q .«p_confirmed»)
 abbrev pub runsOk : Runs → Bool
 runsOk r = flag (r .«fsk_level») && flag (r .«fsk_confirmed») && flag (r .«fsk_has_prev»)
 
--- frame pairs plus open at most max_pulses, and fsk_runs at most 2^27
+-- frame pairs plus open at most max_pulses, and fsk_runs at most maxCount
 abbrev pub committedOk : ℕ → Committed → Bool
 committedOk max c =
-    flag (c .«fsk_open») && flag (c .«fsk_full») && leb (c .«fsk_n» + c .«fsk_open») max && leb (c .«fsk_runs») (2 ^ 27)
+    flag (c .«fsk_open») && flag (c .«fsk_full») && leb (c .«fsk_n» + c .«fsk_open») max && leb (c .«fsk_runs») maxCount
 
 unfoldable pub frameOk : ℕ → Frame → Bool
 frameOk max f =
-    flag (f .«fsk_phase») && leb (f .mean .«fsk_cnt») (2 ^ 27) && flag (f .early .early)
+    flag (f .«fsk_phase») && leb (f .mean .«fsk_cnt») maxCount && flag (f .early .early)
     && runsOk (f .runs) && committedOk max (f .done)
 
 abbrev pub outOk : Out → Bool
@@ -58,9 +59,9 @@ pub burst-parts : (max : ℕ) (b : Burst) → burstOk max b ≡ partsOk max (b .
 unfolding burstOk partsOk
 burst-parts max b = refl
 
--- in lead, phase 1, the count is below lead_len; the lead's index is at most 2^40 in every phase
+-- in lead, phase 1, the count is below lead_len; the lead's index is at most maxIndex in every phase
 unfoldable pub leadOk : ℕ → ℕ → Lead → Bool
-leadOk phase m l = leb (l .«lead_at») (2 ^ 40) && (not (eqb phase 1) || ltb (l .«lead_n») (leadLenOf m))
+leadOk phase m l = leb (l .«lead_at») maxIndex && (not (eqb phase 1) || ltb (l .«lead_n») (leadLenOf m))
 
 -- in burst, phase 2, while fsk_phase is 0 the candidates are below fsk_min
 unfoldable pub candOk : ℕ → ℕ → Frame → Bool

@@ -2,7 +2,7 @@
 ghost use mathlib.Core.Path.{_≡_};
 ghost use Prim.Native.Nat.{_+_};
 ghost use lib.Dec.{leb};
-ghost use Rattle.refusals.specs.Domain.{within, between, settingsOk, factorOk, envelopeOk, sampleOk, indexOk, roomOk};
+ghost use Rattle.refusals.specs.Domain.{within, between, settingsOk, unsetOk, factorOk, envelopeOk, sampleOk, indexOk, roomOk};
 ghost use Rattle.refusals.specs.State.{flag, envOk, trainOk, presOk, runsOk, committedOk, frameOk, outOk, burstOk, partsOk, leadOk, candOk};
 ghost use Rattle.refusals.specs.Order.{check, firstFailed};
 use arith::C32;
@@ -34,15 +34,31 @@ pub fn settings_ok(p: Settings) -> bool
     ensures { λ r. ⌜ r ≡ settingsOk p ⌝ }
 {
     (p.mode <= 2)
-        & within_range(1, 16777216, p.min_steps)
-        & within_range(1, 16777216, p.gap_steps)
+        & within_range(1, domain::MAX_STEPS, p.min_steps)
+        & within_range(1, domain::MAX_STEPS, p.gap_steps)
         & within_range(1, p.gap_steps, p.pre_timeout)
-        & within_range(1, 16777216, p.long_steps)
-        & within_range(1, 65536, p.max_pulses)
+        & within_range(1, domain::MAX_STEPS, p.long_steps)
+        & within_range(1, domain::MAX_PULSES, p.max_pulses)
         & between_floats(0.0, 1.0, p.alpha)
         & between_floats(0.0, 1000000.0, p.gap_ratio)
         & between_floats(0.0, 1000000.0, p.fsk_delta)
         & between_floats(0.0, 1000000.0, p.fsk_split)
+}
+
+// The settings of a lane that never had any.
+pub fn unset_ok(p: Settings) -> bool
+    ensures { λ r. ⌜ r ≡ unsetOk p ⌝ }
+{
+    (p.mode == 0)
+        & (p.min_steps == 0)
+        & (p.gap_steps == 0)
+        & (p.pre_timeout == 0)
+        & (p.long_steps == 0)
+        & (p.max_pulses == 0)
+        & (arith::bits_of_f32(p.alpha) == 0)
+        & (arith::bits_of_f32(p.gap_ratio) == 0)
+        & (arith::bits_of_f32(p.fsk_delta) == 0)
+        & (arith::bits_of_f32(p.fsk_split) == 0)
 }
 
 // Refusal 7, float by float.
@@ -67,7 +83,7 @@ pub fn sample_ok(x: C32) -> bool
 pub fn index_ok(i: u64) -> bool
     ensures { λ r. ⌜ r ≡ indexOk i ⌝ }
 {
-    i <= 1099511627776
+    i <= domain::MAX_INDEX
 }
 
 // Refusal 8: the buffers have two slots for each pulse, the FSK buffer outside OOK mode only.
@@ -116,7 +132,7 @@ fn committed_ok(max: u32, c: Committed) -> bool
     (c.fsk_open <= 1)
         & (c.fsk_full <= 1)
         & sum_within(c.fsk_n, c.fsk_open, max)
-        & (c.fsk_runs <= 134217728)
+        & (c.fsk_runs <= domain::MAX_COUNT)
 }
 
 fn frame_ok(max: u32, f: Frame) -> bool
@@ -125,7 +141,7 @@ fn frame_ok(max: u32, f: Frame) -> bool
     let runs = f.runs;
     let done = f.done;
     (f.fsk_phase <= 1)
-        & (f.mean.fsk_cnt <= 134217728)
+        & (f.mean.fsk_cnt <= domain::MAX_COUNT)
         & (f.early.early <= 1)
         & runs_ok(runs)
         & committed_ok(max, done)
@@ -177,7 +193,7 @@ pub fn parts_ok(
 pub fn lead_ok(phase: u32, min_steps: u32, l: Lead) -> bool
     ensures { λ r. ⌜ r ≡ leadOk phase «min_steps» l ⌝ }
 {
-    (l.lead_at <= 1099511627776) & ((phase != 1) | (l.lead_n < arith::lead_len(min_steps)))
+    (l.lead_at <= domain::MAX_INDEX) & ((phase != 1) | (l.lead_n < arith::lead_len(min_steps)))
 }
 
 pub fn cand_ok(phase: u32, min_steps: u32, f: Frame) -> bool

@@ -2,7 +2,8 @@
 use Prim.Native.Nat.{ℕ}
 use mathlib.Core.Bool.{Bool, true, false, cond}
 use mathlib.Core.Path.{_≡_, refl, sym, _∙_, ap}
-use mathlib.Core.List.{List, [], _++_, append-nil}
+use mathlib.Core.Logic.{_⊎_, inl, inr}
+use mathlib.Core.List.{List, [], _++_, append-nil, append-assoc}
 use lib.ListN.{take, drop, replicate}
 use Rattle.lane.specs.Step.{newLane}
 use Rattle.commands.specs.Command.{decoded}
@@ -14,32 +15,50 @@ use Rattle.turns.specs.Stream.{listed, listing, May, Streamed}
 unfoldable pub listingOf : List ℕ → List ℕ
 listingOf s = listing (newLane, replicate 4096 0, replicate 4096 0) s
 
--- blocks of a stream of bytes u, and what they print together: each has some front s of what the one before left and of
--- what came since, and any t may still come
-pub data Blocks : State → List ℕ → List ℕ → Type 0 where
-  none : {p : State} → Blocks p [] []
-  end : {p q : State} {s t u w y : List ℕ} {last : Bool} {r : Ran}
-      → u ≡ s ++ t → May last t → Streamed p s last r q y → r .ended ≡ true → w ≡ take (r .at) y → Blocks p u w
-  more : {p q : State} {s t u v w y : List ℕ} {last : Bool} {r : Ran}
-      → u ≡ s ++ t → May last t → Streamed p s last r q y → r .ended ≡ false → Blocks q (drop (r .used) s ++ t) v
-      → w ≡ take (r .at) y ++ v → Blocks p u w
+-- the blocks of a stream from the state p on: of the bytes u that came they printed w, and they left the state q and the bytes v, which no
+-- command has taken. `last` says that no byte will come after u, `ended` that the stream has ended. Each block has what the one before
+-- left and the bytes c that came since, if any: none once no byte will come
+pub data Blocks (p : State) : (last ended : Bool) → (u w : List ℕ) → (q : State) → (v : List ℕ) → Type 0 where
+  none : Blocks p false false [] [] p []
+  more : {q o : State} {u w v c x y : List ℕ} {last end : Bool} {r : Ran}
+      → Blocks p last false u w q v → May last c → (last ≡ true → end ≡ true) → Streamed q (v ++ c) end r o y → x ≡ drop (r .used) (v ++ c)
+      → Blocks p end (r .ended) (u ++ c) (w ++ take (r .at) y) o x
 
-nothing : (p : State) → listing p [] ≡ []
+-- nothing comes after the last byte: neither now nor later
+may-both : (last end : Bool) (c t : List ℕ) → May last c → (last ≡ true → end ≡ true) → May end t → May last (c ++ t)
+may-both last end c t h g f e = ap (λ (d : List ℕ). d ++ t) (h e) ∙ f (g e)
+
+-- whatever comes, the lines printed and those of what is left are the lines of the whole
+pub blocks-print : {p q : State} {last ended : Bool} {u w v : List ℕ} → Blocks p last ended u w q v → (t : List ℕ) → May last t
+    → w ++ cond ended [] (listing q (v ++ t)) ≡ listing p (u ++ t)
+blocks-print none t may = refl
+blocks-print {p = p} (more {q = q} {o = o} {u = u} {w = w} {v = v} {c = c} {x = x} {y = y} {last = last} {end = end} {r = r} before came on block left) t may =
+    append-assoc w (take (r .at) y) (cond (r .ended) [] (listing o (x ++ t)))
+    ∙ ap (λ (z : List ℕ). w ++ (take (r .at) y ++ cond (r .ended) [] (listing o (z ++ t)))) left
+    ∙ ap (λ (z : List ℕ). w ++ z) (block .printed t may ∙ ap (listing q) (append-assoc v c t))
+    ∙ blocks-print before (c ++ t) (may-both last end c t came on may)
+    ∙ ap (listing p) (sym (append-assoc u c t))
+
+-- the stream is over: it has ended, or no byte will come and none is left
+abbrev pub Over : Bool → Bool → List ℕ → Type 0
+Over last ended v = (ended ≡ true) ⊎ ((last ≡ true) × (v ≡ []))
+
+nothing : (q : State) → listing q [] ≡ []
 unfolding listing listed decoded
-nothing p = refl
+nothing q = refl
 
-pub blocks-print : {p : State} {u w : List ℕ} → Blocks p u w → w ≡ listing p u
-blocks-print {p} none = sym (nothing p)
-blocks-print {p} (end {q = q} {s = s} {t = t} {y = y} {r = r} du may block stop dw) =
-    dw ∙ sym (append-nil (take (r .at) y))
-    ∙ ap (λ (b : Bool). take (r .at) y ++ cond b [] (listing q (drop (r .used) s ++ t))) (sym stop)
-    ∙ block .printed t may ∙ ap (listing p) (sym du)
-blocks-print {p} (more {q = q} {s = s} {t = t} {y = y} {r = r} du may block on rest dw) =
-    dw ∙ ap (λ (v : List ℕ). take (r .at) y ++ v) (blocks-print rest)
-    ∙ ap (λ (b : Bool). take (r .at) y ++ cond b [] (listing q (drop (r .used) s ++ t))) (sym on)
-    ∙ block .printed t may ∙ ap (listing p) (sym du)
+-- a stream that is over is printed whole, whatever comes after its end
+pub over-prints : {p q : State} {last ended : Bool} {u w v : List ℕ} → Blocks p last ended u w q v → Over last ended v → (t : List ℕ) → May last t → w ≡ listing p (u ++ t)
+over-prints {q = q} {w = w} {v = v} b (inl e) t may =
+    sym (append-nil w) ∙ ap (λ (d : Bool). w ++ cond d [] (listing q (v ++ t))) (sym e) ∙ blocks-print b t may
+over-prints {q = q} {ended = ended} {w = w} {v = v} b (inr (e, n)) t may =
+    sym (append-nil w) ∙ ap (λ (z : List ℕ). w ++ z) (sym (go ended (ap (λ (z : List ℕ). listing q (z ++ t)) n ∙ ap (listing q) (may e) ∙ nothing q))) ∙ blocks-print b t may
+  where
+    go : (d : Bool) → listing q (v ++ t) ≡ [] → cond d [] (listing q (v ++ t)) ≡ []
+    go true h = refl
+    go false h = h
 
--- so do the program's
-pub program-prints : {u w : List ℕ} → Blocks (newLane, replicate 4096 0, replicate 4096 0) u w → w ≡ listingOf u
+-- so is the program's input
+pub program-prints : {q : State} {last ended : Bool} {u w v : List ℕ} → Blocks (newLane, replicate 4096 0, replicate 4096 0) last ended u w q v → Over last ended v → (t : List ℕ) → May last t → w ≡ listingOf (u ++ t)
 unfolding listingOf
-program-prints b = blocks-print b
+program-prints b o = over-prints b o

@@ -1,26 +1,29 @@
 -- Laws of a turn's definitions. Assumes nothing.
-use Prim.Native.Nat.{ℕ, suc, _+_, _*_, _-_, _<_, _≤_}
+use Prim.Native.Nat.{ℕ, _+_, _*_, _-_, _<_, _≤_}
 use mathlib.Core.Bool.{Bool, true, false, cond}
 use mathlib.Core.Path.{_≡_, refl, sym, _∙_, ap, subst}
-use mathlib.Core.List.{List, [], _∷_}
+use mathlib.Core.List.{List, _++_}
 use native.Mathlib.Omega.{arith}
-use native.Mathlib.Nat.{not-suc-le-zero}
-use lib.ListN.{length, take, drop, length-take, length-drop}
+use lib.ListN.{length, take, length-take}
 use lib.Seq.{sets}
-use lib.Dec.{T, eqb, ltb, leb}
-use borrow.Author.Tests.{le-ltb, le-leb}
+use lib.Dec.{eqb, ltb, leb}
+use borrow.Author.Tests.{ltb-false, leb-false, le-ltb, le-leb}
 use Rattle.ook.specs.declared.Out.{Out}
 use Rattle.lane.specs.declared.Reply.{Reply}
+use Rattle.lane.specs.declared.Reply.the-variants.{Refused, Stay, Idle, IdleAt}
+use Rattle.lane.specs.Answers.{replyNumberOf}
+use Rattle.lane.specs.declared.StepArgs.{StepArgs}
+use Rattle.lane.specs.Step.{stepped}
 use Rattle.lane.specs.Part.{front, partOf}
 use Rattle.commands.specs.declared.Command.{Command}
 use Rattle.commands.specs.declared.Command.the-variants.{End, Open, Begin, Step, Unknown, Short}
-use Rattle.commands.specs.Command.{decoded, sizeOf}
-use Rattle.commands.specs.Stream.{size-fits}
+use Rattle.commands.specs.Command.{sizeOf}
 use Rattle.lines.specs.declared.Written.{Written}
-use Rattle.lines.specs.Line.{maxSlots, callRoom, largerOf, hasRoom, writtenCall, put}
-use Rattle.lines.specs.Room.{room-there, length-call}
+use Rattle.lines.specs.Line.{maxSlots, callRoom, largerOf, hasRoom, recordLine, callText, writtenCall, put}
+use Rattle.lines.specs.Room.{room-there, length-call, larger-left, larger-right}
+use Rattle.reached.specs.Records.{PartsFit, parts-fit-step, parts-fit-begin, parts-fit-open, slots-step, answered-step, answered-begin, answered-open}
 use Rattle.turns.specs.declared.Turned.{Turned}
-use Rattle.turns.specs.Turn.{State, Called, called, indexOf, answerText, calledText, textOf, turned, Turn, placeOf, leastOf}
+use Rattle.turns.specs.Turn.{State, Called, called, indexOf, shownOf, answerText, calledText, textOf, turned, Turn, placeOf, waits, smallerOf, slotsOf, mostOf}
 
 -- ---- room
 
@@ -60,97 +63,166 @@ room-less n most len at h e =
       le-leb (callRoom n) (len - at) (omega (arith, k .1)),
     )
 
+-- ---- the parts that a call prints
+
+smaller-most : (k n m : ℕ) → k ≤ n → k ≤ m → k ≤ smallerOf n m
+smaller-most k n m h g = go (ltb m n)
+  where
+    go : (b : Bool) → k ≤ cond b m n
+    go true = g
+    go false = h
+
+-- and more of them never count
+slots-most : (max ook fsk : ℕ) → slotsOf max ook fsk ≤ maxSlots
+unfolding slotsOf
+slots-most max ook fsk = go (ltb maxSlots (smallerOf (2 * max) (largerOf ook fsk))) refl
+  where
+    go : (b : Bool) → ltb maxSlots (smallerOf (2 * max) (largerOf ook fsk)) ≡ b → cond b maxSlots (smallerOf (2 * max) (largerOf ook fsk)) ≤ maxSlots
+    go true q = omega arith
+    go false q = ltb-false _ _ q
+
+-- so a text has no room for a call only where too few of its bytes are left
+pub too-few-left : (p : State) (len at : ℕ) → at ≤ len → hasRoom (mostOf p) len at ≡ false → len < at + callRoom (mostOf p)
+unfolding hasRoom
+too-few-left p len at h e =
+    let n = slots-most (p .0 .settings .«max_pulses») (length (p .1)) (length (p .2)) in
+    let few : leb (callRoom (mostOf p)) (len - at) ≡ false = simp (le-ltb maxSlots (mostOf p) n, le-ltb len at h) at e in
+    omega (arith, leb-false (callRoom (mostOf p)) (len - at) few, h)
+
+-- a record's part, where the call is not refused
+shown-by : (r : Reply) (o : Out) (ook fsk : List ℕ) (most : ℕ) → ((replyNumberOf r ≡ 3 → ⊥) → length (partOf o ook fsk) ≤ most) → length (shownOf r o ook fsk) ≤ most
+shown-by (Refused n) o ook fsk most h = omega arith
+shown-by Stay o ook fsk most h = h (λ e. omega (arith, e))
+shown-by Idle o ook fsk most h = h (λ e. omega (arith, e))
+shown-by (IdleAt x) o ook fsk most h = h (λ e. omega (arith, e))
+
+-- both parts that a call prints have at most `most` slots
+record Shown (c : Called) (most : ℕ) : Type 0 where
+  fsk-shown : length (shownOf (c .0 .reply) (c .0 .lane .burst .«out_fsk») (c .1) (c .2)) ≤ most
+  ook-shown : length (shownOf (c .0 .reply) (c .0 .lane .burst .«out_ook») (c .1) (c .2)) ≤ most
+
+shown-fits : (c : Called) (most : ℕ) → ((replyNumberOf (c .0 .reply) ≡ 3 → ⊥) → PartsFit most (c .0 .lane .burst) (c .1) (c .2)) → Shown c most
+shown-fits c most h =
+    record {
+      fsk-shown = shown-by (c .0 .reply) (c .0 .lane .burst .«out_fsk») (c .1) (c .2) most (λ n. h n .fsk-part);
+      ook-shown = shown-by (c .0 .reply) (c .0 .lane .burst .«out_ook») (c .1) (c .2) most (λ n. h n .ook-part);
+    }
+
+-- a step that is accepted has its parts in two slots for each pulse, in the buffers, and in document 01's 65,536 pulses
+step-shown : (p : State) (s : StepArgs) → length (called p (Step s) .1) ≡ length (p .1) → length (called p (Step s) .2) ≡ length (p .2) → Shown (called p (Step s)) (mostOf p)
+unfolding called slotsOf
+step-shown p s h g =
+    let c = stepped (p .0) s (p .1) (p .2) in
+    let larger = largerOf (length (p .1)) (length (p .2)) in
+    let left = larger-left (length (p .1)) (length (p .2)) in
+    let right = larger-right (length (p .1)) (length (p .2)) in
+    shown-fits c (mostOf p) (λ n.
+    let e = answered-step (p .0) s (p .1) (p .2) n in
+    let f = parts-fit-step (p .0) s (p .1) (p .2) e (c .1) (c .2) in
+    let d = slots-step (p .0) s (length (p .1)) (length (p .2)) e in
+    let short : (o : Out) → length (partOf o (c .1) (c .2)) ≤ larger = λ o. part-short o (c .1) (c .2) larger (omega (arith, h, left)) (omega (arith, g, right)) in
+    let within : (o : Out) → length (partOf o (c .1) (c .2)) ≤ 2 * p .0 .settings .«max_pulses» → length (partOf o (c .1) (c .2)) ≤ mostOf p =
+    λ o k. smaller-most _ _ maxSlots (smaller-most _ (2 * p .0 .settings .«max_pulses») larger k (short o)) (omega (arith, k, d)) in
+    record { ook-part = within (c .0 .lane .burst .«out_ook») (f .ook-part); fsk-part = within (c .0 .lane .burst .«out_fsk») (f .fsk-part) })
+
+-- no part that a call prints has more slots than `mostOf` says; nothing is said where there is no command
+shown-most : (p : State) (k : Command) → waits true k ≡ false → length (called p k .1) ≡ length (p .1) → length (called p k .2) ≡ length (p .2) → Shown (called p k) (mostOf p)
+unfolding called
+shown-most p End w h g = let z : _≡_ {A = Bool} true false = w in let q : _≡_ {A = ℕ} 0 1 = cc in absurd (omega arith)
+shown-most p (Open s) w h g = shown-fits (called p (Open s)) (mostOf p) (λ n. parts-fit-open (p .0) s (answered-open (p .0) s n) (mostOf p) (p .1) (p .2))
+shown-most p (Begin b) w h g = shown-fits (called p (Begin b)) (mostOf p) (λ n. parts-fit-begin (p .0) b (p .1) (p .2) (answered-begin (p .0) b (p .1) (p .2) n) (mostOf p) (p .1) (p .2))
+shown-most p (Step s) w h g = step-shown p s h g
+shown-most p Unknown w h g = record { fsk-shown = omega arith; ook-shown = omega arith }
+shown-most p Short w h g = record { fsk-shown = omega arith; ook-shown = omega arith }
+
+-- the same of the call as it was made, which keeps the lengths of the buffers
+shown-called : (p : State) (k : Command) (c : Called) → waits true k ≡ false → c ≡ called p k → length (c .1) ≡ length (p .1) → length (c .2) ≡ length (p .2) → Shown (called p k) (mostOf p)
+shown-called p k c w e h g =
+    shown-most p k w (ap (λ (d : Called). length (d .1)) (sym e) ∙ h) (ap (λ (d : Called). length (d .2)) (sym e) ∙ g)
+
 -- ---- the lines of a call
 
-pub answered : (r : Reply) (f o : Out) (ook fsk fs os x y : List ℕ) (index most at e : ℕ) (w : Written)
-    → length ook ≤ most → length fsk ≤ most → hasRoom most (length x) at ≡ true
-    → fs ≡ partOf f ook fsk → os ≡ partOf o ook fsk
+-- a refused call prints no record, so that its lines are those without the parts
+shown-text : (r : Reply) (f o : Out) (ook fsk : List ℕ) (index : ℕ) → callText r (recordLine f (shownOf r f ook fsk) ++ recordLine o (shownOf r o ook fsk)) index ≡ answerText r f o ook fsk index
+unfolding answerText callText
+shown-text (Refused n) f o ook fsk index = refl
+shown-text Stay f o ook fsk index = refl
+shown-text Idle f o ook fsk index = refl
+shown-text (IdleAt e) f o ook fsk index = refl
+
+pub answered : (r : Reply) (f o : Out) (ook fsk fs os x y : List ℕ) (index at e : ℕ) (w : Written)
+    → hasRoom (largerOf (length (shownOf r f ook fsk)) (length (shownOf r o ook fsk))) (length x) at ≡ true
+    → fs ≡ shownOf r f ook fsk → os ≡ shownOf r o ook fsk
     → _≡_ {A = Written × List ℕ} (w, y) (writtenCall r f fs o os index at x) → e ≡ placeOf w at
     → _≡_ {A = ℕ × List ℕ} (e, y) (put (answerText r f o ook fsk index) (at, x))
-unfolding answerText writtenCall put
-answered r f o ook fsk fs os x y index most at e w h g room df dg q de =
-    ap (λ (n : ℕ). (n, y)) de ∙ ap (λ (z : Written × List ℕ). (placeOf (z .0) at, z .1)) q ∙ rw (df, dg) (rw fits refl)
-  where
-    fits : hasRoom (largerOf (length (partOf f ook fsk)) (length (partOf o ook fsk))) (length x) at ≡ true
-    fits =
-        room-less _ most (length x) at
-        (larger-short _ _ most (part-short f ook fsk most h g) (part-short o ook fsk most h g)) room
+unfolding writtenCall put
+answered r f o ook fsk fs os x y index at e w room df dg q de =
+    ap (λ (n : ℕ). (n, y)) de ∙ ap (λ (z : Written × List ℕ). (placeOf (z .0) at, z .1)) q ∙ rw (df, dg) (rw room (ap (λ (v : List ℕ). (at + length v, sets x at v)) (shown-text r f o ook fsk index)))
 
-called-short : (c : Called) (index most : ℕ) → length (c .1) ≤ most → length (c .2) ≤ most → length (calledText c index) ≤ callRoom most
-unfolding answerText
-called-short c index most h g =
+-- the room that a turn has is room for the parts of its call
+pub turn-room : (p : State) (k : Command) (c : Called) (len at : ℕ) → waits true k ≡ false → hasRoom (mostOf p) len at ≡ true
+    → c ≡ called p k → length (c .1) ≡ length (p .1) → length (c .2) ≡ length (p .2)
+    → hasRoom (largerOf (length (shownOf (c .0 .reply) (c .0 .lane .burst .«out_fsk») (c .1) (c .2))) (length (shownOf (c .0 .reply) (c .0 .lane .burst .«out_ook») (c .1) (c .2)))) len at ≡ true
+turn-room p k c len at w room e h g =
+    let s : Shown c (mostOf p) = subst (λ (d : Called). Shown d (mostOf p)) (sym e) (shown-called p k c w e h g) in
+    room-less _ (mostOf p) len at (larger-short _ _ (mostOf p) (s .fsk-shown) (s .ook-shown)) room
+
+called-short : (c : Called) (index most : ℕ) → Shown c most → length (calledText c index) ≤ callRoom most
+called-short c index most h =
+    let r = c .0 .reply in
     let f = c .0 .lane .burst .«out_fsk» in
     let o = c .0 .lane .burst .«out_ook» in
     omega (
       arith,
-      length-call (c .0 .reply) f (partOf f (c .1) (c .2)) o (partOf o (c .1) (c .2)) index,
-      part-short f (c .1) (c .2) most h g,
-      part-short o (c .1) (c .2) most h g,
+      ap length (shown-text r f o (c .1) (c .2) index),
+      length-call r f (shownOf r f (c .1) (c .2)) o (shownOf r o (c .1) (c .2)) index,
+      h .fsk-shown,
+      h .ook-shown,
     )
 
-pub text-short : (k : Command) (c : Called) (most : ℕ) → length (c .1) ≤ most → length (c .2) ≤ most → length (textOf k c) ≤ callRoom most
-text-short End c most h g = omega arith
-text-short (Open s) c most h g = called-short c 0 most h g
-text-short (Begin b) c most h g = called-short c (b .index) most h g
-text-short (Step s) c most h g = called-short c (s .index) most h g
-text-short Unknown c most h g = called-short c 0 most h g
-text-short Short c most h g = called-short c 0 most h g
+text-short : (k : Command) (c : Called) (most : ℕ) → Shown c most → length (textOf k c) ≤ callRoom most
+text-short End c most h = omega arith
+text-short (Open s) c most h = called-short c 0 most h
+text-short (Begin b) c most h = called-short c (b .index) most h
+text-short (Step s) c most h = called-short c (s .index) most h
+text-short Unknown c most h = called-short c 0 most h
+text-short Short c most h = called-short c 0 most h
 
 -- ---- a turn
 
--- a command is there where a byte is
-abbrev Printed : Called → Command → Type 0
-Printed c k = textOf k c ≡ calledText c (indexOf k)
-
-either : (b : Bool) (x y : Command) (c : Called) → Printed c x → Printed c y → Printed c (cond b x y)
-either true x y c h g = h
-either false x y c h g = g
-
-other : (b : Bool) (x y : Command) (c : Called) → b ≡ false → Printed c y → Printed c (cond b x y)
-other true x y c e h = absurd (subst T e tt)
-other false x y c e h = h
-
-there : (s : List ℕ) (c : Called) → 0 < length s → Printed c (decoded s)
-unfolding decoded
-there [] c h = absurd (not-suc-le-zero h)
-there (b ∷ o) c h =
-    other (ltb (suc (length o)) 1) _ _ c (le-ltb (suc (length o)) 1 (omega arith))
-    (either (eqb b 1) _ _ c (either (ltb (length o) 37) _ _ c refl refl)
-    (either (eqb b 2) _ _ c (either (ltb (length o) 60) _ _ c refl refl)
-    (either (eqb b 3) _ _ c (either (ltb (length o) 24) _ _ c refl refl) refl)))
+-- a command that is there prints the lines of its call
+there : (k : Command) (c : Called) → waits true k ≡ false → textOf k c ≡ calledText c (indexOf k)
+there End c w = let z : _≡_ {A = Bool} true false = w in let q : _≡_ {A = ℕ} 0 1 = cc in absurd (omega arith)
+there (Open s) c w = refl
+there (Begin b) c w = refl
+there (Step s) c w = refl
+there Unknown c w = refl
+there Short c w = refl
 
 abbrev made : ℕ → List ℕ → ℕ → List ℕ → Called → Turned × List ℕ × List ℕ × List ℕ
 made at x size w c = (record { lane = c .0 .lane; size = size; at = at + length w }, c .1, c .2, sets x at w)
 
-pub turn-meets : (p : State) (s x y : List ℕ) (k : Command) (c : Called) (size index at e : ℕ)
-    → 0 < length s → k ≡ decoded s → size ≡ sizeOf k → index ≡ indexOf k → c ≡ called p k
+turn-meets : (p : State) (k : Command) (x y : List ℕ) (c : Called) (size index at e : ℕ)
+    → waits true k ≡ false → size ≡ sizeOf k → index ≡ indexOf k → c ≡ called p k
     → _≡_ {A = ℕ × List ℕ} (e, y) (put (calledText c index) (at, x))
-    → _≡_ {A = Turned × List ℕ × List ℕ × List ℕ} (record { lane = c .0 .lane; size = size; at = e }, c .1, c .2, y) (turned p s at x)
+    → _≡_ {A = Turned × List ℕ × List ℕ × List ℕ} (record { lane = c .0 .lane; size = size; at = e }, c .1, c .2, y) (turned p k at x)
 unfolding turned put
-turn-meets p s x y k c size index at e h dk ds di dc dp =
+turn-meets p k x y c size index at e w ds di dc dp =
     ap (λ (z : ℕ × List ℕ). (record { lane = c .0 .lane; size = size; at = z .0 }, c .1, c .2, z .1)) dp
-    ∙ ap (λ (n : ℕ). made at x n (calledText c index) c) (ds ∙ ap sizeOf dk)
-    ∙ ap (λ (w : List ℕ). made at x (sizeOf (decoded s)) w c) (ap (calledText c) (di ∙ ap indexOf dk) ∙ sym (there s c h))
-    ∙ ap (λ (d : Called). made at x (sizeOf (decoded s)) (textOf (decoded s) d) d) (dc ∙ ap (called p) dk)
+    ∙ ap (λ (n : ℕ). made at x n (calledText c index) c) ds
+    ∙ ap (λ (v : List ℕ). made at x (sizeOf k) v c) (ap (calledText c) di ∙ sym (there k c w))
+    ∙ ap (λ (d : Called). made at x (sizeOf k) (textOf k d) d) dc
 
-pub turn-in : (p : State) (s x : List ℕ) (from most at : ℕ) (z : Turned × List ℕ × List ℕ × List ℕ)
-    → from ≤ length s → hasRoom most (length x) at ≡ true → length (z .1) ≤ most → length (z .2) ≤ most
-    → z ≡ turned p (drop from s) at x → Turn p s from at x z
+-- the turn of a command, by the call that it makes and the lines that it puts
+pub turn-made : (p : State) (k : Command) (x y : List ℕ) (c : Called) (size index at e : ℕ)
+    → waits true k ≡ false → hasRoom (mostOf p) (length x) at ≡ true → length (c .1) ≡ length (p .1) → length (c .2) ≡ length (p .2)
+    → size ≡ sizeOf k → index ≡ indexOf k → c ≡ called p k
+    → _≡_ {A = ℕ × List ℕ} (e, y) (put (calledText c index) (at, x))
+    → Turn p k at x (record { lane = c .0 .lane; size = size; at = e }, c .1, c .2, y)
 unfolding turned
-turn-in p s x from most at z h room g f e =
-    let k = decoded (drop from s) in
-    let c = called p k in
-    let short = text-short k c most
-    (omega (arith, ap (λ (y : Turned × List ℕ × List ℕ × List ℕ). length (y .1)) e))
-    (omega (arith, ap (λ (y : Turned × List ℕ × List ℕ × List ℕ). length (y .2)) e)) in
+turn-made p k x y c size index at e w room h g ds di dc dp =
+    let meets = turn-meets p k x y c size index at e w ds di dc dp in
     record {
-      meets = e;
-      near = omega (arith, short, room-there most (length x) at room .1, ap (λ (y : Turned × List ℕ × List ℕ × List ℕ). y .0 .at) e);
-      inside =
-          omega (arith, size-fits (drop from s), length-drop from s, ap (λ (y : Turned × List ℕ × List ℕ × List ℕ). y .0 .size) e);
+      meets = meets;
+      near = omega (arith, text-short k (called p k) (mostOf p) (shown-called p k c w dc h g), room-there (mostOf p) (length x) at room .1, ap (λ (z : Turned × List ℕ × List ℕ × List ℕ). z .0 .at) meets);
     }
-
--- a byte at least is waited for
-pub least-some : (last : Bool) → 1 ≤ leastOf last
-least-some true = omega arith
-least-some false = omega arith

@@ -1,5 +1,5 @@
 -- Steady steps of a burst print nothing: whatever comes after them, what they leave has the lines of the whole. Assumes nothing.
-use Prim.Native.Nat.{ℕ, _+_, _-_, _≤_}
+use Prim.Native.Nat.{ℕ, _+_, _≤_}
 use mathlib.Core.Bool.{Bool, true, false, cond, _&&_}
 use mathlib.Core.Path.{_≡_, refl, sym, _∙_, ap}
 use mathlib.Core.List.{List, [], _++_}
@@ -19,9 +19,10 @@ use Rattle.lane.specs.Steady.{steadyStep, steadiedLane, withRing, slicedLane, s
 use Rattle.commands.specs.declared.Command.{Command}
 use Rattle.commands.specs.declared.Command.the-variants.{End, Open, Begin, Step, Unknown, Short}
 use Rattle.commands.specs.Command.{decoded, sizeOf}
+use Rattle.commands.specs.Stream.{size-fits}
 use Rattle.lines.specs.Line.{recordLine, callText}
 use Rattle.turns.specs.declared.Past.{Past}
-use Rattle.turns.specs.Turn.{State, Called, called, next, answerText, calledText, textOf}
+use Rattle.turns.specs.Turn.{State, Called, called, next, answerText, calledText, textOf, waits}
 use Rattle.turns.specs.Stream.{listing, Turns, none, more, seen, front}
 
 -- a step's operands, and zeros for another command
@@ -52,6 +53,13 @@ is-step (Step s) h = refl
 is-step Unknown h = let z : _≡_ {A = Bool} false true = h in cc
 is-step Short h = let z : _≡_ {A = Bool} false true = h in cc
 
+-- a step at a place of the bytes is there whole
+step-ready : (k : Command) → isStepOf k ≡ true → waits false k ≡ false
+step-ready k h = ap (waits false) (is-step k h)
+
+pub step-in : (s : List ℕ) (used : ℕ) (k : Command) → used ≤ length s → k ≡ decoded (drop used s) → isStepOf k ≡ true → used + 25 ≤ length s
+step-in s used k h dk step = omega (arith, h, ap sizeOf (sym (is-step k step) ∙ dk), size-fits (drop used s), length-drop used s)
+
 -- what steady steps say: the commands up to the place that they reach lead to the state that is left, and what comes after has the same lines
 pub record Passed (p : State) (s : List ℕ) (from : ℕ) (r : Past) (fsk : List ℕ) : Type 0 where
   pub onward : from ≤ r .used
@@ -70,7 +78,6 @@ pub record Took (l : Lane) (ook fsk s : List ℕ) (used : ℕ) (a : StepArgs) (m
   pub steady : Steady
   pub changed : Lane
   pub inside : used ≤ length s
-  pub there : 61 ≤ length s - used
   pub is-command : command ≡ decoded (drop used s)
   pub is-steps : steps ≡ isStepOf command
   pub is-args : a ≡ argsOf command
@@ -96,14 +103,14 @@ module _ (l : Lane) (ring : List Float) (ook fsk s t : List ℕ) (used : ℕ) wh
   unfolding called answerText callText recordLine slicedLane steadiedLane clearedOf
   silent a ok = ap (lines (a .index) 25) (steady-steps l ring a ook fsk ok)
 
-  pub steady-turn : (k : Command) → 61 ≤ length s - used → k ≡ decoded (drop used s) → isStepOf k ≡ true → steadyStep l (argsOf k) (length ook) (length fsk) .ok ≡ true
+  pub steady-turn : (k : Command) → k ≡ decoded (drop used s) → isStepOf k ≡ true → steadyStep l (argsOf k) (length ook) (length fsk) .ok ≡ true
       → listing (withRing (ringOf ring (argsOf k .index) (argsOf k .envelope)) (passedOf l (argsOf k) (length ook) fsk .0), ook, passedOf l (argsOf k) (length ook) fsk .1) (drop (used + 25) s ++ t)
       ≡ listing (withRing ring l, ook, fsk) (drop used s ++ t)
-  steady-turn k there dk step ok =
+  steady-turn k dk step ok =
       ap (λ (u : List ℕ). listing (withRing (ringOf ring (argsOf k .index) (argsOf k .envelope)) (passedOf l (argsOf k) (length ook) fsk .0), ook, passedOf l (argsOf k) (length ook) fsk .1) (u ++ t)) (sym (drop-drop 25 used s))
       ∙ sym (silent (argsOf k) ok)
       ∙ ap linesOf (sym (is-step k step) ∙ dk)
-      ∙ front false p (drop used s) t (λ q. let z : _≡_ {A = Bool} false true = q in cc) (omega (arith, there, length-drop used s))
+      ∙ front false p (drop used s) t (λ q. let z : _≡_ {A = Bool} false true = q in cc) (ap (waits false) (sym dk) ∙ step-ready k step)
 
   -- the lines of what is left after a step as the loop takes it
   abbrev after : StepArgs → Lane × List ℕ → List ℕ
@@ -117,7 +124,7 @@ module _ (l : Lane) (ring : List Float) (ook fsk s t : List ℕ) (used : ℕ) wh
       ∙ ap (λ (x : Lane). after a (slicedLane x a q fsk)) (c .is-changed)
       ∙ ap (λ (x : Steady). after a (slicedLane (steadiedLane l a x) a x fsk)) (c .is-steady)
       ∙ ap (λ (x : StepArgs). after x (passedOf l x (length ook) fsk)) (c .is-args)
-      ∙ steady-turn (c .command) (c .there) (c .is-command) (sym (c .is-steps) ∙ both .0)
+      ∙ steady-turn (c .command) (c .is-command) (sym (c .is-steps) ∙ both .0)
       (ap (λ (x : StepArgs). steadyStep l x (length ook) (length fsk) .ok) (sym (c .is-args)) ∙ ap (λ (x : Steady). x .ok) (sym (c .is-steady)) ∙ both .1)
 
   -- and the command leads to that state
@@ -136,7 +143,9 @@ module _ (l : Lane) (ring : List Float) (ook fsk s t : List ℕ) (used : ℕ) wh
   pub steady-leads : (o : State) (a : StepArgs) (m : Lane) (y : List ℕ) → Took l ook fsk s used a m y
       → Turns o (s ++ t) used p → Turns o (s ++ t) (used + 25) (withRing (ringOf ring (a .index) (a .envelope)) m, ook, y)
   steady-leads o a m y c before =
-      let found : c .command ≡ decoded (drop used (s ++ t)) = c .is-command ∙ sym (seen false s t used (c .inside) (c .there) (λ e. let z : _≡_ {A = Bool} false true = e in cc)) in
-      let size : sizeOf (decoded (drop used (s ++ t))) ≡ 25 = ap sizeOf (sym found ∙ is-step (c .command) (sym (c .is-steps) ∙ both-true (c .steps) (c .steady .ok) (c .holds) .0)) in
+      let step : isStepOf (c .command) ≡ true = sym (c .is-steps) ∙ both-true (c .steps) (c .steady .ok) (c .holds) .0 in
+      let ready : waits false (decoded (drop used s)) ≡ false = ap (waits false) (sym (c .is-command)) ∙ step-ready (c .command) step in
+      let found : c .command ≡ decoded (drop used (s ++ t)) = c .is-command ∙ sym (seen false s t used (c .inside) ready (λ e. let z : _≡_ {A = Bool} false true = e in cc)) in
+      let size : sizeOf (decoded (drop used (s ++ t))) ≡ 25 = ap sizeOf (sym found ∙ is-step (c .command) step) in
       more before (λ e. omega (arith, size, e)) (ap (λ (i : ℕ). used + i) (sym size))
       (ap next (sym (answers a m y c)) ∙ ap (λ (k : Command). next (called p k)) found)

@@ -2,22 +2,21 @@
 use Prim.Native.Nat.{ℕ, zero, suc, _+_, _-_, _<_, _≤_}
 use mathlib.Core.Bool.{Bool, true, false, cond}
 use mathlib.Core.Path.{_≡_, refl, sym, _∙_, ap, subst}
-use mathlib.Core.Logic.{_⊎_}
-use mathlib.Core.List.{List, [], _++_, append-nil, append-assoc}
+use mathlib.Core.List.{List, [], _∷_, _++_, append-nil, append-assoc}
 use native.Mathlib.Omega.{arith}
 use native.Mathlib.Nat.{not-suc-le-zero}
-use lib.ListN.{length, take, drop, length-take, length-drop, length-append}
+use lib.ListN.{length, take, drop, length-take, length-drop, length-append, drop-of-length-le}
 use lib.Seq.{sets, sets-eq, take-at, drop-append-le, drop-drop}
-use lib.Dec.{eqb}
-use borrow.Author.Tests.{eqb-false, eq-eqb, ne-eqb}
+use lib.Dec.{eqb, ltb}
+use borrow.Author.Tests.{eqb-false, eq-eqb, ne-eqb, le-ltb}
 use Rattle.commands.specs.declared.Command.{Command}
 use Rattle.commands.specs.declared.Command.the-variants.{End, Open, Begin, Step, Unknown, Short}
 use Rattle.commands.specs.Command.{decoded, sizeOf}
-use Rattle.commands.specs.Stream.{size-fits, decoded-more}
-use Rattle.lines.specs.Line.{largerOf, hasRoom}
+use Rattle.commands.specs.Stream.{size-fits, whole, decoded-more}
+use Rattle.lines.specs.Line.{callRoom}
 use Rattle.turns.specs.declared.Ran.{Ran}
 use Rattle.turns.specs.declared.Turned.{Turned}
-use Rattle.turns.specs.Turn.{State, called, next, textOf, turned, Turn, leastOf}
+use Rattle.turns.specs.Turn.{State, called, next, textOf, turned, Turn, waits, mostOf}
 
 -- the lines of at most n commands: those of the first, and, unless the stream ends with it, of what is after it
 unfoldable pub listed : ℕ → State → List ℕ → List ℕ
@@ -70,21 +69,38 @@ unroll p s =
 abbrev pub May : Bool → List ℕ → Type 0
 May last t = last ≡ true → t ≡ []
 
--- a command is decoded from a part as from the whole, where as many bytes are there as are waited for
-whole : (last : Bool) (s t : List ℕ) → May last t → leastOf last ≤ length s → decoded (s ++ t) ≡ decoded s
-whole true s t m h = ap (λ (u : List ℕ). decoded (s ++ u)) (m refl) ∙ ap decoded (append-nil s)
-whole false s t m h = decoded-more s t h
+waits-whole : (k : Command) → waits false k ≡ false → whole k ≡ true
+waits-whole End w = let z : _≡_ {A = Bool} true false = w in cc
+waits-whole (Open s) w = refl
+waits-whole (Begin b) w = refl
+waits-whole (Step s) w = refl
+waits-whole Unknown w = refl
+waits-whole Short w = let z : _≡_ {A = Bool} true false = w in cc
+
+-- where a command is not waited for, something is there
+pub something : (last : Bool) (k : Command) → waits last k ≡ false → waits true k ≡ false
+something last End w = w
+something last (Open s) w = refl
+something last (Begin b) w = refl
+something last (Step s) w = refl
+something last Unknown w = refl
+something last Short w = refl
+
+-- a command that is not waited for is decoded from a part as from the whole
+settled : (last : Bool) (s t : List ℕ) → May last t → waits last (decoded s) ≡ false → decoded (s ++ t) ≡ decoded s
+settled true s t m w = ap (λ (u : List ℕ). decoded (s ++ u)) (m refl) ∙ ap decoded (append-nil s)
+settled false s t m w = decoded-more s t (waits-whole (decoded s) w)
 
 -- the lines of a part's first command and of what is left are those of the whole
-pub front : (last : Bool) (p : State) (s t : List ℕ) → May last t → leastOf last ≤ length s
+pub front : (last : Bool) (p : State) (s t : List ℕ) → May last t → waits last (decoded s) ≡ false
     → textOf (decoded s) (called p (decoded s))
     ++ cond (eqb (sizeOf (decoded s)) 0) [] (listing (next (called p (decoded s))) (drop (sizeOf (decoded s)) s ++ t))
     ≡ listing p (s ++ t)
-front last p s t m h =
+front last p s t m w =
     ap (λ (u : List ℕ). textOf (decoded s) (called p (decoded s)) ++ cond (eqb (sizeOf (decoded s)) 0) [] (listing (next (called p (decoded s))) u))
     (sym (drop-append-le (sizeOf (decoded s)) s t (size-fits s)))
     ∙ ap (λ (k : Command). textOf k (called p k) ++ cond (eqb (sizeOf k) 0) [] (listing (next (called p k)) (drop (sizeOf k) (s ++ t))))
-    (sym (whole last s t m h))
+    (sym (settled last s t m w))
     ∙ sym (unroll p (s ++ t))
 
 -- ---- what the commands lead to
@@ -96,10 +112,9 @@ pub data Turns (p : State) (u : List ℕ) : ℕ → State → Type 0 where
       → m ≡ n + sizeOf (decoded (drop n u)) → r ≡ next (called q (decoded (drop n u))) → Turns p u m r
 
 -- a command is decoded at a place of the part as at that of the whole
-pub seen : (last : Bool) (s t : List ℕ) (used : ℕ) → used ≤ length s → leastOf last ≤ length s - used → May last t
+pub seen : (last : Bool) (s t : List ℕ) (used : ℕ) → used ≤ length s → waits last (decoded (drop used s)) ≡ false → May last t
     → decoded (drop used (s ++ t)) ≡ decoded (drop used s)
-seen last s t used inside there may =
-    ap decoded (drop-append-le used s t inside) ∙ whole last (drop used s) t may (omega (arith, there, length-drop used s))
+seen last s t used inside w may = ap decoded (drop-append-le used s t inside) ∙ settled last (drop used s) t may w
 
 -- bytes that are no command change nothing
 no-command : (p : State) (k : Command) → sizeOf k ≡ 0 → next (called p k) ≡ p
@@ -113,16 +128,22 @@ no-command p Short h = refl
 
 -- ---- a block of the stream
 
+-- where the turns of a block stop: at bytes that no command begins with, or at a beginning of one that no more will come of, which ends
+-- the stream; where the next command waits for bytes; or where the text has too few bytes left for the lines of any call
+pub data Stopped (s : List ℕ) (last : Bool) (r : Ran) (q : State) (y : List ℕ) : Type 0 where
+  ends : r .ended ≡ true → r .full ≡ false → waits last (decoded (drop (r .used) s)) ≡ false → sizeOf (decoded (drop (r .used) s)) ≡ 0 → Stopped s last r q y
+  waiting : r .ended ≡ false → r .full ≡ false → waits last (decoded (drop (r .used) s)) ≡ true → Stopped s last r q y
+  no-room : r .ended ≡ false → r .full ≡ true → waits last (decoded (drop (r .used) s)) ≡ false → length y < r .at + callRoom (mostOf q) → Stopped s last r q y
+
 -- what the turns of a block say: whatever comes after it, the lines printed and those of what is left are the lines of
--- the whole; the commands of the bytes used lead to the state that is left; and they stop only where the stream has ended, fewer bytes are left than are waited for, or the text has no
--- room for another call
+-- the whole; the commands of the bytes used lead to the state that is left; and where they stop
 pub record Streamed (p : State) (s : List ℕ) (last : Bool) (r : Ran) (q : State) (y : List ℕ) : Type 0 where
   pub inside : r .used ≤ length s
   pub room : r .at ≤ length y
   pub printed : (t : List ℕ) → May last t
       → take (r .at) y ++ cond (r .ended) [] (listing q (drop (r .used) s ++ t)) ≡ listing p (s ++ t)
   pub left : (t : List ℕ) → May last t → Turns p (s ++ t) (r .used) q
-  pub stopped : (r .ended ≡ true) ⊎ ((length s - r .used < leastOf last) ⊎ (hasRoom (largerOf (length (p .1)) (length (p .2))) (length y) (r .at) ≡ false))
+  pub stopped : Stopped s last r q y
 
 -- ---- one turn of a block
 
@@ -136,19 +157,26 @@ stored x w at h =
 abbrev left : List ℕ → List ℕ → Turned × List ℕ × List ℕ × List ℕ → List ℕ
 left s t z = take (z .0 .at) (z .3) ++ cond (eqb (z .0 .size) 0) [] (listing (z .0 .lane, z .1, z .2) (drop (z .0 .size) s ++ t))
 
-module _ (last : Bool) (p₀ p : State) (s x : List ℕ) (least used at : ℕ) (z : Turned × List ℕ × List ℕ × List ℕ)
-    (waits : least ≡ leastOf last) (inside : used ≤ length s) (there : least ≤ length s - used) (turn : Turn p s used at x z) where
+module _ (last : Bool) (p₀ p : State) (s x : List ℕ) (used at : ℕ) (k : Command) (z : Turned × List ℕ × List ℕ × List ℕ)
+    (inside : used ≤ length s) (is : k ≡ decoded (drop used s)) (ready : waits last k ≡ false) (turn : Turn p k at x z) where
+  -- the turn, of what stands at the place
+  taken : z ≡ turned p (decoded (drop used s)) at x
+  taken = turn .meets ∙ ap (λ (c : Command). turned p c at x) is
+
+  whole-there : waits last (decoded (drop used s)) ≡ false
+  whole-there = ap (waits last) (sym is) ∙ ready
+
   step : (t : List ℕ) → May last t → left (drop used s) t z ≡ take at x ++ listing p (drop used s ++ t)
   unfolding turned
   step t may =
       let k = decoded (drop used s) in
       let c = called p k in
       let r = cond (eqb (sizeOf k) 0) [] (listing (next c) (drop (sizeOf k) (drop used s) ++ t)) in
-      let fits : at + length (textOf k c) ≤ length x = omega (arith, turn .near, ap (λ (y : Turned × List ℕ × List ℕ × List ℕ). y .0 .at) (turn .meets)) in
-      ap (left (drop used s) t) (turn .meets)
+      let fits : at + length (textOf k c) ≤ length x = omega (arith, turn .near, ap (λ (y : Turned × List ℕ × List ℕ × List ℕ). y .0 .at) taken) in
+      ap (left (drop used s) t) taken
       ∙ ap (λ (w : List ℕ). w ++ r) (stored x (textOf k c) at fits)
       ∙ append-assoc (take at x) (textOf k c) r
-      ∙ ap (λ (w : List ℕ). take at x ++ w) (front last p (drop used s) t may (omega (arith, waits, length-drop used s)))
+      ∙ ap (λ (w : List ℕ). take at x ++ w) (front last p (drop used s) t may whole-there)
 
   -- the stream goes on; w are the lines of what is left
   pub again : (z .0 .size ≡ 0 → ⊥) → (t w : List ℕ) → May last t
@@ -165,28 +193,56 @@ module _ (last : Bool) (p₀ p : State) (s x : List ℕ) (least used at : ℕ) (
   -- the command that the turn takes, and the state after it
   next-is : (z .0 .lane, z .1, z .2) ≡ next (called p (decoded (drop used s)))
   unfolding turned
-  next-is = ap (λ (y : Turned × List ℕ × List ℕ × List ℕ). (y .0 .lane, y .1, y .2)) (turn .meets)
+  next-is = ap (λ (y : Turned × List ℕ × List ℕ × List ℕ). (y .0 .lane, y .1, y .2)) taken
 
   size-is : z .0 .size ≡ sizeOf (decoded (drop used s))
   unfolding turned
-  size-is = ap (λ (y : Turned × List ℕ × List ℕ × List ℕ). y .0 .size) (turn .meets)
+  size-is = ap (λ (y : Turned × List ℕ × List ℕ × List ℕ). y .0 .size) taken
 
   pub leads : (z .0 .size ≡ 0 → ⊥) → (t : List ℕ) → May last t → Turns p₀ (s ++ t) used p → Turns p₀ (s ++ t) (used + z .0 .size) (z .0 .lane, z .1, z .2)
   leads n t may h =
-      let k = seen last s t used inside (omega (arith, waits, there)) may in
+      let k = seen last s t used inside whole-there may in
       more h (λ e. n (size-is ∙ ap sizeOf (sym k) ∙ e)) (ap (λ (m : ℕ). used + m) (size-is ∙ ap sizeOf (sym k))) (next-is ∙ ap (λ (c : Command). next (called p c)) (sym k))
 
   pub leads-nowhere : z .0 .size ≡ 0 → (t : List ℕ) → Turns p₀ (s ++ t) used p → Turns p₀ (s ++ t) used (z .0 .lane, z .1, z .2)
   leads-nowhere n t h = subst (Turns p₀ (s ++ t) used) (sym (next-is ∙ no-command p (decoded (drop used s)) (sym size-is ∙ n))) h
 
+  -- its bytes are there
+  pub within : used + z .0 .size ≤ length s
+  within = omega (arith, size-is, size-fits (drop used s), length-drop used s)
+
+  pub no-more : z .0 .size ≡ 0 → sizeOf (decoded (drop used s)) ≡ 0
+  no-more n = sym size-is ∙ n
+
   -- the stream ends
-  pub ends : z .0 .size ≡ 0 → (t : List ℕ) → May last t
+  pub over : z .0 .size ≡ 0 → (t : List ℕ) → May last t
       → take at x ++ listing p (drop used s ++ t) ≡ listing p₀ (s ++ t)
       → take (z .0 .at) (z .3) ++ [] ≡ listing p₀ (s ++ t)
-  ends n t may h =
+  over n t may h =
       ap (λ (b : Bool). take (z .0 .at) (z .3) ++ cond b [] (listing (z .0 .lane, z .1, z .2) (drop (z .0 .size) (drop used s) ++ t)))
       (sym (eq-eqb (z .0 .size) 0 n))
       ∙ step t may ∙ h
+
+-- nothing is left to wait for where all bytes are used
+pub none-left : (last : Bool) (s : List ℕ) (used : ℕ) → length s ≤ used → waits last (decoded (drop used s)) ≡ true
+unfolding decoded
+none-left last s used h = ap (λ (u : List ℕ). waits last (decoded u)) (drop-of-length-le s h)
+
+-- and where no more will come, a command that is waited for is none
+waits-either : (b : Bool) (x y : Command) → waits true x ≡ false → waits true y ≡ false → waits true (cond b x y) ≡ false
+waits-either true x y h g = h
+waits-either false x y h g = g
+
+pub all-used : (s : List ℕ) → waits true (decoded s) ≡ true → s ≡ []
+unfolding decoded
+all-used [] w = refl
+all-used (b ∷ o) w =
+    let there : waits true (decoded (b ∷ o)) ≡ false =
+    simp (le-ltb (suc (length o)) 1 (omega arith))
+    (waits-either (eqb b 1) _ _ (waits-either (ltb (length o) 37) _ _ refl refl)
+    (waits-either (eqb b 2) _ _ (waits-either (ltb (length o) 60) _ _ refl refl)
+    (waits-either (eqb b 3) _ _ (waits-either (ltb (length o) 24) _ _ refl refl) refl))) in
+    let z : _≡_ {A = Bool} true false = sym w ∙ there in cc
 
 -- a block that was not ended
 pub stays : (b : Bool) (a w v : List ℕ) → b ≡ false → a ++ w ≡ v → a ++ cond b [] w ≡ v

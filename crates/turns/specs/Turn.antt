@@ -1,23 +1,24 @@
 -- What a command does, and the lines that it prints (document 01, "Commands").
-use Prim.Native.Nat.{ℕ, _+_, _≤_}
-use mathlib.Core.Bool.{Bool, cond}
+use Prim.Native.Nat.{ℕ, _+_, _*_, _≤_}
+use mathlib.Core.Bool.{Bool, true, false, cond, not}
 use mathlib.Core.Path.{_≡_}
 use mathlib.Core.List.{List, [], _++_}
-use lib.ListN.{length, drop}
+use lib.ListN.{length, take}
 use lib.Seq.{sets}
+use lib.Dec.{ltb}
 use Rattle.ook.specs.declared.Out.{Out}
 use Rattle.lane.specs.declared.Lane.{Lane}
 use Rattle.lane.specs.declared.Answer.{Answer}
 use Rattle.lane.specs.declared.Reply.{Reply}
-use Rattle.lane.specs.declared.Reply.the-variants.{Refused, Stay}
+use Rattle.lane.specs.declared.Reply.the-variants.{Refused, Stay, Idle, IdleAt}
 use Rattle.lane.specs.Step.{opened, begun, stepped}
 use Rattle.lane.specs.Part.{partOf}
 use Rattle.commands.specs.declared.Command.{Command}
 use Rattle.commands.specs.declared.Command.the-variants.{End, Open, Begin, Step, Unknown, Short}
-use Rattle.commands.specs.Command.{decoded, sizeOf}
+use Rattle.commands.specs.Command.{sizeOf}
 use Rattle.lines.specs.declared.Written.{Written}
 use Rattle.lines.specs.declared.Written.the-variants.{At, NoRoom}
-use Rattle.lines.specs.Line.{recordLine, callText}
+use Rattle.lines.specs.Line.{recordLine, callText, maxSlots, largerOf}
 use Rattle.turns.specs.declared.Turned.{Turned}
 
 -- a lane with its OOK and its FSK buffer
@@ -54,6 +55,16 @@ indexOf (Step s) = s .index
 indexOf Unknown = 0
 indexOf Short = 0
 
+abbrev pub refusedOf : Reply → Bool
+refusedOf (Refused n) = true
+refusedOf Stay = false
+refusedOf Idle = false
+refusedOf (IdleAt e) = false
+
+-- the part of a record that a call prints: none where it is refused, whatever the lane still holds
+abbrev pub shownOf : Reply → Out → List ℕ → List ℕ → List ℕ
+shownOf r o ook fsk = cond (refusedOf r) (take 0 ook) (partOf o ook fsk)
+
 -- the lines of a reply with its two records, each with its part of the buffers
 unfoldable pub answerText : Reply → Out → Out → List ℕ → List ℕ → ℕ → List ℕ
 answerText r f o ook fsk index = callText r (recordLine f (partOf f ook fsk) ++ recordLine o (partOf o ook fsk)) index
@@ -71,24 +82,41 @@ textOf (Step s) c = calledText c (s .index)
 textOf Unknown c = calledText c 0
 textOf Short c = calledText c 0
 
--- the turn of the command at the front of the bytes: what it leaves, and its lines stored at a place of the text
-unfoldable pub turned : State → List ℕ → ℕ → List ℕ → Turned × List ℕ × List ℕ × List ℕ
-turned p s at x =
-    let c = called p (decoded s) in
-    let w = textOf (decoded s) c in
-    (record { lane = c .0 .lane; size = sizeOf (decoded s); at = at + length w }, c .1, c .2, sets x at w)
+-- the turn of a command: what it leaves, and its lines stored at a place of the text
+unfoldable pub turned : State → Command → ℕ → List ℕ → Turned × List ℕ × List ℕ × List ℕ
+turned p k at x =
+    let c = called p k in
+    let w = textOf k c in
+    (record { lane = c .0 .lane; size = sizeOf k; at = at + length w }, c .1, c .2, sets x at w)
 
 -- the place after lines that were written
 abbrev pub placeOf : Written → ℕ → ℕ
 placeOf (At e) at = e
 placeOf NoRoom at = at
 
--- how many bytes have to be there before a command is decoded
-abbrev pub leastOf : Bool → ℕ
-leastOf last = cond last 1 61
-
--- what a turn at a place of the bytes says: it is that turn, and stays inside the text and the bytes
-pub record Turn (p : State) (s : List ℕ) (from at : ℕ) (x : List ℕ) (z : Turned × List ℕ × List ℕ × List ℕ) : Type 0 where
-  pub meets : z ≡ turned p (drop from s) at x
+-- what a turn says: it is that of the command, and stays inside the text
+pub record Turn (p : State) (k : Command) (at : ℕ) (x : List ℕ) (z : Turned × List ℕ × List ℕ × List ℕ) : Type 0 where
+  pub meets : z ≡ turned p k at x
   pub near : z .0 .at ≤ length x
-  pub inside : from + z .0 .size ≤ length s
+
+-- ---- when a command is made
+
+-- a command is waited for where nothing is left, and where only its beginning is there and more may come: where `last` is false
+abbrev pub waits : Bool → Command → Bool
+waits last End = true
+waits last (Open s) = false
+waits last (Begin b) = false
+waits last (Step s) = false
+waits last Unknown = false
+waits last Short = not last
+
+abbrev pub smallerOf : ℕ → ℕ → ℕ
+smallerOf n m = cond (ltb m n) m n
+
+-- the most slots of a part that a call prints: two for each pulse of the settings, and no more than the larger buffer has. Settings above
+-- document 01's 65,536 pulses are refused, and a refused call prints no record
+unfoldable pub slotsOf : ℕ → ℕ → ℕ → ℕ
+slotsOf max ook fsk = smallerOf (smallerOf (2 * max) (largerOf ook fsk)) maxSlots
+
+abbrev pub mostOf : State → ℕ
+mostOf p = slotsOf (p .0 .settings .«max_pulses») (length (p .1)) (length (p .2))

@@ -1,12 +1,12 @@
 // The turns of the listing program: the command at a place of the bytes is decoded, the lane called
 // with both buffers lent, and the call's lines written; and the turns of a whole block of bytes.
 ghost use mathlib.Core.Path.{_≡_};
-ghost use mathlib.Core.Bool.{true};
+ghost use mathlib.Core.Bool.{true, false};
 ghost use mathlib.Core.List.{List};
 ghost use Prim.Native.Nat.{ℕ, _≤_, _<_};
 ghost use lib.ListN.{length};
-ghost use Rattle.lines.specs.Line.{hasRoom, put};
-ghost use Rattle.turns.specs.Turn.{Called, called, indexOf, answerText, Turn, placeOf, leastOf};
+ghost use Rattle.lines.specs.Line.{largerOf, hasRoom, put};
+ghost use Rattle.turns.specs.Turn.{Called, called, indexOf, refusedOf, shownOf, answerText, Turn, placeOf, waits as Turn·waits, smallerOf, slotsOf, mostOf};
 ghost use Rattle.turns.specs.Steady.{isStepOf, noArgs, argsOf, Passed};
 ghost use Rattle.turns.specs.Stream.{Streamed};
 use arith::C32;
@@ -66,8 +66,29 @@ fn place_of(w: Written, at: usize) -> usize
     }
 }
 
-// Writes the lines of a call: its reply, and its two records with their parts of the buffers, none
-// of which has more than `most` slots.
+fn is_refused(r: Reply) -> bool
+    ensures { λ b. ⌜ b ≡ refusedOf r ⌝ }
+{
+    match r {
+        Reply::Refused(_) => true,
+        Reply::Stay => false,
+        Reply::Idle => false,
+        Reply::IdleAt(_) => false,
+    }
+}
+
+// The part of a record that a call prints: none where it is refused, whatever the lane still holds.
+fn shown<'a>(r: Reply, o: Out, ook: &'a [u32], fsk: &'a [u32]) -> &'a [u32]
+    ensures { λ s. ⌜ now s ≡ shownOf r o (now (ook .entry)) (now (fsk .entry)) ⌝ }
+{
+    let refused = is_refused(r);
+    if refused {
+        return &ook[..0];
+    }
+    lane::part(o, ook, fsk)
+}
+
+// Writes the lines of a call: its reply, and its two records with their parts of the buffers.
 fn put_answer<'a>(
     r: Reply,
     f: Out,
@@ -75,15 +96,14 @@ fn put_answer<'a>(
     index: u64,
     ook: &'a [u32],
     fsk: &'a [u32],
-    most: usize,
     text: &mut [u8],
     at: usize,
 ) -> usize
-    requires { ⌜ (length (now ook) ≤ most) × (length (now fsk) ≤ most) × (hasRoom most (length (now text)) at ≡ true) ⌝ }
+    requires { ⌜ hasRoom (largerOf (length (shownOf r f (now ook) (now fsk))) (length (shownOf r o (now ook) (now fsk)))) (length (now text)) at ≡ true ⌝ }
     ensures { λ e. ⌜ _≡_ {A = ℕ × List ℕ} (e, now (text .exit)) (put (answerText r f o (now (ook .entry)) (now (fsk .entry)) index) (at, now (text .entry))) ⌝ }
 {
-    let fs = lane::part(f, ook, fsk);
-    let os = lane::part(o, ook, fsk);
+    let fs = shown(r, f, ook, fsk);
+    let os = shown(r, o, ook, fsk);
     let w = lines::call_lines(r, f, fs, o, os, index, text, at);
     place_of(w, at)
 }
@@ -96,21 +116,11 @@ pub struct Turned {
     pub at: usize,
 }
 
-// The command at a place of the bytes.
-fn turn(
-    l: Lane,
-    s: &[u8],
-    from: usize,
-    ook: &mut [u32],
-    fsk: &mut [u32],
-    most: usize,
-    text: &mut [u8],
-    at: usize,
-) -> Turned
-    requires { ⌜ (from < length (now s)) × (length (now ook) ≤ most) × (length (now fsk) ≤ most) × (hasRoom most (length (now text)) at ≡ true) ⌝ }
-    ensures { λ r. ⌜ Turn (l, now (ook .entry), now (fsk .entry)) (now (s .entry)) from at (now (text .entry)) (r, now (ook .exit), now (fsk .exit), now (text .exit)) ⌝ }
+// The call of a command and its lines. `waits true` is that nothing is left.
+fn turn(l: Lane, k: Command, ook: &mut [u32], fsk: &mut [u32], text: &mut [u8], at: usize) -> Turned
+    requires { ⌜ (Turn·waits true k ≡ false) × (hasRoom (mostOf (l, now ook, now fsk)) (length (now text)) at ≡ true) ⌝ }
+    ensures { λ r. ⌜ Turn (l, now (ook .entry), now (fsk .entry)) k at (now (text .entry)) (r, now (ook .exit), now (fsk .exit), now (text .exit)) ⌝ }
 {
-    let k = commands::decode_at(s, from);
     let size = commands::size_of(k);
     let index = index_of(k);
     let a = call(l, k, ook, fsk);
@@ -118,7 +128,7 @@ fn turn(
     let r = a.reply;
     let f = n.burst.out_fsk;
     let o = n.burst.out_ook;
-    let e = put_answer(r, f, o, index, ook, fsk, most, text, at);
+    let e = put_answer(r, f, o, index, ook, fsk, text, at);
     Turned {
         lane: n,
         size,
@@ -181,7 +191,7 @@ fn steady_steps(lane: Lane, s: &[u8], from: usize, ook: &[u32], fsk: &mut [u32])
     let mut l = lane;
     let mut ring = l.ring;
     let mut used = from;
-    while s.len() - used >= 61 {
+    while used < s.len() {
         let k = commands::decode_at(s, used);
         let steps = is_step(k);
         let a = args_of(k);
@@ -214,21 +224,49 @@ pub struct Ran {
     pub at: usize,
     // Whether the stream has ended, by refusal 1 or 2.
     pub ended: bool,
+    // Whether the text has no room for another call.
+    pub full: bool,
 }
 
-// How many bytes have to be there before a command is decoded: the longest command's, or one where
-// no more will come.
-fn least_of(last: bool) -> usize
-    ensures { λ r. ⌜ r ≡ leastOf last ⌝ }
+// Whether a command is not made yet: nothing is left, or only the beginning of a command and more
+// may come.
+fn waits(last: bool, k: Command) -> bool
+    ensures { λ r. ⌜ r ≡ Turn·waits last k ⌝ }
 {
-    if last {
-        return 1;
+    match k {
+        Command::End => true,
+        Command::Open(_) => false,
+        Command::Begin(_) => false,
+        Command::Step(_) => false,
+        Command::Unknown => false,
+        Command::Short => !last,
     }
-    61
 }
 
-// The turns of a block of bytes, until too few are left for a command, the text has no room, or the
-// stream ends. `last` says that no byte will come after the block.
+// The smaller of two lengths.
+pub fn smaller(n: usize, m: usize) -> usize
+    ensures { λ r. ⌜ r ≡ smallerOf n m ⌝ }
+{
+    if m < n {
+        return m;
+    }
+    n
+}
+
+// The most slots of a record's part that a call prints: two for each pulse of the settings, and no
+// more than the larger buffer has. Settings outside the domain print no record: each call that would
+// is refused.
+fn most_of(pulses: u32, ook: usize, fsk: usize) -> usize
+    ensures { λ r. ⌜ r ≡ slotsOf pulses ook fsk ⌝ }
+{
+    let slots = 2 * (pulses as usize);
+    let held = smaller(slots, lines::larger(ook, fsk));
+    smaller(held, domain::MAX_SLOTS)
+}
+
+// The turns of a block of bytes: each command's as soon as its own last byte is there, until the
+// next waits for more, the text has no room, or the stream ends. `last` says that no byte will come
+// after the block.
 pub fn block(
     lane: Lane,
     s: &[u8],
@@ -239,18 +277,24 @@ pub fn block(
 ) -> Ran
     ensures { λ r. ⌜ Streamed (lane, now (ook .entry), now (fsk .entry)) (now (s .entry)) last r (r .lane, now (ook .exit), now (fsk .exit)) (now (text .exit)) ⌝ }
 {
-    let least = least_of(last);
-    let most = lines::larger(ook.len(), fsk.len());
     let mut l = lane;
     let mut used = 0;
     let mut at = 0;
     let mut ended = false;
-    while s.len() - used >= least {
-        let room = lines::has_room(most, text.len(), at);
-        if !room {
+    let mut full = false;
+    while used < s.len() {
+        let k = commands::decode_at(s, used);
+        let waiting = waits(last, k);
+        if waiting {
             break;
         }
-        let t = turn(l, s, used, ook, fsk, most, text, at);
+        let most = most_of(l.settings.max_pulses, ook.len(), fsk.len());
+        let room = lines::has_room(most, text.len(), at);
+        if !room {
+            full = true;
+            break;
+        }
+        let t = turn(l, k, ook, fsk, text, at);
         l = t.lane;
         at = t.at;
         if t.size == 0 {
@@ -267,5 +311,6 @@ pub fn block(
         used,
         at,
         ended,
+        full,
     }
 }

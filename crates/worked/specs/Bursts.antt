@@ -18,7 +18,7 @@ use Rattle.stages.specs.Tail.{carrierOf, goneOf, hasPulsesOf, gapOverOf, waitOf
 use Rattle.burst.specs.Lead.{leadAddOf, largestFrom, beginBurstOf, leadAtOf, replayFrom, replayOf, leadFullOf}
 use Rattle.burst.specs.Sample.{snapIfOf, lastOf, restOf, sampleOf}
 use Rattle.presence.specs.Presence.{snapOf, nearStartOf}
-use Rattle.refusals.specs.Domain.{settingsOk}
+use Rattle.refusals.specs.Domain.{settingsOk, unsetOk}
 use Rattle.refusals.specs.Order.{firstFailed}
 use Rattle.refusals.specs.State.{frameOk, burstOk, leadOk, candOk}
 use Rattle.lane.specs.Advance.{settleOf, fillOf, replayStep, leadStep, burstStep, advanceOf}
@@ -28,32 +28,27 @@ use Rattle.lane.specs.Idle.{noBurst, idleLane}
 use Rattle.lane.specs.Part.{front, partOf}
 use Rattle.lane.specs.Refusals.{openedOk, laneOk, historyOk, beginFloatsOk, stepFloatsOk, followsOf, beginRefusal, stepRefusal}
 use Rattle.lane.specs.Step.{newLane, opened, begun, stepped}
-use Rattle.commands.specs.Command.{u32At, u64At, settingsOf, historyOf as historyBytes, beginArgsOf, stepArgsOf, decoded}
-use Rattle.commands.specs.Encode.{word}
+use Rattle.words.specs.Words.{u32At, u64At, encode}
+use Rattle.commands.specs.Command.{settingsOf, historyOf as historyBytes, beginArgsOf, stepArgsOf, decoded}
 use Rattle.lines.specs.Line.{leading, decimal, hex8, widths, span, trainLine, recordLine, idleLine, carrierLine, refusedLine, callText}
 use Rattle.turns.specs.Turn.{called, answerText}
 use Rattle.turns.specs.Stream.{listed, listing}
 
--- numbers of four bytes each; a float is its bit pattern
-abbrev words : List ℕ → List ℕ
-words [] = []
-words (n ∷ ns) = word n ++ words ns
-
 abbrev float1 : ℕ
 float1 = 0x3f80_0000
 
--- command 01 with this max_pulses
+-- command 01 with this max_pulses: numbers of four bytes each, a float by its bit pattern
 abbrev pub openWith : ℕ → List ℕ
-openWith max = 1 ∷ 0 ∷ words (2 ∷ 4 ∷ 4 ∷ 1000 ∷ max ∷ 0x3f00_0000 ∷ 0x42c8_0000 ∷ 0 ∷ 0 ∷ [])
+openWith max = 1 ∷ 0 ∷ encode (2 ∷ 4 ∷ 4 ∷ 1000 ∷ max ∷ 0x3f00_0000 ∷ 0x42c8_0000 ∷ 0 ∷ 0 ∷ [])
 
 -- command 02 at index 10
 abbrev beginWith : ℕ → List ℕ
-beginWith e = 2 ∷ words (10 ∷ 0 ∷ float1 ∷ e ∷ float1 ∷ 0 ∷ float1 ∷ 0 ∷ 0 ∷ 0 ∷ 0 ∷ 0 ∷ 0 ∷ 0 ∷ 0 ∷ [])
+beginWith e = 2 ∷ encode (10 ∷ 0 ∷ float1 ∷ e ∷ float1 ∷ 0 ∷ float1 ∷ 0 ∷ 0 ∷ 0 ∷ 0 ∷ 0 ∷ 0 ∷ 0 ∷ 0 ∷ [])
 
 -- command 03 for each envelope, from an index on
 abbrev stepsWith : ℕ → List ℕ → List ℕ
 stepsWith i [] = []
-stepsWith i (e ∷ es) = 3 ∷ (words (i ∷ 0 ∷ 0 ∷ e ∷ float1 ∷ 0 ∷ []) ++ stepsWith (i + 1) es)
+stepsWith i (e ∷ es) = 3 ∷ (encode (i ∷ 0 ∷ 0 ∷ e ∷ float1 ∷ 0 ∷ []) ++ stepsWith (i + 1) es)
 
 -- an opening, begin with the first envelope, and a step for each of the others
 abbrev pub burstWith : ℕ → List ℕ → List ℕ
@@ -61,5 +56,5 @@ burstWith e es = openWith 4 ++ (beginWith e ++ stepsWith 11 es)
 
 -- what is printed of commands, with the program's buffers
 unfoldable pub printed : List ℕ → List ℕ
-unfolding listed listing called answerText decoded settingsOf beginArgsOf stepArgsOf historyBytes u32At u64At callText recordLine trainLine widths span idleLine carrierLine refusedLine decimal leading hex8 snapOf nearStartOf roundOf narrowOf wholeRoot roundExact exactOf sqrtOf absOf midpointOf flushOf crossOf nearestIn satAddOf inc refineLevelOf refineLoOf excessOf splitFrom refineInOf refineOf lengthenOf rejoinOf beginRunOf beginsOf advanceRunOf zeroIf pacRunOf beginEnvOf pushPulseOf closeGapOf emptyTrainOf finishOf endTrainOf pulseDoneOf gapRatioExceededOf dueOf confirmIf riseOf fallOf confirmOf actOf thresholdOf onOf refineDueOf highOf pacOf seeOf carrierOf goneOf hasPulsesOf gapOverOf waitOf tailOf leadAddOf largestFrom beginBurstOf leadAtOf replayFrom replayOf leadFullOf snapIfOf lastOf restOf sampleOf settingsOk firstFailed frameOk burstOk leadOk candOk settleOf fillOf replayStep leadStep burstStep advanceOf replyOf phaseOf historyOf beginLeadOf clearedOf leadLane noBurst idleLane front partOf openedOk laneOk historyOk beginFloatsOk stepFloatsOk followsOf beginRefusal stepRefusal newLane opened begun stepped add sub mul div neg lt le eq ofBits toBits ofInt toUnsigned isNan
+unfolding listed listing called answerText decoded settingsOf beginArgsOf stepArgsOf historyBytes u32At u64At encode callText recordLine trainLine widths span idleLine carrierLine refusedLine decimal leading hex8 snapOf nearStartOf roundOf narrowOf wholeRoot roundExact exactOf sqrtOf absOf midpointOf flushOf crossOf nearestIn satAddOf inc refineLevelOf refineLoOf excessOf splitFrom refineInOf refineOf lengthenOf rejoinOf beginRunOf beginsOf advanceRunOf zeroIf pacRunOf beginEnvOf pushPulseOf closeGapOf emptyTrainOf finishOf endTrainOf pulseDoneOf gapRatioExceededOf dueOf confirmIf riseOf fallOf confirmOf actOf thresholdOf onOf refineDueOf highOf pacOf seeOf carrierOf goneOf hasPulsesOf gapOverOf waitOf tailOf leadAddOf largestFrom beginBurstOf leadAtOf replayFrom replayOf leadFullOf snapIfOf lastOf restOf sampleOf settingsOk unsetOk firstFailed frameOk burstOk leadOk candOk settleOf fillOf replayStep leadStep burstStep advanceOf replyOf phaseOf historyOf beginLeadOf clearedOf leadLane noBurst idleLane front partOf openedOk laneOk historyOk beginFloatsOk stepFloatsOk followsOf beginRefusal stepRefusal newLane opened begun stepped add sub mul div neg lt le eq ofBits toBits ofInt toUnsigned isNan
 printed commands = listing (newLane, replicate 4096 0, replicate 4096 0) commands

@@ -4,13 +4,13 @@ use mathlib.Core.Bool.{Bool, true, false}
 use mathlib.Core.Path.{_≡_}
 use mathlib.Core.List.{List, [], _∷_, _++_, map}
 use lib.ListN.{getD, set, replicate}
-use lib.Ieee.{le, ofBits}
+use lib.Ieee.{Float, binary32, le, ofBits, toBits}
 use Rattle.arith.specs.Leaves.{zero32, zero64}
 use Rattle.ook.specs.Counts.{zeroC32}
 use Rattle.ook.specs.Train.{zeroSteps}
 use Rattle.ook.specs.declared.Out.{Out}
 use Rattle.ook.specs.declared.Carrier.the-variants.{Angle}
-use Rattle.refusals.specs.Domain.{settingsOk}
+use Rattle.refusals.specs.Domain.{settingsOk, unsetOk}
 use Rattle.refusals.specs.State.{frameOk, burstOk, leadOk, candOk}
 use Rattle.lane.specs.declared.Lane.{Lane}
 use Rattle.lane.specs.Refusals.{openedOk, laneOk}
@@ -39,6 +39,10 @@ pub data Field : Type 0 where
   «fsk_phase» : Field
   «fsk_open» : Field
   flag : ℕ → Field
+  alpha : Field
+  «gap_ratio» : Field
+  «fsk_delta» : Field
+  «fsk_split» : Field
 
 -- its place in the list of a lane's numbers
 abbrev place : Field → ℕ
@@ -62,18 +66,23 @@ place «open» = 16
 place «fsk_phase» = 17
 place «fsk_open» = 18
 place (flag k) = 19 + k
+place alpha = 37
+place «gap_ratio» = 38
+place «fsk_delta» = 39
+place «fsk_split» = 40
 
 -- a record whose flags are numbered from k on
 abbrev outAt : (Field → ℕ) → ℕ → Out
 outAt v k = record { index = 0; end = 0; state = v (flag k); cut = v (flag (k + 1)); pairs = 0; level = zero32; fsk = v (flag (k + 2)); carrier = Angle zero32 }
 
--- every float and every number without a limit is 0
+-- the settings' floats are given by their patterns; every other float and every number without a limit is 0
 unfoldable pub laneOf : List ℕ → Lane
 laneOf ns =
     let v : Field → ℕ = λ f. getD ns (place f) 0 in
+    let floatOf : Field → Float = λ f. ofBits binary32 (v f) in
     record {
       opened = v opened;
-      settings = record { mode = v mode; «min_steps» = v «min_steps»; «gap_steps» = v «gap_steps»; «pre_timeout» = v «pre_timeout»; «long_steps» = v «long_steps»; «max_pulses» = v «max_pulses»; alpha = zero32; «gap_ratio» = zero32; «fsk_delta» = zero32; «fsk_split» = zero32 };
+      settings = record { mode = v mode; «min_steps» = v «min_steps»; «gap_steps» = v «gap_steps»; «pre_timeout» = v «pre_timeout»; «long_steps» = v «long_steps»; «max_pulses» = v «max_pulses»; alpha = floatOf alpha; «gap_ratio» = floatOf «gap_ratio»; «fsk_delta» = floatOf «fsk_delta»; «fsk_split» = floatOf «fsk_split» };
       phase = v phase;
       last = v last;
       «x_prev» = zeroC32;
@@ -109,12 +118,16 @@ laneOf ns =
 
 -- an idle lane of mode 2, 2, 4, 4, 1000, max_pulses 4, with some fields changed
 abbrev changed : List (Field × ℕ) → List ℕ
-changed [] = replicate 9 0 ++ (2 ∷ 2 ∷ 4 ∷ 4 ∷ 1000 ∷ 4 ∷ 1 ∷ replicate 21 0)
+changed [] = replicate 9 0 ++ (2 ∷ 2 ∷ 4 ∷ 4 ∷ 1000 ∷ 4 ∷ 1 ∷ replicate 25 0)
 changed (c ∷ cs) = set (changed cs) (place (c .0)) (c .1)
+
+-- the changes that make it the lane that never had settings
+abbrev unopened : List (Field × ℕ)
+unopened = (opened, 0) ∷ (mode, 0) ∷ («min_steps», 0) ∷ («gap_steps», 0) ∷ («pre_timeout», 0) ∷ («long_steps», 0) ∷ («max_pulses», 0) ∷ []
 
 -- refusal 4 of the lane that is changed so
 unfoldable pub passes : List (Field × ℕ) → Bool
-unfolding laneOk openedOk settingsOk burstOk frameOk leadOk candOk laneOf le ofBits
+unfolding laneOk openedOk settingsOk unsetOk burstOk frameOk leadOk candOk laneOf le ofBits toBits
 passes cs = laneOk (laneOf (changed cs))
 
 -- ---- the table
@@ -169,9 +182,20 @@ others =
     ∷ ((phase, 2) ∷ («lead_n», 7) ∷ [], true)
     ∷ ((phase, 1) ∷ («fsk_cand», 2) ∷ [], true)
     ∷ ((phase, 2) ∷ («fsk_phase», 1) ∷ («fsk_cand», 2) ∷ [], true)
-    -- a lane that never had settings is idle, and its settings are not read
-    ∷ ((opened, 0) ∷ (mode, 3) ∷ [], true)
-    ∷ ((opened, 0) ∷ (phase, 1) ∷ [], false)
+    -- a lane that never had settings is idle and has none, not even a -0
+    ∷ (unopened, true)
+    ∷ ((phase, 1) ∷ unopened, false)
+    ∷ ((opened, 0) ∷ [], false)
+    ∷ ((mode, 1) ∷ unopened, false)
+    ∷ ((«min_steps», 1) ∷ unopened, false)
+    ∷ ((«gap_steps», 1) ∷ unopened, false)
+    ∷ ((«pre_timeout», 1) ∷ unopened, false)
+    ∷ ((«long_steps», 1) ∷ unopened, false)
+    ∷ ((«max_pulses», 1) ∷ unopened, false)
+    ∷ ((alpha, 1) ∷ unopened, false)
+    ∷ ((«gap_ratio», 1) ∷ unopened, false)
+    ∷ ((«fsk_delta», 1) ∷ unopened, false)
+    ∷ ((«fsk_split», 0x8000_0000) ∷ unopened, false)
     -- the lower ends of the domain; that of gap_steps is no other than that of pre_timeout
     ∷ ((«min_steps», 0) ∷ [], false)
     ∷ ((«pre_timeout», 0) ∷ [], false)

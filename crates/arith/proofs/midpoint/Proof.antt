@@ -1,9 +1,19 @@
--- `arith::midpoint` meets its contract: what the calls ensure, one after the other. Assumes nothing.
+-- `arith::midpoint` meets its contract: what the calls ensure, one after the other; widening changes neither operand. Assumes nothing.
+use mathlib.Core.Path.{sym, _∙_, subst}
+use lib.Dec.{T}
+use Rattle.arith.proofs.Widening.{widen-keeps}
 use Rattle.arith.specs.Leaves.{midpointOf}
 use borrow.Author.Needs.{needs}
 use Rattle.arith.proofs.midpoint.Statement.{statement}
 use Rattle.arith.proofs.midpoint.Tie as tie
 
-pub midpoint-spec : {M : Type 1} → statement M
+returns : tie.Need-returns
 unfolding midpointOf
-midpoint-spec = tie.close (tie.spec (search needs) (search needs) (search needs) (λ c. cc))
+returns c =
+    let s = c .before .before .before in
+    let a = c .before .before .widen .ensures ∙ widen-keeps _ (subst T (sym (s .good .0 .1)) tt) in
+    let b = c .before .widen2 .ensures ∙ widen-keeps _ (subst T (sym (s .good .1 .0 .1)) tt) in
+    simp (← a, ← b, ← c .narrow .ensures)
+
+pub midpoint-spec : {M : Type 1} → statement M
+midpoint-spec = tie.close (tie.spec (search needs) (search needs) (search needs) returns)

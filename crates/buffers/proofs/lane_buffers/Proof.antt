@@ -1,5 +1,5 @@
 -- `buffers::lane_buffers` meets its contract: the block is the whole stream. Assumes nothing.
-use Rattle.buffers.specs.Left.{left-whole}
+use Rattle.buffers.specs.Left.{left-within}
 use borrow.Author.Needs.{needs}
 use Rattle.buffers.proofs.lane_buffers.Statement.{statement}
 use Rattle.buffers.proofs.lane_buffers.Tie as tie
@@ -22,7 +22,7 @@ same-length-3 c = search needs
 returns : tie.Need-returns
 returns c =
     let r = c .before .before .before .before .before .before .block in
-    left-whole _ _ _ _ _ _ _ _ (c .before .before .before .before .before .before .before .before .before .before .new-lane .ensures) (r .ensures .inside) (r .ensures .left)
+    left-within _ _ _ _ _ _ _ _ _ (c .before .before .before .before .before .before .before .before .before .before .new-lane .ensures) (r .ensures)
 
 pub lane-buffers-spec : {M : Type 1} → statement M
 lane-buffers-spec =

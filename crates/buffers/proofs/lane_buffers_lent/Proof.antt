@@ -1,6 +1,6 @@
 -- `buffers::lane_buffers_lent` meets its contract: each turn is one command more. Assumes nothing.
 use Prim.Native.Nat.{ℕ, _+_, _-_, _≤_}
-use mathlib.Core.Path.{_≡_, refl, ap, _∙_}
+use mathlib.Core.Path.{_≡_, refl, sym, ap, _∙_}
 use mathlib.Core.List.{List}
 use native.Mathlib.Omega.{arith}
 use lib.ListN.{length, drop, length-drop}
@@ -8,7 +8,7 @@ use Rattle.commands.specs.declared.Command.{Command}
 use Rattle.commands.specs.Command.{decoded, sizeOf}
 use Rattle.commands.specs.Stream.{size-fits}
 use Rattle.turns.specs.Stream.{Turns, none}
-use Rattle.buffers.specs.Left.{left, one-more}
+use Rattle.buffers.specs.Left.{left-whole, none-left, one-more}
 use borrow.Author.Needs.{needs}
 use Rattle.buffers.proofs.lane_buffers_lent.Statement.{statement}
 use Rattle.buffers.proofs.lane_buffers_lent.Tie as tie
@@ -61,7 +61,8 @@ same-length-2 c = search needs
 returns : tie.Need-returns Inv-loop μ-loop
 returns c =
     let v = c .before .loop in
-    left _ _ _ _ _ _ _ _ (c .before .before .new-lane .ensures) (v .inv .0) (v .inv .3)
+    left-whole (c .before .before .before .before .before .before .args .commands .now) (v .used) _ _ _ _ _ _ (c .before .before .new-lane .ensures) (v .inv .0) (v .inv .3)
+    (none-left (c .before .before .before .before .before .before .args .commands .now) (v .used) (omega (arith, c .loop-test .left)))
 
 same-length-3 : tie.Need-same-length-3 Inv-loop μ-loop
 same-length-3 c = search needs
@@ -72,7 +73,8 @@ same-length-4 c = search needs
 returns-2 : tie.Need-returns-2 Inv-loop μ-loop
 returns-2 c =
     let v = c .before .before .before .before .loop in
-    left _ _ _ _ _ _ _ _ (c .before .before .before .before .before .new-lane .ensures) (v .inv .0) (v .inv .3)
+    left-whole _ (v .used) _ _ _ _ _ _ (c .before .before .before .before .before .new-lane .ensures) (v .inv .0) (v .inv .3)
+    (ap sizeOf (sym (c .before .before .decode-at .ensures)) ∙ sym (c .before .size-of .ensures) ∙ c .if1 .taken)
 
 pub lane-buffers-lent-spec : {M : Type 1} → statement M
 lane-buffers-lent-spec =

@@ -1,4 +1,4 @@
--- `host::widths_in` meets its contract. It calls itself with a longer buffer, of at most 131,072 slots. Assumes nothing.
+-- `host::widths_in` meets its contract. It calls itself with a longer buffer, of at most maxSlots slots. Assumes nothing.
 use Prim.Native.Nat.{ℕ, _*_, _-_, _<_}
 use borrow.Author.Needs.{needs}
 use lib.ListN.{length}
@@ -6,6 +6,7 @@ use lib.Seq.{length-take-le}
 use mathlib.Core.Path.{sym, ap, _∙_}
 use borrow.Fn.Kinds.{In}
 use borrow.Fn.PlainCycle.{Measures, is, falls, and}
+use Rattle.domain.specs.Limits.{maxSlots}
 use Rattle.host.proofs.widths_in.Reads as widths-in
 use Rattle.host.proofs.widths_in.Kinds as widths-in-kinds
 use Rattle.host.proofs.+widths_in.Lts-widths_in as widths-in-lts
@@ -15,7 +16,7 @@ use Rattle.host.proofs.+widths_in.{statement}
 use Rattle.host.proofs.+widths_in.Tie.{close}
 
 abbrev μ-widths-in : Measures 2 widths-in-kinds.ps ℕ
-μ-widths-in κs a = 131072 - length (a .1 .0 .now)
+μ-widths-in κs a = maxSlots - length (a .1 .0 .now)
 
 abbrev widths-in-at : ℕ → In 2 widths-in-kinds.ps
 widths-in-at t = and 2 widths-in-kinds.ps (is 2 widths-in-kinds.ps μ-widths-in t) widths-in.Pre

@@ -1,50 +1,18 @@
+-- `listing::fill` meets its contract: a read leaves the bytes before its place. Assumes nothing.
 use native.Mathlib.Omega.{arith}
 use Rattle.listing.proofs.Laws.{front}
 use borrow.Author.Needs.{needs}
 use Rattle.listing.proofs.fill.Statement.{statement}
 use Rattle.listing.proofs.fill.Tie as tie
 
-sub-read : tie.Need-sub-read
-sub-read c = search needs
-
-part-read-start : tie.Need-part-read-start
-part-read-start c = search needs
-
-part-read-end : tie.Need-part-read-end
-part-read-end c = search needs
-
-read-requires : tie.Need-read-requires
-read-requires c κs = search needs
-
-sub-count : tie.Need-sub-count
-sub-count c = search needs
-
-part-count-start : tie.Need-part-count-start
-part-count-start c = search needs
-
-part-count-end : tie.Need-part-count-end
-part-count-end c = search needs
-
-count-requires : tie.Need-count-requires
-count-requires c κs = search needs
-
-same-length : tie.Need-same-length
-same-length c = search needs
-
 returns : tie.Need-returns
-returns c = (search needs, front (c .before .before .before .before .before .before .before .before .args .have) (c .before .before .before .before .before .before .before .before .args .buf .now) _ (omega arith))
+returns c = record { inside = search needs; front = front (c .before .before .before .before .before .before .before .before .args .have) (c .before .before .before .before .before .before .before .before .args .buf .now) _ (omega arith) }
+
+returns-2 : tie.Need-returns-2
+returns-2 c = record { inside = search needs; front = front (c .before .before .before .before .before .before .before .before .before .args .have) (c .before .before .before .before .before .before .before .before .before .args .buf .now) _ (omega arith) }
 
 pub fill-spec : {M : Type 1} → statement M
 fill-spec =
     tie.close
-    (tie.spec
-    sub-read
-    part-read-start
-    part-read-end
-    read-requires
-    sub-count
-    part-count-start
-    part-count-end
-    count-requires
-    same-length
-    returns)
+    (tie.spec (search needs) (search needs) (search needs) (search needs) (search needs) (search needs) (search needs) returns
+    (search needs) (search needs) (search needs) (search needs) (search needs) returns-2)

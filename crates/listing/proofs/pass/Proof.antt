@@ -1,87 +1,26 @@
+-- `listing::pass` meets its contract: it feeds what was left and what came. Assumes nothing.
+use mathlib.Core.Path.{refl}
 use native.Mathlib.Omega.{arith}
 use lib.ListN.{length-take}
+use Rattle.listing.proofs.Laws.{passes}
 use borrow.Author.Needs.{needs}
 use Rattle.listing.proofs.pass.Statement.{statement}
 use Rattle.listing.proofs.pass.Tie as tie
 
-read-more-requires : tie.Need-read-more-requires
-read-more-requires c κs = search needs
-
-add-end : tie.Need-add-end
-add-end c = search needs
-
-slice-reshare-prefix-block : tie.Need-slice-reshare-prefix-block
-slice-reshare-prefix-block c = search needs
-
-slice-aggregate-block : tie.Need-slice-aggregate-block
-slice-aggregate-block c = simp length-take (omega arith)
-
-block-requires : tie.Need-block-requires
-block-requires c κs = search needs
-
-slice-reshare-prefix-write-all : tie.Need-slice-reshare-prefix-write-all
-slice-reshare-prefix-write-all c = search needs
-
-slice-aggregate-write-all : tie.Need-slice-aggregate-write-all
-slice-aggregate-write-all c = simp length-take (omega (arith, c .before .before .before .before .before .before .before .before .block .ensures .room))
-
-write-all-requires : tie.Need-write-all-requires
-write-all-requires c κs = search needs
-
-shift-requires : tie.Need-shift-requires
-shift-requires c κs =
-    (omega (arith, simp length-take at (c .before .before .before .before .before .before .before .before .before .before .block .ensures .inside)), omega (arith, c .before .before .before .before .before .before .before .before .before .before .before .before .before .before .before .before .before .read-more .ensures .0))
+slice-aggregate-put : tie.Need-slice-aggregate-put
+slice-aggregate-put c = simp length-take (omega (arith, c .before .before .before .before .before .before .before .before .before .feed .ensures .at-is, c .before .before .before .before .before .before .before .before .before .feed .ensures .block .room))
 
 same-length : tie.Need-same-length
-same-length c = search needs
-
-same-length-2 : tie.Need-same-length-2
-same-length-2 c = search needs
-
-same-length-3 : tie.Need-same-length-3
-same-length-3 c = search needs
-
-same-length-4 : tie.Need-same-length-4
-same-length-4 c = search needs
+same-length c = omega (arith, c .before .before .before .before .before .before .before .before .before .before .before .feed .kept, c .before .before .before .before .before .before .before .before .before .before .before .before .before .before .before .before .before .before .before .before .read-more .kept)
 
 returns : tie.Need-returns
-returns c = search needs
-
-same-length-5 : tie.Need-same-length-5
-same-length-5 c = search needs
-
-same-length-6 : tie.Need-same-length-6
-same-length-6 c = search needs
-
-same-length-7 : tie.Need-same-length-7
-same-length-7 c = search needs
-
-same-length-8 : tie.Need-same-length-8
-same-length-8 c = search needs
-
-returns-2 : tie.Need-returns-2
-returns-2 c = search needs
+returns c =
+    let a = c .before .before .before .before .before .before .before .before .before .before .before .before .before .before .before .before .before .before .before .before .before .before .before .before .before .before .before .before .args in
+    let i = c .before .before .before .before .before .before .before .before .before .before .before .before .before .before .before .before .before .before .before .before .read-more in
+    passes (a .p) _ (i .result) (a .buf .now) _ _ _ _ _ _ _ _ (i .ensures .0) (i .ensures .1) refl refl (c .before .before .before .before .before .before .before .before .before .before .before .feed .ensures)
 
 pub pass-spec : {M : Type 1} → statement M
 pass-spec =
     tie.close
-    (tie.spec
-    read-more-requires
-    add-end
-    slice-reshare-prefix-block
-    slice-aggregate-block
-    block-requires
-    slice-reshare-prefix-write-all
-    slice-aggregate-write-all
-    write-all-requires
-    shift-requires
-    same-length
-    same-length-2
-    same-length-3
-    same-length-4
-    returns
-    same-length-5
-    same-length-6
-    same-length-7
-    same-length-8
-    returns-2)
+    (tie.spec (search needs) (search needs) (search needs) (search needs) slice-aggregate-put (search needs) same-length (search needs)
+    (search needs) (search needs) returns)

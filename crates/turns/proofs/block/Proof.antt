@@ -1,173 +1,154 @@
-use mathlib.Core.Logic.{inl, inr}
-use borrow.Author.Tests.{not-true, not-false}
-use Rattle.turns.specs.Laws.{least-some}
-use Rattle.lines.specs.Line.{hasRoom}
-use Rattle.lines.specs.Room.{larger-left, larger-right}
+-- `turns::block` meets its contract: each turn is the command at its place, and the steady steps after it print nothing. Assumes nothing.
 use Prim.Native.Nat.{ℕ, _-_, _≤_}
 use mathlib.Core.Path.{_≡_, refl, sym, ap, _∙_}
 use mathlib.Core.Bool.{false}
 use mathlib.Core.List.{List, _++_}
 use native.Mathlib.Omega.{arith}
 use lib.ListN.{length, take, drop}
+use borrow.Author.Tests.{not-true, not-false}
 use borrow.Author.Needs.{needs}
-use Rattle.turns.specs.Stream.{May, listing, Turns, none, again, leads, leads-nowhere, ends, stays}
+use Rattle.lines.specs.Line.{hasRoom}
+use Rattle.turns.specs.Turn.{waits}
+use Rattle.turns.specs.Laws.{too-few-left}
+use Rattle.turns.specs.Stream.{May, listing, Turns, none, ends, waiting, no-room, something, again, leads, leads-nowhere, within, no-more, over, none-left, stays}
 use Rattle.turns.proofs.block.Statement.{statement}
 use Rattle.turns.proofs.block.Tie as tie
 
 abbrev Inv-loop : tie.InvT-loop
-Inv-loop s last ook₀ fsk₀ text₀ least most l₀ used₀ at₀ ended₀ ook fsk text l used at ended =
+Inv-loop s last ook₀ fsk₀ text₀ l₀ used₀ at₀ ended₀ full₀ ook fsk text l used at ended full =
     (used ≤ length s) × (at ≤ length text) × (length text ≡ length text₀) × (length ook ≡ length ook₀) × (length fsk ≡ length fsk₀)
-    × (ended ≡ false)
+    × (ended ≡ false) × (full ≡ false)
     × ((t : List ℕ) → May last t → take at text ++ listing (l, ook, fsk) (drop used s ++ t) ≡ listing (l₀, ook₀, fsk₀) (s ++ t))
     × ((t : List ℕ) → May last t → Turns (l₀, ook₀, fsk₀) (s ++ t) used (l, ook, fsk))
 
 abbrev μ-loop : tie.MeasureT-loop
-μ-loop s last ook₀ fsk₀ text₀ least most l₀ used₀ at₀ ended₀ ook fsk text l used at ended = length s - used
-
-least-of-requires : tie.Need-least-of-requires Inv-loop μ-loop
-least-of-requires c κs = search needs
-
-larger-requires : tie.Need-larger-requires Inv-loop μ-loop
-larger-requires c κs = search needs
+μ-loop s last ook₀ fsk₀ text₀ l₀ used₀ at₀ ended₀ full₀ ook fsk text l used at ended full = length s - used
 
 loop-holds : tie.Need-loop-holds Inv-loop μ-loop
-loop-holds c = (search needs, search needs, refl, refl, refl, refl, λ t may. refl, λ t may. none)
-
-sub-loop : tie.Need-sub-loop Inv-loop μ-loop
-sub-loop c = search needs
-
-has-room-requires : tie.Need-has-room-requires Inv-loop μ-loop
-has-room-requires c κs = search needs
+loop-holds c = (search needs, search needs, refl, refl, refl, refl, refl, λ t may. refl, λ t may. none)
 
 turn-requires : tie.Need-turn-requires Inv-loop μ-loop
 turn-requires c κs =
-    let a = c .before .before .before .before .before .before .before .before .before .before .before .before .before .args in (
-      omega (arith, least-some (a .last)),
-      omega (arith, larger-left (length (a .ook .now)) (length (a .fsk .now))),
-      omega (arith, larger-right (length (a .ook .now)) (length (a .fsk .now))),
-      sym (c .before .before .before .before .has-room .ensures) ∙ not-false _ (c .before .before .before .if1 .left),
+    let v = c .before .before .before .before .before .before .before .before .before .before .loop in (
+      something (c .before .before .before .before .before .before .before .before .before .before .before .before .before .before .before .args .last) (c .before .before .before .before .before .before .before .before .decode-at .result) (sym (c .before .before .before .before .before .before .before .waits .ensures) ∙ c .before .before .before .before .before .before .if1 .left),
+      ap (λ (n : ℕ). hasRoom n (length (v .text)) (v .at)) (sym (c .before .before .before .before .before .most-of .ensures)) ∙ sym (c .before .before .before .before .has-room .ensures) ∙ not-false _ (c .before .before .before .if2 .left),
     )
 
+-- the bytes of a turn are there
 add-used : tie.Need-add-used Inv-loop μ-loop
-add-used c = record { fits = omega (arith, c .before .before .before .before .before .before .before .before .before .before .turn .ensures .inside, c .before .before .before .before .before .before .before .before .before .before .before .before .before .before .before .before .before .before .before .before .before .before .before .before .good .1) }
+add-used c =
+    let v = c .before .before .before .before .before .before .before .before .before .before .before .before .before .before .before .before .before .before .before .before .before .loop in
+    let a = c .before .before .before .before .before .before .before .before .before .before .before .before .before .before .before .before .before .before .before .before .before .before .before .before .before .before .args in
+    record {
+      fits = omega (
+        arith,
+        c .before .before .before .before .before .before .before .before .before .before .before .before .before .before .before .before .before .before .before .before .before .before .before .before .before .before .good .1,
+        within (a .last) (v .l, v .ook, v .fsk) _ (a .s .now) (v .text) (v .used) (v .at) _ _ (v .inv .0)
+            (c .before .before .before .before .before .before .before .before .before .before .before .before .before .before .before .before .before .before .before .decode-at .ensures) (sym (c .before .before .before .before .before .before .before .before .before .before .before .before .before .before .before .before .before .before .waits .ensures) ∙ c .before .before .before .before .before .before .before .before .before .before .before .before .before .before .before .before .before .if1 .left) (c .before .before .before .before .before .before .before .before .before .before .turn .ensures),
+      );
+    }
 
 steady-steps-requires : tie.Need-steady-steps-requires Inv-loop μ-loop
-steady-steps-requires c κs = c .before .before .before .before .before .before .before .before .before .before .before .before .turn .ensures .inside
+steady-steps-requires c κs =
+    let v = c .before .before .before .before .before .before .before .before .before .before .before .before .before .before .before .before .before .before .before .before .before .before .before .loop in
+    let a = c .before .before .before .before .before .before .before .before .before .before .before .before .before .before .before .before .before .before .before .before .before .before .before .before .before .before .before .before .args in
+    within (a .last) (v .l, v .ook, v .fsk) _ (a .s .now) (v .text) (v .used) (v .at) _ _ (v .inv .0)
+    (c .before .before .before .before .before .before .before .before .before .before .before .before .before .before .before .before .before .before .before .before .before .decode-at .ensures) (sym (c .before .before .before .before .before .before .before .before .before .before .before .before .before .before .before .before .before .before .before .before .waits .ensures) ∙ c .before .before .before .before .before .before .before .before .before .before .before .before .before .before .before .before .before .before .before .if1 .left) (c .before .before .before .before .before .before .before .before .before .before .before .before .turn .ensures)
 
 loop-less : tie.Need-loop-less Inv-loop μ-loop
-loop-less c = omega (arith, c .before .before .before .steady-steps .ensures .onward, c .before .before .before .before .before .before .before .if2 .left)
+loop-less c = omega (arith, c .before .before .before .steady-steps .ensures .onward, c .before .before .before .before .before .before .before .if3 .left, c .before .before .before .before .before .before .before .before .before .before .before .before .before .before .before .before .before .before .before .before .before .before .before .before .before .before .loop-test .taken)
 
 loop-again : tie.Need-loop-again Inv-loop μ-loop
 loop-again c =
-    let v = c .before .before .before .before .before .before .before .before .before .before .before .before .before .before .before .before .before .before .before .before .before .before .before .loop in
-    let a = c .before .before .before .before .before .before .before .before .before .before .before .before .before .before .before .before .before .before .before .before .before .before .before .before .before .before .before .before .before .before .args in
+    let v = c .before .before .before .before .before .before .before .before .before .before .before .before .before .before .before .before .before .before .before .before .before .before .before .before .before .before .before .loop in
+    let a = c .before .before .before .before .before .before .before .before .before .before .before .before .before .before .before .before .before .before .before .before .before .before .before .before .before .before .before .before .before .before .before .before .args in
     let turn = c .before .before .before .before .before .before .before .before .before .before .before .before .before .before .before .before .turn in
-    let steady = c .before .before .before .steady-steps in (
+    let steady = c .before .before .before .steady-steps in
+    let is = c .before .before .before .before .before .before .before .before .before .before .before .before .before .before .before .before .before .before .before .before .before .before .before .before .before .decode-at .ensures in
+    let ready : waits (a .last) (c .before .before .before .before .before .before .before .before .before .before .before .before .before .before .before .before .before .before .before .before .before .before .before .before .before .decode-at .result) ≡ false = sym (c .before .before .before .before .before .before .before .before .before .before .before .before .before .before .before .before .before .before .before .before .before .before .before .before .waits .ensures) ∙ c .before .before .before .before .before .before .before .before .before .before .before .before .before .before .before .before .before .before .before .before .before .before .before .if1 .left in (
       steady .ensures .inside,
-      omega (arith, turn .ensures .near, turn .kept .1 .1 .1 .1 .1 .1 .0),
-      omega (arith, v .inv .2, turn .kept .1 .1 .1 .1 .1 .1 .0),
-      omega arith,
-      omega (arith, v .inv .4, turn .kept .1 .1 .1 .1 .0, steady .kept .1 .1 .1 .1 .0),
+      omega (arith, turn .ensures .near, turn .kept .1 .1 .1 .1 .0),
+      omega (arith, v .inv .2, turn .kept .1 .1 .1 .1 .0),
+      omega (arith, v .inv .3, turn .kept .1 .1 .0),
+      omega (arith, v .inv .4, turn .kept .1 .1 .1 .0, steady .kept .1 .1 .1 .1 .0),
       v .inv .5,
-      λ t may. again (a .last) _ _ (a .s .now) (v .text) _ (v .used) (v .at) _ (c .before .before .before .before .before .before .before .before .before .before .before .before .before .before .before .before .before .before .before .before .before .before .before .before .before .least-of .ensures) (v .inv .0)
-          (c .before .before .before .before .before .before .before .before .before .before .before .before .before .before .before .before .before .before .before .before .before .before .loop-test .taken) (turn .ensures) (c .before .before .before .before .before .before .before .if2 .left) t _ may (steady .ensures .same t) (v .inv .6 t may),
+      v .inv .6,
+      λ t may. again (a .last) _ _ (a .s .now) (v .text) (v .used) (v .at) _ _ (v .inv .0) is ready (turn .ensures) (c .before .before .before .before .before .before .before .if3 .left) t _ may
+          (steady .ensures .same t) (v .inv .7 t may),
       λ t may. steady .ensures .left _ t
-          (leads (a .last) _ _ (a .s .now) (v .text) _ (v .used) (v .at) _ (c .before .before .before .before .before .before .before .before .before .before .before .before .before .before .before .before .before .before .before .before .before .before .before .before .before .least-of .ensures) (v .inv .0)
-          (c .before .before .before .before .before .before .before .before .before .before .before .before .before .before .before .before .before .before .before .before .before .before .loop-test .taken) (turn .ensures) (c .before .before .before .before .before .before .before .if2 .left) t may (v .inv .7 t may)),
+          (leads (a .last) _ _ (a .s .now) (v .text) (v .used) (v .at) _ _ (v .inv .0) is ready (turn .ensures) (c .before .before .before .before .before .before .before .if3 .left) t may (v .inv .8 t may)),
     )
 
-same-length : tie.Need-same-length Inv-loop μ-loop
-same-length c = search needs
-
-same-length-2 : tie.Need-same-length-2 Inv-loop μ-loop
-same-length-2 c = search needs
-
-same-length-3 : tie.Need-same-length-3 Inv-loop μ-loop
-same-length-3 c = search needs
-
+-- all bytes are used
 returns : tie.Need-returns Inv-loop μ-loop
 returns c =
     let v = c .before .loop in
-    let a = c .before .before .before .before .before .before .before .before .args in
+    let a = c .before .before .before .before .before .before .args in
     record {
       inside = v .inv .0;
       room = v .inv .1;
-      printed = λ t may. stays (v .ended) (take (v .at) (v .text)) (listing (v .l, v .ook, v .fsk) (drop (v .used) (a .s .now) ++ t)) _ (v .inv .5) (v .inv .6 t may);
-      left = v .inv .7;
-      stopped = inr (inl (omega (arith, c .before .before .before .least-of .ensures)));
+      printed = λ t may. stays (v .ended) (take (v .at) (v .text)) (listing (v .l, v .ook, v .fsk) (drop (v .used) (a .s .now) ++ t)) _ (v .inv .5) (v .inv .7 t may);
+      left = v .inv .8;
+      stopped = waiting (v .inv .5) (v .inv .6) (none-left (a .last) (a .s .now) (v .used) (omega (arith, c .loop-test .left)));
     }
 
-same-length-4 : tie.Need-same-length-4 Inv-loop μ-loop
-same-length-4 c = search needs
-
-same-length-5 : tie.Need-same-length-5 Inv-loop μ-loop
-same-length-5 c = search needs
-
-same-length-6 : tie.Need-same-length-6 Inv-loop μ-loop
-same-length-6 c = search needs
-
+-- the next command waits
 returns-2 : tie.Need-returns-2 Inv-loop μ-loop
 returns-2 c =
-    let v = c .before .before .before .loop in
-    let a = c .before .before .before .before .before .before .before .before .before .before .args in
+    let v = c .before .before .before .before .loop in
+    let a = c .before .before .before .before .before .before .before .before .before .args in
     record {
       inside = v .inv .0;
       room = v .inv .1;
-      printed = λ t may. stays (v .ended) (take (v .at) (v .text)) (listing (v .l, v .ook, v .fsk) (drop (v .used) (a .s .now) ++ t)) _ (v .inv .5) (v .inv .6 t may);
-      left = v .inv .7;
-      stopped = inr (inr
-          (ap (λ (n : ℕ). hasRoom n (length (v .text)) (v .at)) (sym (c .before .before .before .before .larger .ensures))
-          ∙ sym (c .before .has-room .ensures) ∙ not-true _ (c .if1 .taken)));
+      printed = λ t may. stays (v .ended) (take (v .at) (v .text)) (listing (v .l, v .ook, v .fsk) (drop (v .used) (a .s .now) ++ t)) _ (v .inv .5) (v .inv .7 t may);
+      left = v .inv .8;
+      stopped = waiting (v .inv .5) (v .inv .6) (ap (waits (a .last)) (sym (c .before .before .decode-at .ensures)) ∙ sym (c .before .waits .ensures) ∙ c .if1 .taken);
     }
 
-same-length-7 : tie.Need-same-length-7 Inv-loop μ-loop
-same-length-7 c = omega (arith, c .before .before .before .before .before .before .before .before .before .turn .kept .1 .1 .1 .0, c .before .before .before .before .before .before .before .before .before .before .before .before .before .before .before .before .loop .inv .3)
-
-same-length-8 : tie.Need-same-length-8 Inv-loop μ-loop
-same-length-8 c = omega (arith, c .before .before .before .before .before .before .before .before .before .turn .kept .1 .1 .1 .1 .0, c .before .before .before .before .before .before .before .before .before .before .before .before .before .before .before .before .loop .inv .4)
-
-same-length-9 : tie.Need-same-length-9 Inv-loop μ-loop
-same-length-9 c = omega (arith, c .before .before .before .before .before .before .before .before .before .turn .kept .1 .1 .1 .1 .1 .1 .0, c .before .before .before .before .before .before .before .before .before .before .before .before .before .before .before .before .loop .inv .2)
-
+-- the text has no room
 returns-3 : tie.Need-returns-3 Inv-loop μ-loop
 returns-3 c =
-    let v = c .before .before .before .before .before .before .before .before .before .before .before .before .before .before .before .before .loop in
-    let a = c .before .before .before .before .before .before .before .before .before .before .before .before .before .before .before .before .before .before .before .before .before .before .before .args in
+    let v = c .before .before .before .before .before .before .before .loop in
+    let a = c .before .before .before .before .before .before .before .before .before .before .before .before .args in
     record {
       inside = v .inv .0;
-      room = omega (arith, c .before .before .before .before .before .before .before .before .before .turn .ensures .near);
-      printed = λ t may. ends (a .last) _ _ (a .s .now) (v .text) _ (v .used) (v .at) _ (c .before .before .before .before .before .before .before .before .before .before .before .before .before .before .before .before .before .before .least-of .ensures) (v .inv .0)
-          (c .before .before .before .before .before .before .before .before .before .before .before .before .before .before .before .loop-test .taken) (c .before .before .before .before .before .before .before .before .before .turn .ensures) (c .if2 .taken) t may (v .inv .6 t may);
-      left = λ t may. leads-nowhere (a .last) _ _ (a .s .now) (v .text) _ (v .used) (v .at) _ (c .before .before .before .before .before .before .before .before .before .before .before .before .before .before .before .before .before .before .least-of .ensures) (v .inv .0)
-          (c .before .before .before .before .before .before .before .before .before .before .before .before .before .before .before .loop-test .taken) (c .before .before .before .before .before .before .before .before .before .turn .ensures) (c .if2 .taken) t (v .inv .7 t may);
-      stopped = inl refl;
+      room = v .inv .1;
+      printed = λ t may. stays (v .ended) (take (v .at) (v .text)) (listing (v .l, v .ook, v .fsk) (drop (v .used) (a .s .now) ++ t)) _ (v .inv .5) (v .inv .7 t may);
+      left = v .inv .8;
+      stopped = no-room (v .inv .5) refl (ap (waits (a .last)) (sym (c .before .before .before .before .before .decode-at .ensures)) ∙ sym (c .before .before .before .before .waits .ensures) ∙ c .before .before .before .if1 .left)
+          (too-few-left (v .l, v .ook, v .fsk) (length (v .text)) (v .at) (v .inv .1)
+          (ap (λ (n : ℕ). hasRoom n (length (v .text)) (v .at)) (sym (c .before .before .most-of .ensures)) ∙ sym (c .before .has-room .ensures) ∙ not-true _ (c .if2 .taken)));
+    }
+
+same-length-10 : tie.Need-same-length-10 Inv-loop μ-loop
+same-length-10 c = omega (arith, c .before .before .before .before .before .before .before .before .before .turn .kept .1 .1 .0, c .before .before .before .before .before .before .before .before .before .before .before .before .before .before .before .before .before .before .before .before .loop .inv .3)
+
+same-length-11 : tie.Need-same-length-11 Inv-loop μ-loop
+same-length-11 c = omega (arith, c .before .before .before .before .before .before .before .before .before .turn .kept .1 .1 .1 .0, c .before .before .before .before .before .before .before .before .before .before .before .before .before .before .before .before .before .before .before .before .loop .inv .4)
+
+same-length-12 : tie.Need-same-length-12 Inv-loop μ-loop
+same-length-12 c = omega (arith, c .before .before .before .before .before .before .before .before .before .turn .kept .1 .1 .1 .1 .0, c .before .before .before .before .before .before .before .before .before .before .before .before .before .before .before .before .before .before .before .before .loop .inv .2)
+
+-- the stream ends
+returns-4 : tie.Need-returns-4 Inv-loop μ-loop
+returns-4 c =
+    let v = c .before .before .before .before .before .before .before .before .before .before .before .before .before .before .before .before .before .before .before .before .loop in
+    let a = c .before .before .before .before .before .before .before .before .before .before .before .before .before .before .before .before .before .before .before .before .before .before .before .before .before .args in
+    let turn = c .before .before .before .before .before .before .before .before .before .turn in
+    let is = c .before .before .before .before .before .before .before .before .before .before .before .before .before .before .before .before .before .before .decode-at .ensures in
+    let ready : waits (a .last) (c .before .before .before .before .before .before .before .before .before .before .before .before .before .before .before .before .before .before .decode-at .result) ≡ false = sym (c .before .before .before .before .before .before .before .before .before .before .before .before .before .before .before .before .before .waits .ensures) ∙ c .before .before .before .before .before .before .before .before .before .before .before .before .before .before .before .before .if1 .left in
+    record {
+      inside = v .inv .0;
+      room = omega (arith, turn .ensures .near, turn .kept .1 .1 .1 .1 .0);
+      printed = λ t may. over (a .last) _ _ (a .s .now) (v .text) (v .used) (v .at) _ _ (v .inv .0) is ready (turn .ensures) (c .if3 .taken) t may (v .inv .7 t may);
+      left = λ t may. leads-nowhere (a .last) _ _ (a .s .now) (v .text) (v .used) (v .at) _ _ (v .inv .0) is ready (turn .ensures) (c .if3 .taken) t (v .inv .8 t may);
+      stopped = ends refl (v .inv .6) (ap (waits (a .last)) (sym is) ∙ ready)
+          (no-more (a .last) (v .l, v .ook, v .fsk) _ (a .s .now) (v .text) (v .used) (v .at) _ _ (v .inv .0) is ready (turn .ensures) (c .if3 .taken));
     }
 
 pub block-spec : {M : Type 1} → statement M
 block-spec =
     tie.close
-    (tie.spec
-    Inv-loop
-    μ-loop
-    least-of-requires
-    larger-requires
-    loop-holds
-    sub-loop
-    has-room-requires
-    turn-requires
-    add-used
-    steady-steps-requires
-    loop-less
-    loop-again
-    same-length
-    same-length-2
-    same-length-3
-    returns
-    same-length-4
-    same-length-5
-    same-length-6
-    returns-2
-    same-length-7
-    same-length-8
-    same-length-9
-    returns-3)
+    (tie.spec Inv-loop μ-loop loop-holds (search needs) (search needs) (search needs) (search needs) turn-requires add-used
+    steady-steps-requires loop-less loop-again (search needs) (search needs) (search needs) returns (search needs) (search needs) (search needs)
+    returns-2 (search needs) (search needs) (search needs) returns-3 same-length-10 same-length-11 same-length-12 returns-4)

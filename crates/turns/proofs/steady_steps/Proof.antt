@@ -6,10 +6,11 @@ use native.Mathlib.Omega.{arith}
 use lib.ListN.{length, drop}
 use borrow.Author.Tests.{not-true, not-false}
 use borrow.Author.Needs.{needs}
+use Rattle.ook.specs.Tests.{both-true}
 use Rattle.lane.specs.Steady.{withRing, sliced-off}
 use Rattle.turns.specs.Turn.{State}
 use Rattle.turns.specs.Stream.{listing, Turns}
-use Rattle.turns.specs.Steady.{Took, steady-again, steady-leads}
+use Rattle.turns.specs.Steady.{Took, step-in, steady-again, steady-leads}
 use Rattle.turns.proofs.steady_steps.Statement.{statement}
 use Rattle.turns.proofs.steady_steps.Tie as tie
 
@@ -24,9 +25,6 @@ abbrev μ-loop : tie.MeasureT-loop
 
 loop-holds : tie.Need-loop-holds Inv-loop μ-loop
 loop-holds c = (omega arith, c .before .before .before .before .pre, refl, λ t. refl, λ o t h. h)
-
-sub-loop : tie.Need-sub-loop Inv-loop μ-loop
-sub-loop c = search needs
 
 decode-at-requires : tie.Need-decode-at-requires Inv-loop μ-loop
 decode-at-requires c κs = search needs
@@ -66,7 +64,6 @@ loop-again c =
       steady = c .before .before .before .before .before .steady-step .result;
       changed = c .before .steadied-lane .result;
       inside = v .inv .1;
-      there = c .before .before .before .before .before .before .before .before .before .loop-test .taken;
       is-command = c .before .before .before .before .before .before .before .before .decode-at .ensures;
       is-steps = c .before .before .before .before .before .before .before .is-step .ensures;
       is-args = c .before .before .before .before .before .before .args-of .ensures;
@@ -76,7 +73,7 @@ loop-again c =
       is-sliced = sym (sliced-off _ _ _ (v .fsk) (not-true _ (c .if2 .taken)));
     } in (
       omega (arith, v .inv .0),
-      omega (arith, took .there),
+      step-in (a .s .now) (v .used) (took .command) (took .inside) (took .is-command) (sym (took .is-steps) ∙ both-true _ _ (took .holds) .0),
       v .inv .2,
       λ t. steady-again (v .l) (v .ring) (a .ook .now) (v .fsk) (a .s .now) t (v .used) _ _ _ took ∙ v .inv .3 t,
       λ o t h. steady-leads (v .l) (v .ring) (a .ook .now) (v .fsk) (a .s .now) t (v .used) o _ _ _ took (v .inv .4 o t h),
@@ -99,7 +96,6 @@ loop-again-2 c =
       steady = c .before .before .before .before .before .before .before .before .before .steady-step .result;
       changed = c .before .before .before .before .before .steadied-lane .result;
       inside = v .inv .1;
-      there = c .before .before .before .before .before .before .before .before .before .before .before .before .before .loop-test .taken;
       is-command = c .before .before .before .before .before .before .before .before .before .before .before .before .decode-at .ensures;
       is-steps = c .before .before .before .before .before .before .before .before .before .before .before .is-step .ensures;
       is-args = c .before .before .before .before .before .before .before .before .before .before .args-of .ensures;
@@ -109,7 +105,7 @@ loop-again-2 c =
       is-sliced = c .before .before .sliced-lane .ensures;
     } in (
       omega (arith, v .inv .0),
-      omega (arith, took .there),
+      step-in (a .s .now) (v .used) (took .command) (took .inside) (took .is-command) (sym (took .is-steps) ∙ both-true _ _ (took .holds) .0),
       omega (arith, v .inv .2, c .before .before .sliced-lane .kept),
       λ t. steady-again (v .l) (v .ring) (a .ook .now) (v .fsk) (a .s .now) t (v .used) _ _ _ took ∙ v .inv .3 t,
       λ o t h. steady-leads (v .l) (v .ring) (a .ook .now) (v .fsk) (a .s .now) t (v .used) o _ _ _ took (v .inv .4 o t h),
@@ -128,7 +124,6 @@ steady-steps-spec =
     Inv-loop
     μ-loop
     loop-holds
-    sub-loop
     decode-at-requires
     is-step-requires
     args-of-requires

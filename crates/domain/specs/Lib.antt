@@ -1,0 +1,2 @@
+-- Document 01's limits by name.
+pub mod Limits

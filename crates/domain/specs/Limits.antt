@@ -1,0 +1,22 @@
+-- Document 01's limits ("Domain" and refusals 4 and 9), each named once: every bound that they give is derived from these names.
+use Prim.Native.Nat.{ℕ, _*_, _^_}
+
+-- max_pulses
+abbrev pub maxPulses : ℕ
+maxPulses = 65536
+
+-- a slot list: a pulse and a gap for each of max_pulses
+abbrev pub maxSlots : ℕ
+maxSlots = 2 * maxPulses
+
+-- min_steps, gap_steps and long_steps
+abbrev pub maxSteps : ℕ
+maxSteps = 2 ^ 24
+
+-- an index
+abbrev pub maxIndex : ℕ
+maxIndex = 2 ^ 40
+
+-- `fsk_cnt` and `fsk_runs`
+abbrev pub maxCount : ℕ
+maxCount = 2 ^ 27

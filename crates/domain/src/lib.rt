@@ -1,0 +1,12 @@
+// Document 01's limits, each named once; specs/Limits has the same numbers.
+
+// The most pulses that a train may be set to hold: `MAX_PULSES` of the Rust.
+pub const MAX_PULSES: u32 = 65_536;
+// The most slots of a list: a pulse and a gap for each of them.
+pub const MAX_SLOTS: usize = 2 * (MAX_PULSES as usize);
+// The most steps of min_steps, gap_steps and long_steps.
+pub const MAX_STEPS: u32 = 1 << 24;
+// The last index of a sample.
+pub const MAX_INDEX: u64 = 1 << 40;
+// The most samples and runs that a frame counts.
+pub const MAX_COUNT: u32 = 1 << 27;

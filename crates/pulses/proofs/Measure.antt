@@ -1,0 +1,197 @@
+-- The yardstick alone, call by call: its burst under way follows the run machine, and one that ends gives what demand 3 asks.
+use mathlib.Core.Path.{_≡_, refl, sym, ap, _∙_, subst}
+use mathlib.Core.Bool.{Bool, true, false, cond, not}
+use mathlib.Core.List.{List, [], _∷_, _++_, append-nil}
+use Prim.Native.Nat.{ℕ, _*_, _≤_}
+use lib.Dec.{ltb, eqb}
+use borrow.Author.Tests.{eqb-true}
+use lib.ListN.{length}
+use lib.Ieee.{Float}
+use Rattle.arith.specs.Leaves.{leadLenOf}
+use Rattle.ook.specs.declared.Settings.{Settings}
+use Rattle.ook.specs.declared.Out.{Out}
+use Rattle.ook.specs.declared.Next.{Next}
+use Rattle.ook.specs.declared.Next.the-variants as next
+use Rattle.burst.specs.declared.Lead.{Lead}
+use Rattle.burst.specs.declared.Sampled.{Sampled}
+use Rattle.burst.specs.Sample.{sampleOf}
+use Rattle.burst.specs.Lead.{leadAddOf, staying, leadFullOf}
+use Rattle.refusals.specs.Domain.{InDomain}
+use Rattle.lane.specs.declared.Answer.{Answer}
+use Rattle.lane.specs.declared.StepArgs.{StepArgs}
+use Rattle.lane.specs.Answers.{replyNumberOf, replyOf, phaseOf}
+use Rattle.lane.specs.Idle.{idleLane}
+use Rattle.lane.specs.Begin.{ringOf, clearedOf, leadLane}
+use Rattle.lane.specs.Advance.{settleOf, settled, fillOf, atOf, replayStep, leadStep, burstStep, advanceOf}
+use Rattle.pulses.specs.Runs.{Sample, pulses}
+use Rattle.pulses.specs.Yardstick.{lent, Call, opening, begin, step, Given, givenBy, Yardstick, refusal, accepts, levelled, replayed, burstAt, stepSamples, stepOf, advanced, ends}
+use Rattle.pulses.specs.Demand.{Gives}
+use Rattle.pulses.proofs.Flags.{clash}
+use Rattle.pulses.proofs.OokSample.{stays, over, idle-not, idle-at-not}
+use Rattle.pulses.proofs.BurstState.{Under, Next-is, stepped-follows, full-follows}
+use Rattle.pulses.proofs.BurstEnd.{given-none, claim-gives}
+use Rattle.pulses.proofs.Accepted.{begin-tells, step-tells}
+
+-- in burst, in OOK mode
+pub record Running (y : Yardstick) : Type 0 where
+  pub under : Under (y .lane .settings) (y .lane .burst) (y .ook) (y .recorded)
+  pub no-trains : y .trains ≡ []
+
+-- in lead there is no record yet, and the buffer has room
+pub record Leading (y : Yardstick) : Type 0 where
+  pub unrecorded : y .recorded ≡ []
+  pub no-trains : y .trains ≡ []
+  pub room : 2 * y .lane .settings .«max_pulses» ≤ length (y .ook)
+
+pub data Good (y : Yardstick) : Type 0 where
+  at-rest : y .lane .phase ≡ 0 → Good y
+  in-lead : y .lane .phase ≡ 1 → InDomain (y .lane .settings) → Leading y → Good y
+  in-burst : y .lane .phase ≡ 2 → InDomain (y .lane .settings) → (y .lane .settings .mode ≡ 0 → Running y) → Good y
+
+-- after a call that ends a burst where e is true
+unfoldable pub Fine : Yardstick → Bool → Type 0
+Fine y e = Good y × (e ≡ true → y .lane .settings .mode ≡ 0 → Gives (y .lane .settings) (pulses (y .lane .settings .«min_steps») (y .recorded)) (y .trains))
+
+-- the yardstick after an accepted step that answers r and adds ms to the record
+abbrev stepTo : Yardstick → Answer × List ℕ × List ℕ → List (Sample Float) → Yardstick
+stepTo y r ms = record {
+  lane = r .0 .lane;
+  ook = r .1;
+  recorded = y .recorded ++ ms;
+  trains = y .trains ++ givenBy (r .0 .lane .burst .«out_ook») (r .1) (r .2);
+}
+
+abbrev endsWith : Answer × List ℕ × List ℕ → Bool
+endsWith r = not (eqb (replyNumberOf (r .0 .reply)) 0)
+
+StepFine : Yardstick → Answer × List ℕ × List ℕ → List (Sample Float) → Type 0
+StepFine y r ms = Fine (stepTo y r ms) (endsWith r)
+
+module _ (y : Yardstick) (D : InDomain (y .lane .settings)) (s : StepArgs) where
+  abbrev p : Settings
+  p = y .lane .settings
+
+  -- a sample of a burst, or the replay of its lead-in, is answered
+  answered : (ld : Lead) (ring : List Float) (r : Sampled × List ℕ × List ℕ) (ms : List (Sample Float)) → (p .mode ≡ 0 → Next-is p r (y .recorded ++ ms)) → (p .mode ≡ 0 → y .trains ≡ [])
+      → StepFine y (settled (y .lane) s ld ring r) ms
+  unfolding StepFine Fine settleOf replyOf phaseOf
+  answered ld ring r ms H T = go (r .0 .next) refl
+    where
+      out : Out
+      out = r .0 .burst .«out_ook»
+
+      new : List Given
+      new = givenBy out (r .1) (r .2)
+
+      alone : y .trains ≡ [] → y .trains ++ new ≡ new
+      alone t = ap (λ (ts : List Given). ts ++ new) t
+
+      y′ : Yardstick
+      y′ = stepTo y (settled (y .lane) s ld ring r) ms
+
+      on-stay : r .0 .next ≡ next.Stay → Next-is p r (y .recorded ++ ms) → y .trains ≡ [] → Running y′
+      on-stay n (stays n′ F) t = record { under = F; no-trains = alone t ∙ given-none out (r .1) (r .2) (F .undecided) }
+      on-stay n (over n′ C′) t = absurd (n′ n)
+
+      on-end : (r .0 .next ≡ next.Stay → ⊥) → Next-is p r (y .recorded ++ ms) → y .trains ≡ [] → Gives p (pulses (p .«min_steps») (y .recorded ++ ms)) (y .trains ++ new)
+      on-end n (stays n′ F) t = absurd (n n′)
+      on-end n (over n′ C′) t = rw (alone t) (claim-gives p D (y .recorded ++ ms) out (r .1) (r .2) C′)
+
+      go : (n : Next) → r .0 .next ≡ n
+          → Good y′ × (not (eqb (replyNumberOf (replyOf n)) 0) ≡ true → p .mode ≡ 0 → Gives p (pulses (p .«min_steps») (y .recorded ++ ms)) (y .trains ++ new))
+      go next.Stay n = (in-burst (ap phaseOf n) D (λ o. on-stay n (H o) (T o)), λ e. clash (sym e))
+      go next.Idle n = (at-rest (ap phaseOf n), λ e o. on-end (λ q. idle-not (sym n ∙ q)) (H o) (T o))
+      go (next.IdleAt v) n = (at-rest (ap phaseOf n), λ e o. on-end (λ q. idle-at-not v (sym n ∙ q)) (H o) (T o))
+
+  -- a step in burst
+  abbrev ring : List Float
+  ring = ringOf (y .lane .ring) (s .index) (s .envelope)
+
+  burst-fine : (fsk : List ℕ) → (p .mode ≡ 0 → Running y)
+      → StepFine y (burstStep (y .lane) s ring (y .ook) fsk) (levelled p (atOf (y .lane) s) ring (clearedOf (y .lane .burst)) ∷ [])
+  unfolding burstStep clearedOf
+  burst-fine fsk R =
+      answered (y .lane .lead) ring (sampleOf p (atOf (y .lane) s) ring (clearedOf (y .lane .burst)) (y .ook) fsk) (levelled p (atOf (y .lane) s) ring (clearedOf (y .lane .burst)) ∷ [])
+      (λ o. stepped-follows p D o (atOf (y .lane) s) ring (clearedOf (y .lane .burst)) (y .ook) fsk (y .recorded)
+      (record { run = R o .under .run; train = R o .under .train; undecided = refl }))
+      (λ o. R o .no-trains)
+
+  -- a step in lead
+  abbrev ld : Lead
+  ld = leadAddOf (y .lane .lead) (s .envelope) (s .x)
+
+  abbrev len : ℕ
+  len = leadLenOf (p .«min_steps»)
+
+  wait-fine : Leading y → (fsk : List ℕ) → StepFine y (fillOf (y .lane) s ld ring, y .ook, fsk) []
+  unfolding StepFine Fine fillOf clearedOf
+  wait-fine L fsk = (
+    in-lead refl D
+        (record {
+          unrecorded = append-nil (y .recorded) ∙ L .unrecorded;
+          no-trains = rw (L .no-trains) (given-none _ _ _ refl);
+          room = L .room;
+        }),
+    λ e. clash (sym e),
+  )
+
+  -- what the replay of the lead-in adds to the record
+  abbrev replay : List ℕ → List (Sample Float)
+  replay fsk = replayed p (s .noise) ring ld len 0 (staying (burstAt ld len (clearedOf (y .lane .burst))) (y .ook) fsk)
+
+  replay-fine : Leading y → (fsk : List ℕ) → StepFine y (replayStep (y .lane) s ld ring (y .ook) fsk) (replay fsk)
+  unfolding replayStep clearedOf
+  replay-fine L fsk =
+      answered ld ring (leadFullOf p (s .noise) ring ld (clearedOf (y .lane .burst)) (y .ook) fsk) (replay fsk)
+      (λ o. rw (L .unrecorded) (full-follows p D o (s .noise) ring ld (clearedOf (y .lane .burst)) (y .ook) fsk refl (L .room)))
+      (λ o. L .no-trains)
+
+  lead-fine : Leading y → (fsk : List ℕ) → StepFine y (leadStep (y .lane) s ring (y .ook) fsk) (cond (ltb (ld .«lead_n») len) [] (replay fsk))
+  unfolding leadStep
+  lead-fine L fsk = go (ltb (ld .«lead_n») len)
+    where
+      go : (b : Bool) → StepFine y (cond b (fillOf (y .lane) s ld ring, y .ook, fsk) (replayStep (y .lane) s ld ring (y .ook) fsk)) (cond b [] (replay fsk))
+      go true = wait-fine L fsk
+      go false = replay-fine L fsk
+
+-- an accepted step, in either phase
+step-fine : (y : Yardstick) (s : StepArgs) (fsk : List ℕ) → Good y → (y .lane .phase ≡ 0 → ⊥) → StepFine y (stepOf y s fsk) (stepSamples (y .lane) s (y .ook) fsk)
+unfolding advanceOf stepSamples
+step-fine y s fsk G h = go G
+  where
+    r : List Float
+    r = ringOf (y .lane .ring) (s .index) (s .envelope)
+
+    d : Lead
+    d = leadAddOf (y .lane .lead) (s .envelope) (s .x)
+
+    m : ℕ
+    m = leadLenOf (y .lane .settings .«min_steps»)
+
+    In : ℕ → Type 0
+    In n = StepFine y (cond (eqb n 1) (leadStep (y .lane) s r (y .ook) fsk) (burstStep (y .lane) s r (y .ook) fsk))
+        (cond (eqb n 1) (cond (ltb (d .«lead_n») m) [] (replayed (y .lane .settings) (s .noise) r d m 0 (staying (burstAt d m (clearedOf (y .lane .burst))) (y .ook) fsk)))
+        (levelled (y .lane .settings) (atOf (y .lane) s) r (clearedOf (y .lane .burst)) ∷ []))
+
+    go : Good y → In (y .lane .phase)
+    go (at-rest q) = absurd (h q)
+    go (in-lead q D L) = subst In (sym q) (lead-fine y D s L fsk)
+    go (in-burst q D R) = subst In (sym q) (burst-fine y D s fsk R)
+
+pub call-fine : (y : Yardstick) (c : Call) (b : Bool) → accepts y c ≡ b → Good y → Fine (advanced b y c) (ends b y c)
+unfolding Fine StepFine advanced ends refusal idleLane leadLane
+call-fine y c false q G = (G, λ e. clash (sym e))
+call-fine y (opening p) true q G = (at-rest refl, λ e. clash (sym e))
+call-fine y (begin b ook fsk) true q G =
+    let t = begin-tells (y .lane) b (length ook) (length fsk) (eqb-true _ 0 q) in
+    (in-lead refl (t .0) (record { unrecorded = refl; no-trains = refl; room = t .1 }), λ e. clash (sym e))
+call-fine y (step s o fsk) true q G = step-fine y s fsk G (step-tells (y .lane) s (length (lent o (y .ook))) (length fsk) (eqb-true _ 0 q))
+
+pub good : (y : Yardstick) (e : Bool) → Fine y e → Good y
+unfolding Fine
+good y e F = F .0
+
+pub none-yet : (y : Yardstick) → Good y → (y .lane .phase ≡ 0 → ⊥) → y .lane .settings .mode ≡ 0 → y .trains ≡ []
+none-yet y (at-rest q) h o = absurd (h q)
+none-yet y (in-lead q D L) h o = L .no-trains
+none-yet y (in-burst q D R) h o = R o .no-trains

@@ -1,0 +1,121 @@
+-- How a list refutes a program: three tests of a list that is run on it. Where demand 3 holds each passes, so a list in which one fails
+-- refutes the program.
+use mathlib.Core.Path.{_≡_, refl, sym, ap, _∙_}
+use mathlib.Core.Bool.{Bool, true, false, cond, _&&_}
+use mathlib.Core.Option.{Option, none, some}
+use mathlib.Core.List.{List, [], _∷_, _++_, map, append-nil}
+use Prim.Native.Nat.{ℕ, min}
+use lib.Dec.{ltb, eqb}
+use borrow.Author.Tests.{eqb-true, eqb-false, eq-eqb}
+use lib.ListN.{length, take}
+use lib.Ieee.{Float}
+use Rattle.ook.specs.declared.Settings.{Settings}
+use Rattle.ook.specs.Counts.{bit}
+use Rattle.pulses.specs.Runs.{Pulse, pulseWidth}
+use Rattle.pulses.specs.Yardstick.{Call, Given}
+use Rattle.pulses.specs.Demand.{Program, Place, firsts, width, Gives, settingsAt, pulsesAt, Holds, Each, NoneYet, Demand3}
+use Rattle.pulses.specs.Ran.{Ran, ran}
+use Rattle.pulses.specs.Hollow.{Fails}
+use Rattle.pulses.proofs.Flags.{clash}
+
+-- ---- the tests
+-- kind, pairs, cut mark and widths, as trains tell them and as a record asks them
+unfoldable pub told : List Given → List ℕ
+told [] = []
+told (g ∷ gs) = g .out .fsk ∷ g .out .pairs ∷ g .out .cut ∷ (firsts (g .part) ++ told gs)
+
+unfoldable pub number : Option ℕ → ℕ
+number none = 0
+number (some n) = n
+
+unfoldable pub asked : Settings → List (Pulse Float) → List ℕ
+asked p [] = []
+asked p (q ∷ qs) =
+    0 ∷ min (length (q ∷ qs)) (p .«max_pulses») ∷ bit (ltb (p .«max_pulses») (length (q ∷ qs)))
+    ∷ map (λ (x : Pulse Float). number (pulseWidth width (p .«min_steps») x)) (take (p .«max_pulses») (q ∷ qs))
+
+unfoldable pub parts : List Given → List ℕ
+parts [] = []
+parts (g ∷ gs) = g .part ++ parts gs
+
+unfoldable pub equal : List ℕ → List ℕ → Bool
+equal [] [] = true
+equal [] (y ∷ ys) = false
+equal (x ∷ xs) [] = false
+equal (x ∷ xs) (y ∷ ys) = eqb x y && equal xs ys
+
+-- of an OOK burst that ended: its trains tell what its record asks; their slots are those of demand 2's definition. Of one under way:
+-- there is no train yet.
+pub data Test : Type 0 where
+  by-pulses : Test
+  by-slots : Test
+  under-way : Test
+
+unfoldable pub every : {W : Program} → (Place W → Bool) → List (Place W) → Bool
+every f [] = true
+every f (k ∷ ks) = cond (eqb (settingsAt k .mode) 0) (f k) true && every f ks
+
+unfoldable pub passes : {W : Program} → Test → Ran W → Bool
+unfolding told number asked parts equal every
+passes by-pulses r = every (λ k. equal (told (k .trains)) (asked (settingsAt k) (pulsesAt k))) (r .ended)
+passes by-slots r = every (λ k. equal (parts (k .trains)) (parts (k .yard .trains))) (r .ended)
+passes under-way r = cond (eqb (r .last .yard .lane .phase) 0) true (cond (eqb (settingsAt (r .last) .mode) 0) (equal (told (r .last .trains)) []) true)
+
+-- ---- each passes where demand 3 holds
+equal-same : (xs ys : List ℕ) → xs ≡ ys → equal xs ys ≡ true
+unfolding equal
+equal-same xs ys q = rw q (go ys)
+  where
+    go : (l : List ℕ) → equal l l ≡ true
+    go [] = refl
+    go (x ∷ l) = rw (eq-eqb x x refl) (go l)
+
+numbers : (ns : List ℕ) → map number (map some ns) ≡ ns
+unfolding number
+numbers [] = refl
+numbers (n ∷ ns) = ap (λ (l : List ℕ). n ∷ l) (numbers ns)
+
+map-map : (f : Pulse Float → Option ℕ) (qs : List (Pulse Float)) → map number (map f qs) ≡ map (λ (q : Pulse Float). number (f q)) qs
+map-map f [] = refl
+map-map f (q ∷ qs) = ap (λ (l : List ℕ). number (f q) ∷ l) (map-map f qs)
+
+tells : (p : Settings) (ps : List (Pulse Float)) (ts : List Given) → Gives p ps ts → told ts ≡ asked p ps
+unfolding Gives told asked
+tells p [] ts q = ap told q
+tells p (q ∷ qs) ts (g, e, T) = ap told e ∙ rw (T .kind, T .pairs, T .cut, append-nil, widths)
+  where
+    f : Pulse Float → Option ℕ
+    f = pulseWidth width (p .«min_steps»)
+
+    widths : firsts (g .part) ≡ map (λ (x : Pulse Float). number (f x)) (take (p .«max_pulses») (q ∷ qs))
+    widths = sym (numbers (firsts (g .part))) ∙ ap (map number) (T .widths) ∙ map-map f (take (p .«max_pulses») (q ∷ qs))
+
+module _ {W : Program} where
+  each-passes : (f : Place W → Bool) → ((k : Place W) → Holds k → f k ≡ true) → (ks : List (Place W)) → Each ks → every f ks ≡ true
+  unfolding Each every
+  each-passes f h [] E = refl
+  each-passes f h (k ∷ ks) E = rw (each-passes f h ks (E .1)) (go (eqb (settingsAt k .mode) 0) refl)
+    where
+      go : (o : Bool) → eqb (settingsAt k .mode) 0 ≡ o → (cond o (f k) true && true) ≡ true
+      go true q = rw (h k (E .0 (eqb-true (settingsAt k .mode) 0 q)))
+      go false q = refl
+
+  waits : (k : Place W) → NoneYet k → cond (eqb (k .yard .lane .phase) 0) true (cond (eqb (settingsAt k .mode) 0) (equal (told (k .trains)) []) true) ≡ true
+  unfolding told equal
+  waits k N = go (eqb (k .yard .lane .phase) 0) (eqb (settingsAt k .mode) 0) refl refl
+    where
+      go : (a b : Bool) → eqb (k .yard .lane .phase) 0 ≡ a → eqb (settingsAt k .mode) 0 ≡ b → cond a true (cond b (equal (told (k .trains)) []) true) ≡ true
+      go true b q o = refl
+      go false true q o = rw (N (eqb-false (k .yard .lane .phase) 0 q) (eqb-true (settingsAt k .mode) 0 o))
+      go false false q o = refl
+
+  all-pass : (t : Test) (r : Ran W) → Each (r .ended) → NoneYet (r .last) → passes t r ≡ true
+  unfolding passes
+  all-pass by-pulses r E N = each-passes _ (λ k H. equal-same (told (k .trains)) (asked (settingsAt k) (pulsesAt k)) (tells (settingsAt k) (pulsesAt k) (k .trains) (H .gives))) (r .ended) E
+  all-pass by-slots r E N = each-passes _ (λ k H. equal-same (parts (k .trains)) (parts (k .yard .trains)) (ap parts (H .numbers))) (r .ended) E
+  all-pass under-way r E N = waits (r .last) N
+
+-- a list that is handed on, in which the program does not pass
+pub refuted : (t : Test) (W : Program) (cs : List Call) → ran W cs .handed ≡ true → passes t (ran W cs) ≡ false → Fails W
+unfolding Demand3 ran
+refuted t W cs h q D = clash (sym (all-pass t (ran W cs) (D cs h .0) (D cs h .1)) ∙ q)

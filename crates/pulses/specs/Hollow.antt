@@ -1,0 +1,130 @@
+-- Hollow programs, document 01's table "What a hollow lane would meet", and others that demand 3 shuts out. That none of them meets it is
+-- proved in proofs/Hollow, each by one small list.
+use mathlib.Core.Bool.{Bool, false, cond, _||_}
+use mathlib.Core.List.{List, [], _∷_}
+use Prim.Native.Nat.{ℕ, _+_}
+use lib.Dec.{leb, eqb}
+use Rattle.ook.specs.declared.Settings.{Settings}
+use Rattle.ook.specs.declared.Out.{Out}
+use Rattle.ook.specs.Counts.{bit}
+use Rattle.lane.specs.Idle.{noOut}
+use Rattle.lane.specs.declared.Lane.{Lane}
+use Rattle.lane.specs.declared.Reply.{Reply}
+use Rattle.lane.specs.Answers.{replyNumberOf}
+use Rattle.pulses.specs.Demand.{Returned, Program, theLane, Demand3}
+
+-- a program that does not meet demand 3
+abbrev pub Fails : Program → Type 0
+Fails W = Demand3 W → ⊥
+
+-- ---- the lane with something changed
+-- what is returned, with another OOK record, and with other slots
+abbrev withOut : Out → Returned Lane → Returned Lane
+withOut o r = record { reply = r .reply; lane = r .lane; out = o; ook = r .ook; fsk = r .fsk }
+
+abbrev withSlots : List ℕ → Returned Lane → Returned Lane
+withSlots ook r = record { reply = r .reply; lane = r .lane; out = r .out; ook = ook; fsk = r .fsk }
+
+-- a record that decides a train of so many pairs, with this cut mark
+abbrev train : ℕ → ℕ → Out → Out
+train pairs cut o = record { index = o .index; end = o .end; state = 1; cut = cut; pairs = pairs; level = o .level; fsk = o .fsk; carrier = o .carrier }
+
+abbrev decides : Returned Lane → Bool
+decides r = eqb (r .out .state) 1
+
+-- what a step returns is changed, and the same where it decides a train
+abbrev changed : (Returned Lane → Returned Lane) → Program
+changed f = record { Lanes = Lane; new = theLane .new; opening = theLane .opening; begin = theLane .begin; step = λ l s ook fsk. f (theLane .step l s ook fsk) }
+
+abbrev trainChanged : (Returned Lane → Returned Lane) → Program
+trainChanged f = changed (λ r. cond (decides r) (f r) r)
+
+-- the lane has settings other than those that it is opened with; where it so refuses a step, it returns the number alone
+abbrev opensWith : (Settings → Settings) → Program
+opensWith f = record {
+  Lanes = Lane;
+  new = theLane .new;
+  opening = λ l p. theLane .opening l (f p);
+  begin = theLane .begin;
+  step = λ l s ook fsk. alone (theLane .step l s ook fsk);
+}
+  where
+    alone : Returned Lane → Returned Lane
+    alone r = cond (eqb (replyNumberOf (r .reply)) 3) (withOut noOut r) r
+
+abbrev withSteps : ℕ → ℕ → ℕ → Settings → Settings
+withSteps min gap pre p =
+    record {
+      mode = p .mode;
+      «min_steps» = min;
+      «gap_steps» = gap;
+      «pre_timeout» = pre;
+      «long_steps» = p .«long_steps»;
+      «max_pulses» = p .«max_pulses»;
+      alpha = p .alpha;
+      «gap_ratio» = p .«gap_ratio»;
+      «fsk_delta» = p .«fsk_delta»;
+      «fsk_split» = p .«fsk_split»;
+    }
+
+-- ---- document 01's table
+-- "stays for ever and writes no slot", "refuses each call": whatever it replies, it gives no train
+unfoldable pub silent : Reply → Program
+silent reply = record { Lanes = Unit {0}; new = tt; opening = λ l p. tt; begin = λ l b ook fsk. nothing ook fsk; step = λ l s ook fsk. nothing ook fsk }
+  where
+    nothing : List ℕ → List ℕ → Returned (Unit {0})
+    nothing ook fsk = record { reply = reply; lane = tt; out = noOut; ook = ook; fsk = fsk }
+
+-- "gives one fixed train", that of M6
+unfoldable pub fixed : Program
+fixed = trainChanged (λ r. withSlots (4 ∷ 0 ∷ []) (withOut (train 1 0 (r .out)) r))
+
+-- "works out the first burst and gives no train for any later one": its lane remembers that it gave one
+unfoldable pub first-only : Program
+first-only = record {
+  Lanes = Lane × Bool;
+  new = (theLane .new, false);
+  opening = λ l p. (theLane .opening (l .0) p, l .1);
+  begin = λ l b ook fsk. once (l .1) (theLane .begin (l .0) b ook fsk);
+  step = λ l s ook fsk. once (l .1) (theLane .step (l .0) s ook fsk);
+}
+  where
+    once : Bool → Returned Lane → Returned (Lane × Bool)
+    once gave r = record { reply = r .reply; lane = (r .lane, gave || decides r); out = cond gave noOut (r .out); ook = r .ook; fsk = r .fsk }
+
+-- "invents the pair count": one more than the lane has
+unfoldable pub invented : Program
+invented = trainChanged (λ r. withOut (train (r .out .pairs + 1) (r .out .cut) (r .out)) r)
+
+-- "says idle … too early": it waits one step, whatever its settings say
+unfoldable pub idle-early : Program
+idle-early = opensWith (λ p. withSteps (p .«min_steps») 1 1 p)
+
+-- "marks cut, too early": with max_pulses pulses, and not only with more
+unfoldable pub cut-early : Program
+cut-early = trainChanged (λ r. withOut (train (r .out .pairs) (bit (leb (r .lane .settings .«max_pulses») (r .out .pairs))) (r .out)) r)
+
+-- ---- others
+-- a glitch counts as a run and parts a pulse in two
+unfoldable pub glitch-counts : Program
+glitch-counts = opensWith (λ p. withSteps 1 (p .«gap_steps») (p .«pre_timeout») p)
+
+-- a pulse is given as a train once it is closed, before its burst has ended
+unfoldable pub train-early : Program
+train-early = changed (λ r. cond (eqb (r .lane .burst .train .«open») 1) (withOut (train 1 0 (r .out)) r) r)
+
+-- the train is named an FSK frame's
+unfoldable pub other-kind : Program
+other-kind = trainChanged (λ r. withOut (fsk-kind (r .out)) r)
+  where
+    fsk-kind : Out → Out
+    fsk-kind o = record { index = o .index; end = o .end; state = o .state; cut = o .cut; pairs = o .pairs; level = o .level; fsk = 1; carrier = o .carrier }
+
+-- right widths, and each gap 0
+unfoldable pub gapless : Program
+gapless = trainChanged (λ r. withSlots (zeros (r .ook)) r)
+  where
+    zeros : List ℕ → List ℕ
+    zeros [] = []
+    zeros (x ∷ []) = x ∷ []
+    zeros (x ∷ y ∷ s) = x ∷ 0 ∷ zeros s

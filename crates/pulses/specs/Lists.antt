@@ -1,0 +1,82 @@
+-- Small lists of calls, for the hollow programs and the examples. Indices, noise and samples are those of document 01's "Worked bursts".
+use mathlib.Core.List.{List, [], _∷_, _++_}
+use Prim.Native.Nat.{ℕ, zero, suc, _+_}
+use lib.ListN.{replicate}
+use lib.Ieee.{Float, binary32, ofBits}
+use Rattle.arith.specs.declared.C32.{C32}
+use Rattle.arith.specs.Leaves.{zero32, one32}
+use Rattle.ook.specs.declared.Settings.{Settings}
+use Rattle.lane.specs.declared.History.{History}
+use Rattle.lane.specs.declared.StepArgs.{StepArgs}
+use Rattle.pulses.specs.Yardstick.{as-left, Call, opening, begin, step}
+
+-- the settings of M6 to M8, but for the mode, the most pulses, and how long a carrier is
+abbrev pub settings : ℕ → ℕ → ℕ → Settings
+settings mode most long =
+    record {
+      mode = mode;
+      «min_steps» = 2;
+      «gap_steps» = 4;
+      «pre_timeout» = 4;
+      «long_steps» = long;
+      «max_pulses» = most;
+      alpha = ofBits binary32 0x3f00_0000;
+      «gap_ratio» = ofBits binary32 0x42c8_0000;
+      «fsk_delta» = zero32;
+      «fsk_split» = zero32;
+    }
+
+abbrev pub opens : ℕ → List Call
+opens most = opening (settings 0 most 1000) ∷ []
+
+abbrev one : C32
+one = record { re = one32; im = zero32 }
+
+abbrev past : History
+past = record { e1 = zero32; e2 = zero32; e3 = zero32; e4 = zero32; e5 = zero32; e6 = zero32; e7 = zero32 }
+
+-- n slots, each 0; the FSK buffer is always of eight
+abbrev pub slots : ℕ → List ℕ
+slots n = replicate n 0
+
+-- a begin at index i and envelope 0, and the arguments of a step at envelope 0 or 8
+abbrev pub first : ℕ → List ℕ → Call
+first i ook = begin (record { index = i; factor = one32; envelope = zero32; x = one; before = one; history = past }) ook (slots 8)
+
+abbrev pub at : Float → ℕ → StepArgs
+at e i = record { index = i; noise = zero32; envelope = e; x = one }
+
+abbrev pub eight : Float
+eight = ofBits binary32 0x4100_0000
+
+abbrev pub lo : ℕ → Call
+lo i = step (at zero32 i) as-left (slots 8)
+
+abbrev pub hi : ℕ → Call
+hi i = step (at eight i) as-left (slots 8)
+
+-- n steps from index i on
+unfoldable pub los : ℕ → ℕ → List Call
+los i zero = []
+los i (suc n) = lo i ∷ los (i + 1) n
+
+unfoldable pub his : ℕ → ℕ → List Call
+his i zero = []
+his i (suc n) = hi i ∷ his (i + 1) n
+
+-- bursts from index i on, with this OOK buffer: M6, one pulse; M7, one pulse with a glitch; M8, no pulse; two pulses, 3 low samples between
+abbrev pub m6 : ℕ → List ℕ → List Call
+m6 i ook = first i ook ∷ his (i + 1) 4 ++ los (i + 5) 5
+
+abbrev pub m7 : ℕ → List ℕ → List Call
+m7 i ook = first i ook ∷ his (i + 1) 4 ++ lo (i + 5) ∷ his (i + 6) 3 ++ los (i + 9) 5
+
+abbrev pub m8 : ℕ → List ℕ → List Call
+m8 i ook = first i ook ∷ los (i + 1) 6
+
+abbrev pub two : ℕ → List ℕ → List Call
+two i ook = first i ook ∷ his (i + 1) 4 ++ los (i + 5) 3 ++ his (i + 8) 3 ++ los (i + 11) 5
+
+-- a burst that does not end: one pulse in, it waits for the next
+abbrev pub unended : ℕ → List ℕ → List Call
+unended i ook = first i ook ∷ his (i + 1) 4 ++ los (i + 5) 3

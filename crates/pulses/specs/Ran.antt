@@ -1,0 +1,46 @@
+-- A list of calls run on a program, to be computed: `ran` unfolds demand 3's terms and demand 2's definitions.
+use lib.Ieee.{ofBits, toBits, add, sub, mul, div, neg, lt, le, eq, ofInt, toUnsigned}
+use Rattle.arith.specs.Leaves.{absOf, midpointOf, flushOf, crossOf, nearestIn}
+use Rattle.arith.specs.Rounding.{roundOf, narrowOf}
+use Rattle.arith.specs.Root.{sqrtOf, exactOf, roundExact, wholeRoot}
+use Rattle.ook.specs.Counts.{satAddOf, inc}
+use Rattle.ook.specs.Run.{lengthenOf, rejoinOf, beginRunOf, beginsOf, advanceOf, pacRunOf, beginEnvOf}
+use Rattle.ook.specs.Refine.{refineLevelOf, refineLoOf, excessOf, splitFrom, refineInOf, refineOf}
+use Rattle.ook.specs.Train.{pushPulseOf, closeGapOf, emptyTrainOf, finishOf, endTrainOf, pulseDoneOf, gapRatioExceededOf}
+use Rattle.stages.specs.See.{thresholdOf, onOf, refineDueOf, highOf, pacOf, seeOf}
+use Rattle.stages.specs.Act.{dueOf, confirmIf, riseOf, fallOf, confirmOf, actOf}
+use Rattle.stages.specs.Tail.{carrierOf, goneOf, hasPulsesOf, gapOverOf, waitOf, tailOf}
+use Rattle.burst.specs.Sample.{snapIfOf, lastOf, presentOf, restOf, sampleOf}
+use Rattle.slicer.specs.Tone.{upperOf}
+use Rattle.presence.specs.Move.{presThrOf, movePresOf, moveFrameOf}
+use Rattle.presence.specs.Move as move
+use Rattle.presence.specs.Presence.{sliceIfOf, sureIfOf, endsOf, endIfOf, longOf, carrierIfOf, presenceOf, snapOf, nearStartOf}
+use Rattle.presence.specs.Presence as presence
+use Rattle.burst.specs.Lead.{leadAddOf, largestFrom, beginBurstOf, leadAtOf, replayFrom, replayOf, leadFullOf}
+use Rattle.refusals.specs.Domain.{settingsOk, unsetOk}
+use Rattle.refusals.specs.State.{frameOk, burstOk, leadOk, candOk}
+use Rattle.refusals.specs.Order.{firstFailed}
+use Rattle.lane.specs.Answers.{replyOf, phaseOf}
+use Rattle.lane.specs.Refusals.{openedOk, laneOk, historyOk, beginFloatsOk, stepFloatsOk, followsOf, beginRefusal, stepRefusal}
+use Rattle.lane.specs.Idle.{noBurst, idleLane}
+use Rattle.lane.specs.Begin.{historyOf, beginLeadOf, clearedOf, leadLane}
+use Rattle.lane.specs.Advance.{settleOf, fillOf, replayStep, leadStep, burstStep}
+use Rattle.lane.specs.Advance as advance
+use Rattle.lane.specs.Part.{front, partOf}
+use Rattle.lane.specs.Step.{newLane, opened, begun, stepped}
+use mathlib.Core.Bool.{Bool}
+use mathlib.Core.List.{List}
+use Rattle.pulses.specs.Runs.{join, runs, size, keep, counted, between, row, pulses, nth, runEdge, across, pulseWidth}
+use Rattle.pulses.specs.Yardstick.{Call, lent, givenBy, unused, refusal, levelled, replayed, stepSamples, advanced, ends, lentWell, handedOn}
+use Rattle.pulses.specs.Demand.{Program, Place, returnedBy, start, after, afterAll, bursts, firsts}
+use Rattle.pulses.specs.Lists.{los, his}
+
+-- whether the list is handed on, where bursts end in it, and where it ends
+pub record Ran (W : Program) : Type 0 where
+  pub handed : Bool
+  pub ended : List (Place W)
+  pub last : Place W
+
+unfoldable pub ran : (W : Program) → List Call → Ran W
+unfolding lent lentWell handedOn los his unused refusal levelled replayed stepSamples advanced ends givenBy returnedBy start after afterAll bursts firsts nth runEdge across pulseWidth row join runs size keep counted between pulses newLane opened begun stepped front partOf advance.advanceOf leadStep burstStep settleOf fillOf replayStep leadAddOf largestFrom leadFullOf historyOf beginLeadOf clearedOf leadLane noBurst idleLane openedOk laneOk historyOk beginFloatsOk stepFloatsOk followsOf beginRefusal stepRefusal replyOf phaseOf firstFailed frameOk burstOk leadOk candOk settingsOk unsetOk beginBurstOf leadAtOf replayFrom replayOf sampleOf restOf lastOf snapIfOf snapOf nearStartOf presentOf presenceOf presence.advanceOf presThrOf upperOf movePresOf move.lengthenOf moveFrameOf sliceIfOf presence.dueOf sureIfOf endsOf endIfOf longOf carrierIfOf carrierOf goneOf hasPulsesOf gapOverOf waitOf tailOf dueOf confirmIf riseOf fallOf confirmOf actOf thresholdOf onOf refineDueOf highOf pacOf seeOf pushPulseOf closeGapOf emptyTrainOf finishOf endTrainOf pulseDoneOf gapRatioExceededOf refineLevelOf refineLoOf excessOf splitFrom refineInOf refineOf lengthenOf rejoinOf beginRunOf beginsOf advanceOf pacRunOf beginEnvOf satAddOf inc sqrtOf exactOf roundExact wholeRoot roundOf narrowOf absOf midpointOf flushOf crossOf nearestIn ofBits toBits add sub mul div neg lt le eq ofInt toUnsigned
+ran W cs = record { handed = handedOn unused cs; ended = bursts W (start W) cs; last = afterAll W (start W) cs }

@@ -1,0 +1,146 @@
+-- The yardstick of demand 3: "Demand 2's written definition, run over the arguments of the list's accepted calls". It has a lane, an OOK
+-- buffer and a record of its own, and knows no program: "None of this is read from the program's lane, slots or returned records."
+use mathlib.Core.Bool.{Bool, true, false, cond, not, _&&_}
+use mathlib.Core.List.{List, [], _∷_, _++_}
+use Prim.Native.Nat.{ℕ, zero, suc, _+_}
+use lib.Dec.{ltb, eqb}
+use lib.IntN.{pos}
+use lib.ListN.{length, getD}
+use lib.Ieee.{Float, nan, binary64, ofInt}
+use Rattle.arith.specs.Leaves.{leadLenOf}
+use Rattle.ook.specs.declared.Settings.{Settings}
+use Rattle.ook.specs.declared.Out.{Out}
+use Rattle.ook.specs.Answers.{isStayOf}
+use Rattle.stages.specs.declared.At.{At}
+use Rattle.stages.specs.declared.Seen.{Seen}
+use Rattle.stages.specs.See.{seeOf}
+use Rattle.burst.specs.declared.Burst.{Burst}
+use Rattle.burst.specs.declared.Lead.{Lead}
+use Rattle.burst.specs.declared.Sampled.{Sampled}
+use Rattle.burst.specs.Lead.{leadAddOf, largestOf, beginBurstOf, leadAtOf, onward, staying}
+use Rattle.refusals.specs.Domain.{settingsOk}
+use Rattle.lane.specs.declared.Lane.{Lane}
+use Rattle.lane.specs.declared.Answer.{Answer}
+use Rattle.lane.specs.declared.BeginArgs.{BeginArgs}
+use Rattle.lane.specs.declared.StepArgs.{StepArgs}
+use Rattle.lane.specs.Answers.{replyNumberOf}
+use Rattle.lane.specs.Refusals.{beginRefusal, stepRefusal}
+use Rattle.lane.specs.Idle.{idleLane}
+use Rattle.lane.specs.Begin.{ringOf, clearedOf, leadLane}
+use Rattle.lane.specs.Advance.{atOf, advanceOf}
+use Rattle.lane.specs.Part.{partOf}
+use Rattle.lane.specs.Step.{newLane}
+use Rattle.pulses.specs.Runs.{Sample, sample}
+
+-- ---- calls
+-- The OOK buffer that a step is lent: as the accepted call before left it, or another.
+pub data Lent : Type 0 where
+  as-left : Lent
+  other : List ℕ → Lent
+
+unfoldable pub lent : Lent → List ℕ → List ℕ
+lent as-left ook = ook
+lent (other o) ook = o
+
+-- A call with its arguments; begin and step have the OOK and the FSK buffer.
+pub data Call : Type 0 where
+  opening : Settings → Call
+  begin : BeginArgs → List ℕ → List ℕ → Call
+  step : StepArgs → Lent → List ℕ → Call
+
+-- A train: the OOK record that decides it, and "that record's part of the OOK buffer, as the call leaves it".
+pub record Given : Type 0 where
+  pub out : Out
+  pub part : List ℕ
+
+-- "where a call of it returns an OOK record that decides one", state 1, and leaves these buffers
+unfoldable pub givenBy : Out → List ℕ → List ℕ → List Given
+givenBy out ook fsk = cond (eqb (out .state) 1) (record { out = out; part = partOf out ook fsk } ∷ []) []
+
+-- ---- demand 2's definition, run by itself
+-- Its lane and OOK buffer, and of the last burst the record so far and the trains that the definition gives.
+pub record Yardstick : Type 0 where
+  pub lane : Lane
+  pub ook : List ℕ
+  pub recorded : List (Sample Float)
+  pub trains : List Given
+
+-- "The list starts from the idle lane that never had settings."
+unfoldable pub unused : Yardstick
+unused = record { lane = newLane; ook = []; recorded = []; trains = [] }
+
+-- A call is accepted where none of document 01's refusals applies: the number of the first that does, or 0.
+unfoldable pub refusal : Yardstick → Call → ℕ
+refusal y (opening p) = cond (settingsOk p) 0 3
+refusal y (begin b ook fsk) = beginRefusal (y .lane) b (length ook) (length fsk)
+refusal y (step s o fsk) = stepRefusal (y .lane) s (length (lent o (y .ook))) (length fsk)
+
+abbrev pub accepts : Yardstick → Call → Bool
+accepts y c = eqb (refusal y c) 0
+
+-- "gives each sample its level, high or low": what the level test of demand 2's `sample` says in this burst, and the run's edge after it
+unfoldable pub levelled : Settings → At → List Float → Burst → Sample Float
+levelled p a ring b =
+    let s : Seen = seeOf p a ring (b .high) (b .«e_prev») (b .env) (b .pac) in
+    sample (s .on) (s .env .times .«t_run»)
+
+-- "as it is stepped or replayed": the k samples of the lead-in from place i on, after the answer r; "what a replay drops is not in it"
+unfoldable pub replayed : Settings → Float → List Float → Lead → ℕ → ℕ → Sampled × List ℕ × List ℕ → List (Sample Float)
+replayed p noise ring ld zero i r = []
+replayed p noise ring ld (suc k) i r =
+    let more : List (Sample Float) = replayed p noise ring ld k (i + 1) (onward p (leadAtOf noise ld i) ring r) in
+    cond (isStayOf (r .0 .next)) (levelled p (leadAtOf noise ld i) ring (r .0 .burst) ∷ more) []
+
+-- the burst at its first sample, with a lead-in of len samples: the one that demand 2's `leadFullOf` replays from (`full-replays` in
+-- proofs/BurstState)
+abbrev pub burstAt : Lead → ℕ → Burst → Burst
+burstAt ld len b = beginBurstOf (largestOf (ld .«lead_e») len) (ofInt binary64 (pos (ld .«lead_at»))) (getD (ld .«lead_e») 0 nan) b
+
+-- "Its samples are begin's, then one for each accepted step." What a step adds to the record: in lead (phase 1) nothing until the
+-- lead-in, whose first sample is begin's, is full, and then the samples of its replay; in burst its own.
+unfoldable pub stepSamples : Lane → StepArgs → List ℕ → List ℕ → List (Sample Float)
+stepSamples l s ook fsk =
+    let ring : List Float = ringOf (l .ring) (s .index) (s .envelope) in
+    let ld : Lead = leadAddOf (l .lead) (s .envelope) (s .x) in
+    let len : ℕ = leadLenOf (l .settings .«min_steps») in
+    let lead : List (Sample Float) = replayed (l .settings) (s .noise) ring ld len 0 (staying (burstAt ld len (clearedOf (l .burst))) ook fsk) in
+    let own : List (Sample Float) = levelled (l .settings) (atOf l s) ring (clearedOf (l .burst)) ∷ [] in
+    cond (eqb (l .phase) 1) (cond (ltb (ld .«lead_n») len) [] lead) own
+
+-- demand 2's accepted step, on the yardstick's own OOK buffer
+abbrev pub stepOf : Yardstick → StepArgs → List ℕ → Answer × List ℕ × List ℕ
+stepOf y s fsk = advanceOf (y .lane) s (y .ook) fsk
+
+-- After a call, accepted (true) or refused: "an accepted opening puts a new lane in its place, and a refused call leaves it as it was".
+-- "A burst starts with an accepted begin."
+unfoldable pub advanced : Bool → Yardstick → Call → Yardstick
+advanced false y c = y
+advanced true y (opening p) = record { lane = idleLane 1 p; ook = y .ook; recorded = []; trains = [] }
+advanced true y (begin b ook fsk) = record { lane = leadLane (y .lane) b; ook = ook; recorded = []; trains = [] }
+advanced true y (step s o fsk) =
+    let r : Answer × List ℕ × List ℕ = stepOf y s fsk in
+    record {
+      lane = r .0 .lane;
+      ook = r .1;
+      recorded = y .recorded ++ stepSamples (y .lane) s (y .ook) fsk;
+      trains = y .trains ++ givenBy (r .0 .lane .burst .«out_ook») (r .1) (r .2);
+    }
+
+-- "The burst ends at the first sample whose stepping or replay answers idle or idle-at", numbers 1 and 2, and not stay, 0.
+unfoldable pub ends : Bool → Yardstick → Call → Bool
+ends false y c = false
+ends true y (opening p) = false
+ends true y (begin b ook fsk) = false
+ends true y (step s o fsk) = not (eqb (replyNumberOf (stepOf y s fsk .0 .reply)) 0)
+
+-- "each accepted step is lent the OOK buffer as the accepted call before left it"; "in a refused call, the OOK buffer may be any"
+unfoldable pub lentWell : Bool → Call → Bool
+lentWell false c = true
+lentWell true (opening p) = true
+lentWell true (begin b ook fsk) = true
+lentWell true (step s as-left fsk) = true
+lentWell true (step s (other o) fsk) = false
+
+unfoldable pub handedOn : Yardstick → List Call → Bool
+handedOn y [] = true
+handedOn y (c ∷ cs) = lentWell (accepts y c) c && handedOn (advanced (accepts y c) y c) cs

@@ -1,0 +1,3 @@
+-- The laws that the proofs cite.
+mod Places
+mod WordLoops

@@ -1,0 +1,3 @@
+-- Little-endian numbers in bytes.
+pub mod Words
+pub mod Laws
