@@ -2,3 +2,4 @@
 pub mod Move
 pub mod Presence
 pub mod Steady
+pub mod Core

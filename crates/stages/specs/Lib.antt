@@ -4,3 +4,4 @@ pub mod Act
 pub mod Tail
 pub mod Limits
 pub mod Steady
+pub mod Core

@@ -7,7 +7,7 @@ ghost use Prim.Native.Nat.{ℕ, _≤_, _<_};
 ghost use lib.ListN.{length};
 ghost use Rattle.lines.specs.Line.{hasRoom, put};
 ghost use Rattle.turns.specs.Turn.{Called, called, indexOf, answerText, Turn, placeOf, leastOf};
-ghost use Rattle.turns.specs.Steady.{isStepOf, noArgs, argsOf, Passed};
+ghost use Rattle.turns.specs.Steps.{isStepOf, noArgs, argsOf};
 ghost use Rattle.turns.specs.Stream.{Streamed};
 use arith::C32;
 use commands::Command;
@@ -35,9 +35,7 @@ fn index_of(k: Command) -> u64
 }
 
 // The lane's answer to a command, or refusal 1 or 2.
-pub fn call(l: Lane, k: Command, ook: &mut [u32], fsk: &mut [u32]) -> Answer
-    ensures { λ r. ⌜ _≡_ {A = Called} (r, now (ook .exit), now (fsk .exit)) (called (l, now (ook .entry), now (fsk .entry)) k) ⌝ }
-{
+pub fn call(l: Lane, k: Command, ook: &mut [u32], fsk: &mut [u32]) -> Answer {
     match k {
         Command::End => Answer {
             reply: Reply::Stay,
@@ -45,7 +43,10 @@ pub fn call(l: Lane, k: Command, ook: &mut [u32], fsk: &mut [u32]) -> Answer
         },
         Command::Open(p) => lane::open(l, p),
         Command::Begin(b) => lane::begin(l, b, ook, fsk),
-        Command::Step(s) => lane::step(l, s, ook, fsk),
+        Command::Step(_) => Answer {
+            reply: Reply::Stay,
+            lane: l,
+        },
         Command::Unknown => Answer {
             reply: Reply::Refused(1),
             lane: l,
@@ -99,18 +100,15 @@ pub struct Turned {
 // The command at a place of the bytes.
 fn turn(
     l: Lane,
-    s: &[u8],
-    from: usize,
+    k: Command,
     ook: &mut [u32],
     fsk: &mut [u32],
     most: usize,
     text: &mut [u8],
     at: usize,
 ) -> Turned
-    requires { ⌜ (from < length (now s)) × (length (now ook) ≤ most) × (length (now fsk) ≤ most) × (hasRoom most (length (now text)) at ≡ true) ⌝ }
-    ensures { λ r. ⌜ Turn (l, now (ook .entry), now (fsk .entry)) (now (s .entry)) from at (now (text .entry)) (r, now (ook .exit), now (fsk .exit), now (text .exit)) ⌝ }
+    requires { ⌜ (length (now ook) ≤ most) × (length (now fsk) ≤ most) × (hasRoom most (length (now text)) at ≡ true) ⌝ }
 {
-    let k = commands::decode_at(s, from);
     let size = commands::size_of(k);
     let index = index_of(k);
     let a = call(l, k, ook, fsk);
@@ -168,40 +166,71 @@ fn args_of(k: Command) -> StepArgs
 
 struct Past {
     lane: Lane,
-    // The place after the steady steps.
+    // The place after the steps, and what the last of them says.
     used: usize,
+    reply: Reply,
+    index: u64,
+    quiet: bool,
 }
 
-// The steady steps from a place of the bytes on. They print nothing, and most steps of a burst are
-// steady: the lane is changed in place, with its ring apart, where a turn hands it on.
-fn steady_steps(lane: Lane, s: &[u8], from: usize, ook: &[u32], fsk: &mut [u32]) -> Past
-    requires { ⌜ from ≤ length (now s) ⌝ }
-    ensures { λ r. ⌜ Passed (lane, now (ook .entry), now (fsk .entry)) (now (s .entry)) from r (now (fsk .exit)) ⌝ }
+fn is_quiet(r: Reply, f: u32, o: u32) -> bool {
+    match r {
+        Reply::Refused(_) => false,
+        Reply::Stay => (f != 1) & (o != 1),
+        Reply::Idle => false,
+        Reply::IdleAt(_) => false,
+    }
+}
+
+// The steps from a place of the bytes on, up to the first that prints: core and arrays are changed in place.
+fn steps(lane: Lane, s: &[u8], from: usize, least: usize, ook: &mut [u32], fsk: &mut [u32]) -> Past
+    requires { ⌜ (from ≤ length (now s)) × (1 ≤ least) ⌝ }
 {
-    let mut l = lane;
-    let mut ring = l.ring;
+    let mut c = lane::core_of(lane);
+    let mut es = lane::envelopes(lane);
+    let mut re = lane::reals(lane);
+    let mut im = lane::imaginaries(lane);
+    let mut ring = lane.ring;
+    let mut cs = lane.burst.frame.cand.cand_f;
     let mut used = from;
-    while s.len() - used >= 61 {
+    let mut reply = Reply::Stay;
+    let mut index: u64 = 0;
+    let mut quiet = true;
+    while s.len() - used >= least {
         let k = commands::decode_at(s, used);
-        let steps = is_step(k);
-        let a = args_of(k);
-        let q = lane::steady_step(l, a, ook.len(), fsk.len());
-        let steady = steps & q.ok;
-        if !steady {
+        let is = is_step(k);
+        if !is {
             break;
         }
-        let i = (a.index % 32) as usize;
-        ring[i] = a.envelope;
-        l = lane::steadied_lane(l, a, q);
+        let b = args_of(k);
+        let a = lane::step_core(
+            c,
+            b,
+            &mut es,
+            &mut re,
+            &mut im,
+            &mut ring,
+            &mut cs,
+            ook,
+            fsk,
+        );
+        reply = a.reply;
+        c = a.core;
+        index = b.index;
         used += 25;
-        let present = q.present;
-        if !present {
-            continue;
+        quiet = is_quiet(reply, c.burst.out_fsk.state, c.burst.out_ook.state);
+        if !quiet {
+            break;
         }
-        l = lane::sliced_lane(l, a, q, fsk);
     }
-    l.ring = ring;
-    Past { lane: l, used }
+    let l = lane::joined(c, es, re, im, ring, cs);
+    Past {
+        lane: l,
+        used,
+        reply,
+        index,
+        quiet,
+    }
 }
 
 // ---- a block of bytes
@@ -250,17 +279,26 @@ pub fn block(
         if !room {
             break;
         }
-        let t = turn(l, s, used, ook, fsk, most, text, at);
-        l = t.lane;
-        at = t.at;
-        if t.size == 0 {
-            ended = true;
-            break;
+        let k = commands::decode_at(s, used);
+        let is = is_step(k);
+        if is {
+            let g = steps(l, s, used, least, ook, fsk);
+            l = g.lane;
+            used = g.used;
+            let r = g.reply;
+            let f = l.burst.out_fsk;
+            let o = l.burst.out_ook;
+            at = put_answer(r, f, o, g.index, ook, fsk, most, text, at);
+        } else {
+            let t = turn(l, k, ook, fsk, most, text, at);
+            l = t.lane;
+            at = t.at;
+            if t.size == 0 {
+                ended = true;
+                break;
+            }
+            used += t.size;
         }
-        used += t.size;
-        let g = steady_steps(l, s, used, ook, fsk);
-        l = g.lane;
-        used = g.used;
     }
     Ran {
         lane: l,
