@@ -17,7 +17,7 @@ use Rattle.ook.specs.declared.Carrier.{Carrier}
 use Rattle.fsk.specs.declared.Committed.{Committed}
 use Rattle.fsk.specs.declared.Runs.{Runs}
 use Rattle.fsk.specs.declared.Frame.{Frame}
-use Rattle.frame.specs.End.{isSplitOf, enoughRunsOf, isFrameOf, lastRunOf, closePairOf, closeBy, framedBy, outOf, endFrameOf}
+use Rattle.frame.specs.End.{isSplitOf, enoughRunsOf, isFrameOf, lastRunOf, closePairOf, closeBy, outOf, endFrameOf}
 use Rattle.frame.specs.Cut.{gapAtOf, keepNextOf, keepFrom, keepBeforeOf, startKeptOf, cutBy, cutTrainOf}
 use Rattle.frame.specs.Done.{frameDoneOf}
 use Rattle.frame.specs.declared.Framed.{Framed}
@@ -28,7 +28,7 @@ use Rattle.limits.specs.Fsk.{inc-most, CommittedWithin, CommitWithin, Fr
 -- ---- end_frame
 
 module _ (max m : ℕ) where
-  last-run-within : (phase : ℕ) (r : Runs) (c : Committed) (end : Float) (fsk : List ℕ) → CommittedWithin max m c → CommitWithin max (m + 1) (lastRunOf max phase r c end fsk)
+  pub last-run-within : (phase : ℕ) (r : Runs) (c : Committed) (end : Float) (fsk : List ℕ) → CommittedWithin max m c → CommitWithin max (m + 1) (lastRunOf max phase r c end fsk)
   unfolding lastRunOf
   last-run-within phase r c end fsk h =
       either (CommitWithin max (m + 1)) (eqb phase 0)
@@ -37,38 +37,29 @@ module _ (max m : ℕ) where
       (search commit-within)
       (search commit-within))
 
-  close-pair-within : (c : Committed) (fsk : List ℕ) → CommittedWithin max m c → CommitWithin max m (closePairOf c fsk)
+  pub close-pair-within : (c : Committed) (fsk : List ℕ) → CommittedWithin max m c → CommitWithin max m (closePairOf c fsk)
   unfolding closePairOf
   close-pair-within c fsk h =
       by-test (CommitWithin max m) (eqb (c .«fsk_open») 1)
       (λ q. omega (arith, inc-most (c .«fsk_n»), eqb-true (c .«fsk_open») 1 q))
       (λ q. h)
 
-  out-within : (start end : Float) (c : Committed) (high : Float) (k : Carrier) → CommittedWithin max m c → OutWithin max (outOf start end c high k)
+  pub out-within : (start end : Float) (c : Committed) (high : Float) (k : Carrier) → CommittedWithin max m c → OutWithin max (outOf start end c high k)
   unfolding outOf
   out-within start end c high k h = omega (arith, bit-flag (eqb (c .«fsk_full») 1))
 
-pub record FramedWithin (max least k m : ℕ) (f : Framed) : Type 0 where
-  pub frame-within : FrameWithin max least k m (f .frame)
-  pub out-within : OutWithin max (f .out)
-
 abbrev pub EndWithin : ℕ → ℕ → ℕ → ℕ → Framed × List ℕ → Type 0
-EndWithin max least k m q = FramedWithin max least k m (q .0)
+EndWithin max least k m q = FrameWithin max least k m (q .0 .frame)
 
-module _ (p : Settings) (least k m : ℕ) where
-  framed-within : (fr : Frame) (high : Float) (pac : C32) (start end : Float) (q : Committed × List ℕ) → FrameWithin (p .«max_pulses») least k m fr → CommitWithin (p .«max_pulses») (m + 1) q → EndWithin (p .«max_pulses») least k (m + 1) (framedBy fr high pac start end q)
-  framed-within fr high pac start end q h d = search (out-within, arith)
-
-  frame-more : (fr : Frame) → FrameWithin (p .«max_pulses») least k m fr → FrameWithin (p .«max_pulses») least k (m + 1) fr
-  frame-more fr h = search arith
-
-  pub end-frame-within : (fr : Frame) (high : Float) (pac : C32) (start end : Float) (out : Out) (fsk : List ℕ) → FrameWithin (p .«max_pulses») least k m fr → OutWithin (p .«max_pulses») out → EndWithin (p .«max_pulses») least k (m + 1) (endFrameOf p fr high pac start end out fsk)
-  unfolding endFrameOf
-  end-frame-within fr high pac start end out fsk h o =
-      let last : Committed × List ℕ = lastRunOf (p .«max_pulses») (fr .«fsk_phase») (fr .runs) (fr .done) end fsk in
-      either (EndWithin (p .«max_pulses») least k (m + 1)) (isFrameOf (p .mode) (isSplitOf (fr .«fsk_phase») (fr .levels .«f_hi») (fr .levels .«f_lo») (p .«fsk_split»)) (enoughRunsOf (fr .done .«fsk_runs») (fr .runs .«fsk_has_prev»)))
-      (framed-within fr high pac start end (closeBy last) h (close-pair-within (p .«max_pulses») (m + 1) (last .0) (last .1) (last-run-within (p .«max_pulses») m (fr .«fsk_phase») (fr .runs) (fr .done) end fsk (h .done-within))))
-      (record { frame-within = frame-more fr h; out-within = o })
+-- the frame of a presence that is over
+pub end-frame-within : (p : Settings) (least k m : ℕ) (fr : Frame) (high : Float) (pac : C32) (start end : Float) (out : Out) (fsk : List ℕ) → FrameWithin (p .«max_pulses») least k m fr → EndWithin (p .«max_pulses») least k (m + 1) (endFrameOf p fr high pac start end out fsk)
+unfolding endFrameOf
+end-frame-within p least k m fr high pac start end out fsk h =
+    let last : Committed × List ℕ = lastRunOf (p .«max_pulses») (fr .«fsk_phase») (fr .runs) (fr .done) end fsk in
+    let whole : CommitWithin (p .«max_pulses») (m + 1) (closeBy last) = close-pair-within (p .«max_pulses») (m + 1) (last .0) (last .1) (last-run-within (p .«max_pulses») m (fr .«fsk_phase») (fr .runs) (fr .done) end fsk (h .done-within)) in
+    either (EndWithin (p .«max_pulses») least k (m + 1)) (isFrameOf (p .mode) (isSplitOf (fr .«fsk_phase») (fr .levels .«f_hi») (fr .levels .«f_lo») (p .«fsk_split»)) (enoughRunsOf (fr .done .«fsk_runs») (fr .runs .«fsk_has_prev»)))
+    (search arith)
+    (search arith)
 
 -- ---- cut_train
 
@@ -113,22 +104,14 @@ module _ (max : ℕ) (fits : max < 2 ^ 32) where
 
 -- ---- frame_done
 
-pub record BodyWithin (max least k m : ℕ) (b : Body) : Type 0 where
-  pub frame-within : FrameWithin max least k m (b .frame)
-  pub train-within : TrainWithin max (b .train)
-  pub ook-within : OutWithin max (b .«out_ook»)
-  pub fsk-within : OutWithin max (b .«out_fsk»)
-
+-- the frame alone: train and records are those of Pairs
 abbrev pub DoneWithin : ℕ → ℕ → ℕ → ℕ → Body × List ℕ × List ℕ → Type 0
-DoneWithin max least k m q = BodyWithin max least k m (q .0)
+DoneWithin max least k m q = FrameWithin max least k m (q .0 .frame)
 
-pub frame-done-within : (p : Settings) → p .«max_pulses» < 2 ^ 32 → (least k m : ℕ) (b : Body) (high : Float) (pac : C32) (start end : Float) (ook fsk : List ℕ) → BodyWithin (p .«max_pulses») least k m b → DoneWithin (p .«max_pulses») least k (m + 1) (frameDoneOf p b high pac start end ook fsk)
+pub frame-done-within : (p : Settings) (least k m : ℕ) (b : Body) (high : Float) (pac : C32) (start end : Float) (ook fsk : List ℕ) → FrameWithin (p .«max_pulses») least k m (b .frame) → DoneWithin (p .«max_pulses») least k (m + 1) (frameDoneOf p b high pac start end ook fsk)
 unfolding frameDoneOf
-frame-done-within p fits least k m b high pac start end ook fsk h =
-    let f : EndWithin (p .«max_pulses») least k (m + 1) (endFrameOf p (b .frame) high pac start end (b .«out_fsk») fsk) = end-frame-within p least k m (b .frame) high pac start end (b .«out_fsk») fsk (h .frame-within) (h .fsk-within) in
-    let c : CutWithin (p .«max_pulses») (cutTrainOf (b .train) high (b .«out_ook») start ook) = cut-train-within (p .«max_pulses») fits (b .train) high (b .«out_ook») start ook (h .train-within) (h .ook-within) in
+frame-done-within p least k m b high pac start end ook fsk h =
+    let f : EndWithin (p .«max_pulses») least k (m + 1) (endFrameOf p (b .frame) high pac start end (b .«out_fsk») fsk) = end-frame-within p least k m (b .frame) high pac start end (b .«out_fsk») fsk h in
     either (DoneWithin (p .«max_pulses») least k (m + 1)) (eqb (endFrameOf p (b .frame) high pac start end (b .«out_fsk») fsk .0 .«is_fsk») 1)
-    (either (DoneWithin (p .«max_pulses») least k (m + 1)) (eqb (p .mode) 2)
-    (search)
-    (search))
-    (search)
+    (either (DoneWithin (p .«max_pulses») least k (m + 1)) (eqb (p .mode) 2) f f)
+    f

@@ -140,16 +140,16 @@ begin-frame-within max least fr t h = search arith
 
 -- the first transition commits at most two runs
 
-abbrev OpeningWithin : ℕ → ℕ → Opening × List ℕ → Type 0
+abbrev pub OpeningWithin : ℕ → ℕ → Opening × List ℕ → Type 0
 OpeningWithin max m q = CommittedWithin max m (q .0 .done)
 
 module _ (max m : ℕ) where
-  open-runs-within : (early up : Bool) (from t : Float) (c : Committed) (fsk : List ℕ) → CommittedWithin max m c → OpeningWithin max (m + 1) (openRunsOf max early up from t c fsk)
+  pub open-runs-within : (early up : Bool) (from t : Float) (c : Committed) (fsk : List ℕ) → CommittedWithin max m c → OpeningWithin max (m + 1) (openRunsOf max early up from t c fsk)
   unfolding openRunsOf
   open-runs-within early up from t c fsk h =
       either (OpeningWithin max (m + 1)) early (commit-within max m c (not up) from t fsk h) (omega arith)
 
-  settle-within : (least : ℕ) (up : Bool) (run : ℕ) (t : Turn) (o : Opening) (fsk : List ℕ) → CommittedWithin max m (o .done) → StepWithin max (m + 1) (settleOf max least up run t o fsk)
+  pub settle-within : (least : ℕ) (up : Bool) (run : ℕ) (t : Turn) (o : Opening) (fsk : List ℕ) → CommittedWithin max m (o .done) → StepWithin max (m + 1) (settleOf max least up run t o fsk)
   unfolding settleOf
   settle-within least up run t o fsk h =
       either (StepWithin max (m + 1)) (leb least (t .second))

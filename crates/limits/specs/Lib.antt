@@ -2,5 +2,6 @@
 pub mod Fsk
 pub mod Slicer
 pub mod Frame
+pub mod Pairs
 pub mod Presence
 pub mod Burst

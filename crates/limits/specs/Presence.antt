@@ -29,7 +29,7 @@ use Rattle.presence.specs.declared.Present.{Present}
 use Rattle.presence.specs.declared.Snapped.{Snapped}
 use Rattle.limits.specs.Fsk.{FrameWithin, begin-frame-within}
 use Rattle.limits.specs.Slicer.{fsk-min-above, sample-within}
-use Rattle.limits.specs.Frame.{BodyWithin, DoneWithin, ended-within, frame-done-within}
+use Rattle.limits.specs.Frame.{DoneWithin, frame-done-within}
 
 -- larger bounds hold too
 frame-up : {max least k m k′ m′ : ℕ} {fr : Frame} → k ≤ k′ → m ≤ m′ → FrameWithin max least k m fr → FrameWithin max least k′ m′ fr
@@ -95,14 +95,11 @@ module _ (max least long : ℕ) (small : long ≤ 2 ^ 24) (some : 0 < least) (s 
 
 pub record PresentWithin (max least long : ℕ) (r : Present) : Type 0 where
   pub flags : PresWithin (r .pres)
-  pub body-within : BodyWithin max least (long + 1) (2 * long + 3) (r .body)
+  pub frame-within : FrameWithin max least (long + 1) (2 * long + 3) (r .body .frame)
   pub running : isStayOf (r .next) ≡ true → Running max least long (r .pres) (r .body .frame)
 
 abbrev pub AnswerWithin : ℕ → ℕ → ℕ → Present × List ℕ × List ℕ → Type 0
 AnswerWithin max least long q = PresentWithin max least long (q .0)
-
-body-up : {max least k m k′ m′ : ℕ} {b : Body} → k ≤ k′ → m ≤ m′ → BodyWithin max least k m b → BodyWithin max least k′ m′ b
-body-up i j h = search arith
 
 due-open : (s : Pres) (n : ℕ) → dueOf s n ≡ true → s .«p_confirmed» ≡ 0
 unfolding dueOf
@@ -113,54 +110,50 @@ due-open s n q = go (eqb (s .«p_confirmed») 0) refl q
     go false r z = let no : _≡_ {A = ℕ} 0 1 = cc in absurd (omega arith)
 
 -- the carrier is off: nothing more is counted, and a confirmed absence may end the frame
-off-answer : (p : Settings) (a : Inputs) (least : ℕ) (s : Pres) (b : Body) (ook fsk : List ℕ) → s .«p_level» ≡ 0 → s .«p_confirmed» ≤ 1 → BodyWithin (p .«max_pulses») least (p .«long_steps» + 1) (2 * p .«long_steps» + 3) b → (s .«p_confirmed» ≡ 0 → (s .«p_prev» ≤ p .«long_steps») × FrameWithin (p .«max_pulses») least (s .«p_prev») (2 * s .«p_prev») (b .frame)) → AnswerWithin (p .«max_pulses») least (p .«long_steps») (carrierIfOf p a false s b ook fsk)
+off-answer : (p : Settings) (a : Inputs) (least : ℕ) (s : Pres) (b : Body) (ook fsk : List ℕ) → s .«p_level» ≡ 0 → s .«p_confirmed» ≤ 1 → FrameWithin (p .«max_pulses») least (p .«long_steps» + 1) (2 * p .«long_steps» + 3) (b .frame) → (s .«p_confirmed» ≡ 0 → (s .«p_prev» ≤ p .«long_steps») × FrameWithin (p .«max_pulses») least (s .«p_prev») (2 * s .«p_prev») (b .frame)) → AnswerWithin (p .«max_pulses») least (p .«long_steps») (carrierIfOf p a false s b ook fsk)
 unfolding carrierIfOf longOf
 off-answer p a least s b ook fsk none sure h f =
     record {
       flags = omega arith;
-      body-within = h;
-      running = λ z. record { flags = omega arith; most = h .frame-within; present = λ o. absurd (omega arith); absent = λ o. f };
+      frame-within = h;
+      running = λ z. record { flags = omega arith; most = h; present = λ o. absurd (omega arith); absent = λ o. f };
     }
 
-module _ (p : Settings) (fits : p .«max_pulses» < 2 ^ 32) (a : Inputs) (ook : List ℕ) where
-  end-carrier-within : (least k m : ℕ) (t : Float) (b : Body) (fsk : List ℕ) → BodyWithin (p .«max_pulses») least k m b → DoneWithin (p .«max_pulses») least k (m + 1) (endCarrierOf p a t b ook fsk)
+module _ (p : Settings) (a : Inputs) (ook : List ℕ) where
+  end-carrier-within : (least k m : ℕ) (t : Float) (b : Body) (fsk : List ℕ) → FrameWithin (p .«max_pulses») least k m (b .frame) → DoneWithin (p .«max_pulses») least k (m + 1) (endCarrierOf p a t b ook fsk)
   unfolding endCarrierOf
   end-carrier-within least k m t b fsk h =
-      let full : BodyWithin (p .«max_pulses») least k m (fullBody b) = search arith in
-      let e : Float = add binary64 (ofInt binary64 (pos (a .idx))) one64 in
-      let d : DoneWithin (p .«max_pulses») least k (m + 1) (frameDoneOf p (fullBody b) (a .high) (a .pac) t e ook fsk) = frame-done-within p fits least k m (fullBody b) (a .high) (a .pac) t e ook fsk full in
-      let q : Body × List ℕ × List ℕ = frameDoneOf p (fullBody b) (a .high) (a .pac) t e ook fsk in
-      let n = ended-within (p .«max_pulses») fits (q .0 .train) (a .high) (q .0 .«out_ook») (q .1) (d .train-within) (d .ook-within) in
-      search
+      let full : FrameWithin (p .«max_pulses») least k m (fullBody b .frame) = search arith in
+      frame-done-within p least k m (fullBody b) (a .high) (a .pac) t (add binary64 (ofInt binary64 (pos (a .idx))) one64) ook fsk full
 
   -- the carrier is on
-  carrier-on : (least : ℕ) (s : Pres) (b : Body) (fsk : List ℕ) → s .«p_level» ≡ 1 → s .«p_confirmed» ≤ 1 → BodyWithin (p .«max_pulses») least (p .«long_steps» + 1) (2 * p .«long_steps» + 2) b → FrameWithin (p .«max_pulses») least (s .«p_run») (2 * s .«p_run») (b .frame) → AnswerWithin (p .«max_pulses») least (p .«long_steps») (carrierIfOf p a true s b ook fsk)
+  carrier-on : (least : ℕ) (s : Pres) (b : Body) (fsk : List ℕ) → s .«p_level» ≡ 1 → s .«p_confirmed» ≤ 1 → FrameWithin (p .«max_pulses») least (p .«long_steps» + 1) (2 * p .«long_steps» + 2) (b .frame) → FrameWithin (p .«max_pulses») least (s .«p_run») (2 * s .«p_run») (b .frame) → AnswerWithin (p .«max_pulses») least (p .«long_steps») (carrierIfOf p a true s b ook fsk)
   unfolding carrierIfOf longOf
   carrier-on least s b fsk one sure h f =
       by-test (AnswerWithin (p .«max_pulses») least (p .«long_steps»)) (ltb (p .«long_steps») (s .«p_run»))
       (λ q. record {
         flags = omega arith;
-        body-within = body-up (omega arith) (omega arith) (end-carrier-within least (p .«long_steps» + 1) (2 * p .«long_steps» + 2) (s .«p_t_run») b fsk h);
+        frame-within = frame-up (omega arith) (omega arith) (end-carrier-within least (p .«long_steps» + 1) (2 * p .«long_steps» + 2) (s .«p_t_run») b fsk h);
         running = λ z. let no : _≡_ {A = ℕ} 0 1 = cc in absurd (omega arith);
       })
       (λ q. record {
         flags = omega arith;
-        body-within = body-up (omega arith) (omega arith) h;
+        frame-within = frame-up (omega arith) (omega arith) h;
         running = λ z. record {
           flags = omega arith;
-          most = frame-up (omega arith) (omega arith) (h .frame-within);
+          most = frame-up (omega arith) (omega arith) h;
           present = λ o. (ltb-false (p .«long_steps») (s .«p_run») q, f);
           absent = λ o. absurd (omega arith);
         };
       })
 
-  after-on : (least : ℕ) (s : Pres) (b : Body) (fsk : List ℕ) (due : Bool) → s .«p_level» ≡ 1 → s .«p_confirmed» ≤ 1 → BodyWithin (p .«max_pulses») least (p .«long_steps» + 1) (2 * p .«long_steps» + 2) b → FrameWithin (p .«max_pulses») least (s .«p_run») (2 * s .«p_run») (b .frame) → AnswerWithin (p .«max_pulses») least (p .«long_steps») (confirmBy p a true s b due ook fsk)
+  after-on : (least : ℕ) (s : Pres) (b : Body) (fsk : List ℕ) (due : Bool) → s .«p_level» ≡ 1 → s .«p_confirmed» ≤ 1 → FrameWithin (p .«max_pulses») least (p .«long_steps» + 1) (2 * p .«long_steps» + 2) (b .frame) → FrameWithin (p .«max_pulses») least (s .«p_run») (2 * s .«p_run») (b .frame) → AnswerWithin (p .«max_pulses») least (p .«long_steps») (confirmBy p a true s b due ook fsk)
   unfolding endsOf endIfOf sureIfOf
   after-on least s b fsk true one sure h f = carrier-on least _ b fsk one (omega arith) h f
   after-on least s b fsk false one sure h f = carrier-on least s b fsk one sure h f
 
   -- the absence is confirmed
-  off-sure : (least : ℕ) (s : Pres) (b : Body) (fsk : List ℕ) → s .«p_level» ≡ 0 → BodyWithin (p .«max_pulses») least (p .«long_steps» + 1) (2 * p .«long_steps» + 3) b → s .«p_prev» ≤ p .«long_steps» → FrameWithin (p .«max_pulses») least (s .«p_prev») (2 * s .«p_prev») (b .frame) → AnswerWithin (p .«max_pulses») least (p .«long_steps») (confirmBy p a false s b true ook fsk)
+  off-sure : (least : ℕ) (s : Pres) (b : Body) (fsk : List ℕ) → s .«p_level» ≡ 0 → FrameWithin (p .«max_pulses») least (p .«long_steps» + 1) (2 * p .«long_steps» + 3) (b .frame) → s .«p_prev» ≤ p .«long_steps» → FrameWithin (p .«max_pulses») least (s .«p_prev») (2 * s .«p_prev») (b .frame) → AnswerWithin (p .«max_pulses») least (p .«long_steps») (confirmBy p a false s b true ook fsk)
   unfolding endsOf endIfOf sureIfOf
   off-sure least s b fsk none h low f = go (leb (p .«min_steps») (s .«p_prev»))
     where
@@ -172,14 +165,14 @@ module _ (p : Settings) (fits : p .«max_pulses» < 2 ^ 32) (a : Inputs) (ook : 
 
       done : DoneWithin (p .«max_pulses») least (p .«long_steps» + 1) (2 * p .«long_steps» + 3) (frameDoneOf p b (a .high) (a .pac) (s .«p_t_prev») end ook fsk)
       done =
-          body-up (omega arith) (omega arith)
-          (frame-done-within p fits least (s .«p_prev») (2 * s .«p_prev») b (a .high) (a .pac) (s .«p_t_prev») end ook fsk (search))
+          frame-up (omega arith) (omega arith)
+          (frame-done-within p least (s .«p_prev») (2 * s .«p_prev») b (a .high) (a .pac) (s .«p_t_prev») end ook fsk f)
 
       go : (ends : Bool) → AnswerWithin (p .«max_pulses») least (p .«long_steps») (carrierBy p a false (sureIfOf true s) (endIfOf ends p a s b ook fsk))
       go true = off-answer p a least _ _ _ _ none (omega arith) done (λ z. never z)
       go false = off-answer p a least _ _ _ _ none (omega arith) h (λ z. never z)
 
-  after-off : (least : ℕ) (s : Pres) (b : Body) (fsk : List ℕ) (due : Bool) → dueOf s (p .«min_steps») ≡ due → s .«p_level» ≡ 0 → s .«p_confirmed» ≤ 1 → BodyWithin (p .«max_pulses») least (p .«long_steps» + 1) (2 * p .«long_steps» + 3) b → (s .«p_confirmed» ≡ 0 → (s .«p_prev» ≤ p .«long_steps») × FrameWithin (p .«max_pulses») least (s .«p_prev») (2 * s .«p_prev») (b .frame)) → AnswerWithin (p .«max_pulses») least (p .«long_steps») (confirmBy p a false s b due ook fsk)
+  after-off : (least : ℕ) (s : Pres) (b : Body) (fsk : List ℕ) (due : Bool) → dueOf s (p .«min_steps») ≡ due → s .«p_level» ≡ 0 → s .«p_confirmed» ≤ 1 → FrameWithin (p .«max_pulses») least (p .«long_steps» + 1) (2 * p .«long_steps» + 3) (b .frame) → (s .«p_confirmed» ≡ 0 → (s .«p_prev» ≤ p .«long_steps») × FrameWithin (p .«max_pulses») least (s .«p_prev») (2 * s .«p_prev») (b .frame)) → AnswerWithin (p .«max_pulses») least (p .«long_steps») (confirmBy p a false s b due ook fsk)
   unfolding endsOf endIfOf sureIfOf
   after-off least s b fsk true q none sure h f =
       let now = f (due-open s (p .«min_steps») q) in
@@ -187,9 +180,9 @@ module _ (p : Settings) (fits : p .«max_pulses» < 2 ^ 32) (a : Inputs) (ook : 
   after-off least s b fsk false q none sure h f = off-answer p a least s b ook fsk none sure h f
 
   -- one sample of the presence machine, from a burst under way
-  pub presence-within : p .«long_steps» ≤ 2 ^ 24 → (s : Pres) (b : Body) (fsk : List ℕ) → Running (p .«max_pulses») (fskMinOf (p .«min_steps»)) (p .«long_steps») s (b .frame) → BodyWithin (p .«max_pulses») (fskMinOf (p .«min_steps»)) (p .«long_steps» + 1) (2 * p .«long_steps» + 3) b → AnswerWithin (p .«max_pulses») (fskMinOf (p .«min_steps»)) (p .«long_steps») (presenceOf p a s b ook fsk)
+  pub presence-within : p .«long_steps» ≤ 2 ^ 24 → (s : Pres) (b : Body) (fsk : List ℕ) → Running (p .«max_pulses») (fskMinOf (p .«min_steps»)) (p .«long_steps») s (b .frame) → AnswerWithin (p .«max_pulses») (fskMinOf (p .«min_steps»)) (p .«long_steps») (presenceOf p a s b ook fsk)
   unfolding presenceOf advanceOf sliceIfOf
-  presence-within small s b fsk h v = go (upperOf (eqb (s .«p_level») 1) (a .e) thr) (edgeOf (a .idx) (crossOf (a .ep) (a .e) thr))
+  presence-within small s b fsk h = go (upperOf (eqb (s .«p_level») 1) (a .e) thr) (edgeOf (a .idx) (crossOf (a .ep) (a .e) thr))
     where
       thr : Float
       thr = presThrOf (eqb (s .«p_level») 1) (a .noise) (s .«p_factor»)
@@ -201,12 +194,12 @@ module _ (p : Settings) (fits : p .«max_pulses» < 2 ^ 32) (a : Inputs) (ook : 
           let low : o .k ≤ p .«long_steps» = o .low in
           let longer : o .k + 1 ≤ movePresOf s 1 tc .«p_run» = o .longer in
           after-on (fskMinOf (p .«min_steps»)) (movePresOf s 1 tc) _ _ (dueOf (movePresOf s 1 tc) (p .«min_steps»)) (o .is-on) (o .sure-flag)
-          (search (frame-up, arith))
+          (frame-up (omega arith) (omega arith) f)
           (frame-up (omega arith) (omega arith) f)
       go false tc =
           let o = off-moved (p .«max_pulses») (fskMinOf (p .«min_steps»)) (p .«long_steps») small (fsk-min-above (p .«min_steps»)) s (b .frame) tc h (eqb 0 (s .«p_level»)) (eqb (s .«p_confirmed») 0) refl refl in
           after-off (fskMinOf (p .«min_steps»)) (movePresOf s 0 tc) _ _ (dueOf (movePresOf s 0 tc) (p .«min_steps»)) refl (o .is-off) (o .sure-flag)
-          (search)
+          (o .most)
           (o .absent)
 
 -- begin_run of the envelope changes times only

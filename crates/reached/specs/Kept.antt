@@ -15,13 +15,14 @@ use Rattle.ook.specs.declared.Settings.{Settings}
 use Rattle.fsk.specs.declared.Frame.{Frame}
 use Rattle.presence.specs.declared.Pres.{Pres}
 use Rattle.burst.specs.declared.Burst.{Burst}
-use Rattle.limits.specs.Fsk.{FrameWithin}
+use Rattle.limits.specs.Fsk.{CommittedWithin, FrameWithin}
+use Rattle.limits.specs.Pairs.{Paired, BurstFits}
 use Rattle.limits.specs.Slicer.{fsk-min-above}
 use Rattle.limits.specs.Presence.{PresWithin}
 use Rattle.limits.specs.Burst.{BurstWithin, Runs}
 use Rattle.refusals.specs.Domain.{InDomain}
 use Rattle.refusals.specs.State.{envOk, trainOk, presOk, frameOk, outOk, burstOk, candOk}
-use Rattle.lane.specs.Idle.{noOut, noBurst}
+use Rattle.lane.specs.Idle.{noOut, noneDone, noBurst}
 use Rattle.lane.specs.Begin.{withFactor, clearedOf}
 
 env-ok : (v : Env) → EnvWithin v → envOk v ≡ true
@@ -57,12 +58,12 @@ pub burst-ok : {p : Settings} {b : Burst} → InDomain p → BurstWithin p b →
 unfolding burstOk
 burst-ok {p} {b} d h =
     simp (
-      env-ok (b .env) (h .env-within),
-      train-ok (p .«max_pulses») (b .train) (h .train-within),
-      out-ok (p .«max_pulses») (b .«out_ook») (h .ook-within),
+      env-ok (b .env) (h .fits .env-within),
+      train-ok (p .«max_pulses») (b .train) (h .fits .train-within),
+      out-ok (p .«max_pulses») (b .«out_ook») (h .fits .ook-within),
       pres-ok (b .pres) (h .pres-within),
       frame-ok (p .«max_pulses») (fskMinOf (p .«min_steps»)) (p .«long_steps» + 1) (2 * p .«long_steps» + 3) (b .frame) (omega (arith, d .long-steps .1)) (omega (arith, d .long-steps .1)) (h .frame-within),
-      out-ok (p .«max_pulses») (b .«out_fsk») (h .fsk-within),
+      out-ok (p .«max_pulses») (b .«out_fsk») (h .fits .fsk-within),
     )
 
 -- outside the burst, phase 2, the candidates are not asked for
@@ -78,14 +79,20 @@ cand-ok phase {p} {b} h = go (eqb phase 2) (eqb (b .frame .«fsk_phase») 0) ref
 no-out : (max : ℕ) → OutWithin max noOut
 no-out max = record { state-flag = omega arith; cut-flag = omega arith; kind-flag = omega arith; room = omega arith }
 
+none-done : (max m : ℕ) → CommittedWithin max m noneDone
+none-done max m = record { open-flag = omega arith; full-flag = omega arith; pairs = omega arith; runs-most = omega arith }
+
 pub none-within : (p : Settings) → BurstWithin p noBurst
 unfolding noBurst
 none-within p =
     record {
-      env-within = record { level-flag = omega arith; confirmed-flag = omega arith; pending-flag = omega arith };
-      train-within = record { started-flag = omega arith; open-flag = omega arith; truncated-flag = omega arith; pulses = omega arith };
-      ook-within = no-out (p .«max_pulses»);
-      fsk-within = no-out (p .«max_pulses»);
+      fits = record {
+        env-within = record { level-flag = omega arith; confirmed-flag = omega arith; pending-flag = omega arith };
+        train-within = record { started-flag = omega arith; open-flag = omega arith; truncated-flag = omega arith; pulses = omega arith };
+        ook-within = no-out (p .«max_pulses»);
+        fsk-within = no-out (p .«max_pulses»);
+        pairs = none-done (p .«max_pulses») 0;
+      };
       pres-within = record { level-flag = omega arith; confirmed-flag = omega arith };
       frame-within = record {
         phase-flag = omega arith;
@@ -93,33 +100,24 @@ none-within p =
         candidates = λ q. fsk-min-above (p .«min_steps»);
         count = omega arith;
         runs-within = record { level-flag = omega arith; confirmed-flag = omega arith; has-prev-flag = omega arith };
-        done-within = record { open-flag = omega arith; full-flag = omega arith; pairs = omega arith; runs-most = omega arith };
+        done-within = none-done (p .«max_pulses») (2 * p .«long_steps» + 3);
       };
     }
 
+-- the records are cleared, whatever they were
+pub cleared-fits : (max : ℕ) (b : Burst) → EnvWithin (b .env) → TrainWithin max (b .train) → Paired max (b .frame .done) → BurstFits max (clearedOf b)
+unfolding clearedOf
+cleared-fits max b v t c = record { env-within = v; train-within = t; ook-within = no-out max; fsk-within = no-out max; pairs = c }
+
 pub cleared-within : {p : Settings} {b : Burst} → BurstWithin p b → BurstWithin p (clearedOf b)
 unfolding clearedOf
-cleared-within {p} h =
-    record {
-      env-within = h .env-within;
-      train-within = h .train-within;
-      ook-within = no-out (p .«max_pulses»);
-      fsk-within = no-out (p .«max_pulses»);
-      pres-within = h .pres-within;
-      frame-within = h .frame-within;
-    }
+cleared-within {p} {b} h =
+    let f = h .fits in
+    record { fits = cleared-fits (p .«max_pulses») b (f .env-within) (f .train-within) (f .pairs); pres-within = h .pres-within; frame-within = h .frame-within }
 
 pub cleared-runs : (p : Settings) (b : Burst) → Runs p b → Runs p (clearedOf b)
 unfolding clearedOf
 cleared-runs p b r = r
 
 pub factor-within : {p : Settings} {b : Burst} (f : Float) → BurstWithin p b → BurstWithin p (withFactor f b)
-factor-within f h =
-    record {
-      env-within = h .env-within;
-      train-within = h .train-within;
-      ook-within = h .ook-within;
-      fsk-within = h .fsk-within;
-      pres-within = record { level-flag = h .pres-within .level-flag; confirmed-flag = h .pres-within .confirmed-flag };
-      frame-within = h .frame-within;
-    }
+factor-within f h = search

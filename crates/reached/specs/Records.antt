@@ -1,0 +1,217 @@
+-- The records of an accepted call, whatever the lane value: an opening and a begin leave none, and each that a step leaves has at most
+-- max_pulses pairs. So the slots that belong to a record are at most 2 * max_pulses, which the domain ends at 131,072.
+-- A refused call answers 3 (`replyNumberOf`) and prints no record.
+use Prim.Native.Nat.{ℕ, _+_, _*_, _^_, _≤_}
+use mathlib.Core.Bool.{Bool, true, false, cond, not, _&&_}
+use mathlib.Core.Path.{_≡_, refl}
+use mathlib.Core.List.{List}
+use native.Mathlib.Omega.{arith}
+use lib.ListN.{length, getD, length-take}
+use lib.Dec.{leb, ltb, eqb}
+use lib.IntN.{pos}
+use lib.Ieee.{Float, nan, binary64, ofInt}
+use borrow.Author.Tests.{leb-true, eqb-true, not-true}
+use Rattle.arith.specs.Leaves.{leadLenOf}
+use Rattle.ook.specs.Tests.{both-true, other-true, six-true}
+use Rattle.ook.specs.Limits.{either, EnvWithin, TrainWithin}
+use Rattle.ook.specs.declared.Env.{Env}
+use Rattle.ook.specs.declared.Train.{Train}
+use Rattle.ook.specs.declared.Out.{Out}
+use Rattle.ook.specs.declared.Settings.{Settings}
+use Rattle.fsk.specs.declared.Committed.{Committed}
+use Rattle.fsk.specs.declared.Frame.{Frame}
+use Rattle.burst.specs.declared.Burst.{Burst}
+use Rattle.burst.specs.declared.Lead.{Lead}
+use Rattle.burst.specs.Lead.{leadAddOf, largestOf, beginBurstOf, staying, replayOf, leadFullOf}
+use Rattle.limits.specs.Pairs.{Paired, BurstFits, SampledFits, sample-fits, replay-fits, begin-burst-fits}
+use Rattle.refusals.specs.Domain.{InDomain, settings-tell, settingsOk, indexOk, roomOk}
+use Rattle.refusals.specs.State.{flag, envOk, trainOk, runsOk, committedOk, outOk, presOk, frameOk, burstOk}
+use Rattle.refusals.specs.Order.{none-failed}
+use Rattle.reached.specs.Kept.{cleared-fits}
+use Rattle.lane.specs.declared.BeginArgs.{BeginArgs}
+use Rattle.lane.specs.declared.StepArgs.{StepArgs}
+use Rattle.lane.specs.declared.Lane.{Lane}
+use Rattle.lane.specs.declared.Answer.{Answer}
+use Rattle.lane.specs.Answers.{replyNumberOf}
+use Rattle.lane.specs.Refusals.{openedOk, laneOk, followsOf, stepFloatsOk, beginRefusal, stepRefusal, Passes, lane-passes}
+use Rattle.lane.specs.Idle.{noOut, noBurst, idleLane}
+use Rattle.lane.specs.Begin.{ringOf, clearedOf, leadLane}
+use Rattle.lane.specs.Advance.{settleOf, fillOf, replayStep, leadStep, atOf, burstStep, advanceOf}
+use Rattle.lane.specs.Step.{refuse, stay, opened, begun, stepped}
+use Rattle.lane.specs.Part.{front, partOf}
+
+-- ---- what refusal 4's check says of the train and of the frame's pairs
+
+env-tells : (v : Env) → envOk v ≡ true → EnvWithin v
+env-tells v h =
+    let b = both-true (flag (v .run .level) && flag (v .run .confirmed)) (flag (v .«ref_pending»)) h in
+    let a = both-true (flag (v .run .level)) (flag (v .run .confirmed)) (b .0) in
+    record { level-flag = leb-true _ _ (a .0); confirmed-flag = leb-true _ _ (a .1); pending-flag = leb-true _ _ (b .1) }
+
+four-true : (a b c d : Bool) → (a && b && c && d) ≡ true → (a ≡ true) × (b ≡ true) × (c ≡ true) × (d ≡ true)
+four-true a b c d h =
+    let t = six-true true true a b c d h in
+    (t .2, t .3, t .4, t .5)
+
+train-tells : (max : ℕ) (t : Train) → trainOk max t ≡ true → TrainWithin max t
+train-tells max t h =
+    let q = four-true (flag (t .started)) (flag (t .«open»)) (flag (t .truncated)) (leb (t .«ook_n» + t .«open») max) h in
+    record { started-flag = leb-true _ _ (q .0); open-flag = leb-true _ _ (q .1); truncated-flag = leb-true _ _ (q .2); pulses = leb-true _ _ (q .3) }
+
+pairs-tell : (max : ℕ) (c : Committed) → committedOk max c ≡ true → Paired max c
+pairs-tell max c h =
+    let q = four-true (flag (c .«fsk_open»)) (flag (c .«fsk_full»)) (leb (c .«fsk_n» + c .«fsk_open») max) (leb (c .«fsk_runs») (2 ^ 27)) h in
+    record { open-flag = leb-true _ _ (q .0); full-flag = leb-true _ _ (q .1); pairs = leb-true _ _ (q .2); runs-most = omega arith }
+
+frame-tells : (max : ℕ) (f : Frame) → frameOk max f ≡ true → Paired max (f .done)
+unfolding frameOk
+frame-tells max f h =
+    pairs-tell max (f .done)
+    (both-true (flag (f .«fsk_phase») && leb (f .mean .«fsk_cnt») (2 ^ 27) && flag (f .early .early) && runsOk (f .runs)) (committedOk max (f .done)) h .1)
+
+burst-tells : (max : ℕ) (b : Burst) → burstOk max b ≡ true → BurstFits max (clearedOf b)
+unfolding burstOk
+burst-tells max b h =
+    let q = six-true (envOk (b .env)) (trainOk max (b .train)) (outOk (b .«out_ook»)) (presOk (b .pres)) (frameOk max (b .frame)) (outOk (b .«out_fsk»)) h in
+    cleared-fits max b (env-tells (b .env) (q .0)) (train-tells max (b .train) (q .1)) (frame-tells max (b .frame) (q .4))
+
+-- ---- an accepted step
+
+-- what is known of the lane: its settings are of the domain, and its burst passes refusal 4's check
+record Ready (l : Lane) : Type 0 where
+  domain : InDomain (l .settings)
+  fits : BurstFits (l .settings .«max_pulses») (clearedOf (l .burst))
+
+-- out of idle a lane has settings
+domain-tells : (had phase : ℕ) (p : Settings) → eqb phase 0 ≡ false → openedOk had phase p ≡ true → InDomain p
+unfolding openedOk
+domain-tells had phase p busy h =
+    let none : (eqb had 0 && eqb phase 0) ≡ false = go (eqb had 0) (eqb phase 0) busy in
+    settings-tell p (both-true (eqb had 1) (settingsOk p) (other-true (eqb had 0 && eqb phase 0) (eqb had 1 && settingsOk p) h none) .1)
+  where
+    go : (a b : Bool) → b ≡ false → (a && b) ≡ false
+    go true b q = q
+    go false b q = refl
+
+ready : (l : Lane) (s : StepArgs) (m n : ℕ) → stepRefusal l s m n ≡ 0 → Ready l
+unfolding stepRefusal
+ready l s m n e =
+    let t = none-failed true (laneOk l) (not (eqb (l .phase) 0)) (indexOk (s .index) && followsOf (l .last) (s .index)) (stepFloatsOk s) (roomOk (l .settings) m n) e in
+    let k : Passes l = lane-passes l (t .1) in
+    record { domain = domain-tells (l .opened) (l .phase) (l .settings) (not-true (eqb (l .phase) 0) (t .2)) (k .had); fits = burst-tells (l .settings .«max_pulses») (l .burst) (k .within) }
+
+abbrev AnswerFits : ℕ → Answer × List ℕ × List ℕ → Type 0
+AnswerFits max q = BurstFits max (q .0 .lane .burst)
+
+module _ (l : Lane) (s : StepArgs) (r : Ready l) where
+  lead-fits : (noise : Float) (ring : List Float) (ld : Lead) (ook fsk : List ℕ) → SampledFits (l .settings .«max_pulses») (leadFullOf (l .settings) noise ring ld (clearedOf (l .burst)) ook fsk)
+  unfolding leadFullOf replayOf
+  lead-fits noise ring ld ook fsk =
+      let p : Settings = l .settings in
+      let n : Burst = beginBurstOf (largestOf (ld .«lead_e») (leadLenOf (p .«min_steps»))) (ofInt binary64 (pos (ld .«lead_at»))) (getD (ld .«lead_e») 0 nan) (clearedOf (l .burst)) in
+      replay-fits p (omega (arith, r .domain .max-pulses .1)) noise ring ld (leadLenOf (p .«min_steps»)) 0 (staying n ook fsk)
+      (begin-burst-fits p (omega (arith, r .domain .max-pulses .1)) _ _ _ (clearedOf (l .burst)) (r .fits))
+
+  advance-fits : (ook fsk : List ℕ) → AnswerFits (l .settings .«max_pulses») (advanceOf l s ook fsk)
+  unfolding advanceOf leadStep fillOf replayStep burstStep settleOf
+  advance-fits ook fsk =
+      let ring : List Float = ringOf (l .ring) (s .index) (s .envelope) in
+      let ld : Lead = leadAddOf (l .lead) (s .envelope) (s .x) in
+      either (AnswerFits (l .settings .«max_pulses»)) (eqb (l .phase) 1)
+      (either (AnswerFits (l .settings .«max_pulses»)) (ltb (ld .«lead_n») (leadLenOf (l .settings .«min_steps»)))
+      (r .fits)
+      (lead-fits (s .noise) ring ld ook fsk))
+      (sample-fits (l .settings) (omega (arith, r .domain .max-pulses .1)) (atOf l s) ring (clearedOf (l .burst)) ook fsk (r .fits))
+
+-- ---- the records of an accepted call
+
+-- neither record has more pairs than max
+pub record RecordsFit (max : ℕ) (b : Burst) : Type 0 where
+  pub ook-pairs : b .«out_ook» .pairs ≤ max
+  pub fsk-pairs : b .«out_fsk» .pairs ≤ max
+
+-- both records are cleared: neither decides
+pub record NoRecords (b : Burst) : Type 0 where
+  pub ook-none : b .«out_ook» ≡ noOut
+  pub fsk-none : b .«out_fsk» ≡ noOut
+
+pub records-fit-step : (l : Lane) (s : StepArgs) (ook fsk : List ℕ) → stepRefusal l s (length ook) (length fsk) ≡ 0 → RecordsFit (l .settings .«max_pulses») (stepped l s ook fsk .0 .lane .burst)
+unfolding stepped
+records-fit-step l s ook fsk e =
+    let f : AnswerFits (l .settings .«max_pulses») (advanceOf l s ook fsk) = advance-fits l s (ready l s (length ook) (length fsk) e) ook fsk in
+    rw e (record { ook-pairs = f .ook-within .room; fsk-pairs = f .fsk-within .room })
+
+pub records-none-begin : (l : Lane) (b : BeginArgs) (ook fsk : List ℕ) → beginRefusal l b (length ook) (length fsk) ≡ 0 → NoRecords (begun l b ook fsk .lane .burst)
+unfolding begun leadLane clearedOf
+records-none-begin l b ook fsk e = rw e (record { ook-none = refl; fsk-none = refl })
+
+pub records-none-open : (l : Lane) (p : Settings) → settingsOk p ≡ true → NoRecords (opened l p .lane .burst)
+unfolding opened idleLane noBurst
+records-none-open l p e = rw e (record { ook-none = refl; fsk-none = refl })
+
+-- ---- their slots
+
+-- of the buffers ook and fsk at most `most` slots belong to either record
+pub record PartsFit (most : ℕ) (b : Burst) (ook fsk : List ℕ) : Type 0 where
+  pub ook-part : length (partOf (b .«out_ook») ook fsk) ≤ most
+  pub fsk-part : length (partOf (b .«out_fsk») ook fsk) ≤ most
+
+front-most : (n : ℕ) (s : List ℕ) → length (front n s) ≤ n
+unfolding front
+front-most n s = either (λ (q : List ℕ). length q ≤ n) (leb n (length s)) (omega (arith, length-take n s)) (omega arith)
+
+part-most : (most : ℕ) (r : Out) (ook fsk : List ℕ) → 2 * r .pairs ≤ most → length (partOf r ook fsk) ≤ most
+unfolding partOf
+part-most most r ook fsk h =
+    let short : List ℕ → Type 0 = λ (q : List ℕ). length q ≤ most in
+    either short (eqb (r .state) 1)
+    (either short (eqb (r .fsk) 1) (omega (arith, front-most (2 * r .pairs) fsk)) (omega (arith, front-most (2 * r .pairs) ook)))
+    (omega arith)
+
+pub parts-fit-step : (l : Lane) (s : StepArgs) (ook fsk : List ℕ) → stepRefusal l s (length ook) (length fsk) ≡ 0 → (x y : List ℕ) → PartsFit (2 * l .settings .«max_pulses») (stepped l s ook fsk .0 .lane .burst) x y
+parts-fit-step l s ook fsk e x y =
+    let f = records-fit-step l s ook fsk e in
+    record { ook-part = part-most _ _ x y (omega (arith, f .ook-pairs)); fsk-part = part-most _ _ x y (omega (arith, f .fsk-pairs)) }
+
+none-most : (most : ℕ) (b : Burst) → NoRecords b → (x y : List ℕ) → PartsFit most b x y
+none-most most b n x y =
+    let z : length (partOf noOut x y) ≤ most = part-most most noOut x y (omega arith) in
+    record { ook-part = rw (n .ook-none) z; fsk-part = rw (n .fsk-none) z }
+
+pub parts-fit-begin : (l : Lane) (b : BeginArgs) (ook fsk : List ℕ) → beginRefusal l b (length ook) (length fsk) ≡ 0 → (most : ℕ) (x y : List ℕ) → PartsFit most (begun l b ook fsk .lane .burst) x y
+parts-fit-begin l b ook fsk e most = none-most most (begun l b ook fsk .lane .burst) (records-none-begin l b ook fsk e)
+
+pub parts-fit-open : (l : Lane) (p : Settings) → settingsOk p ≡ true → (most : ℕ) (x y : List ℕ) → PartsFit most (opened l p .lane .burst) x y
+parts-fit-open l p e most = none-most most (opened l p .lane .burst) (records-none-open l p e)
+
+-- an accepted step has settings of the domain
+pub domain-step : (l : Lane) (s : StepArgs) (m n : ℕ) → stepRefusal l s m n ≡ 0 → InDomain (l .settings)
+domain-step l s m n e = ready l s m n e .domain
+
+pub slots-step : (l : Lane) (s : StepArgs) (m n : ℕ) → stepRefusal l s m n ≡ 0 → 2 * l .settings .«max_pulses» ≤ 131072
+slots-step l s m n e = omega (arith, domain-step l s m n e .max-pulses .1)
+
+-- a call that does not answer 3 is accepted
+pub answered-step : (l : Lane) (s : StepArgs) (ook fsk : List ℕ) → (replyNumberOf (stepped l s ook fsk .0 .reply) ≡ 3 → ⊥) → stepRefusal l s (length ook) (length fsk) ≡ 0
+unfolding stepped
+answered-step l s ook fsk = go (stepRefusal l s (length ook) (length fsk)) (eqb (stepRefusal l s (length ook) (length fsk)) 0) refl
+  where
+    go : (k : ℕ) (b : Bool) → eqb k 0 ≡ b → (replyNumberOf (cond b (advanceOf l s ook fsk) (refuse k l, ook, fsk) .0 .reply) ≡ 3 → ⊥) → k ≡ 0
+    go k true q h = eqb-true k 0 q
+    go k false q h = absurd (h refl)
+
+pub answered-begin : (l : Lane) (b : BeginArgs) (ook fsk : List ℕ) → (replyNumberOf (begun l b ook fsk .reply) ≡ 3 → ⊥) → beginRefusal l b (length ook) (length fsk) ≡ 0
+unfolding begun
+answered-begin l b ook fsk = go (beginRefusal l b (length ook) (length fsk)) (eqb (beginRefusal l b (length ook) (length fsk)) 0) refl
+  where
+    go : (k : ℕ) (c : Bool) → eqb k 0 ≡ c → (replyNumberOf (cond c (stay (leadLane l b)) (refuse k l) .reply) ≡ 3 → ⊥) → k ≡ 0
+    go k true q h = eqb-true k 0 q
+    go k false q h = absurd (h refl)
+
+pub answered-open : (l : Lane) (p : Settings) → (replyNumberOf (opened l p .reply) ≡ 3 → ⊥) → settingsOk p ≡ true
+unfolding opened
+answered-open l p = go (settingsOk p)
+  where
+    go : (b : Bool) → (replyNumberOf (cond b (stay (idleLane 1 p)) (refuse 3 l) .reply) ≡ 3 → ⊥) → b ≡ true
+    go true h = refl
+    go false h = absurd (h refl)
