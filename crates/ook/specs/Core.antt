@@ -1,5 +1,5 @@
--- The records of the core: a carrier is a number and two floats there, so that no enum is copied with a burst. What they stand for.
-use Prim.Native.Nat.{ℕ}
+-- The records of the core. A caller's record has an enum, the angle or the two sums; in the core a carrier is a number and two
+-- floats, so that a burst is copied without an enum, and it becomes the enum where a record leaves the core.
 use mathlib.Core.Bool.{cond}
 use lib.Dec.{eqb}
 use Rattle.ook.specs.declared.Carrier.{Carrier}
@@ -12,10 +12,11 @@ use Rattle.ook.specs.declared.EndedCore.{EndedCore}
 use Rattle.ook.specs.declared.Done.{Done}
 use Rattle.ook.specs.declared.DoneCore.{DoneCore}
 
--- 1 an angle, any other number a vector
+-- the enum: 1 an angle, any other number the two sums
 unfoldable pub carrierIn : Flat → Carrier
 carrierIn f = cond (eqb (f .kind) 1) (Angle (f .first)) (Vector (f .first) (f .second))
 
+-- the record that a caller sees
 abbrev pub wholeOut : OutCore → Out
 wholeOut o =
     record {
@@ -29,6 +30,7 @@ wholeOut o =
       carrier = carrierIn (o .carrier);
     }
 
+-- the same of a train's end, and of a stage that may end it
 abbrev pub wholeEnded : EndedCore → Ended
 wholeEnded e = record { train = e .train; out = wholeOut (e .out) }
 

@@ -1,15 +1,12 @@
+-- `ook::carrier_in` meets its contract: by its tests. Assumes nothing.
 use Rattle.ook.specs.Core.{carrierIn}
 use Rattle.ook.proofs.carrier_in.Statement.{statement}
 use Rattle.ook.proofs.carrier_in.Tie as tie
-use Rattle.ook.proofs.carrier_in.Reads as reads
-use Rattle.ook.proofs.carrier_in.Lts as lts
 
--- src/lib.rt:278:9
 returns : tie.Need-returns
 unfolding carrierIn
 returns c = simp (c .if1 .taken)
 
--- src/lib.rt:273:1
 returns-2 : tie.Need-returns-2
 unfolding carrierIn
 returns-2 c = simp (c .if1 .left)

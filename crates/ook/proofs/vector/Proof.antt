@@ -1,11 +1,9 @@
+-- `ook::vector` meets its contract: the definition, field by field. Assumes nothing.
 use mathlib.Core.Path.{refl}
 use Rattle.ook.specs.Core.{carrierIn}
 use Rattle.ook.proofs.vector.Statement.{statement}
 use Rattle.ook.proofs.vector.Tie as tie
-use Rattle.ook.proofs.vector.Reads as reads
-use Rattle.ook.proofs.vector.Lts as lts
 
--- src/lib.rt:254:1
 returns : tie.Need-returns
 unfolding carrierIn
 returns c = refl
