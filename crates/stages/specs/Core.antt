@@ -1,4 +1,4 @@
--- What the records of the core stand for in the answer of a confirmation.
+-- The answer of a confirmation in the core, with the record that a caller sees (ook, specs/Core).
 use Rattle.ook.specs.Core.{wholeOut}
 use Rattle.stages.specs.declared.Acted.{Acted}
 use Rattle.stages.specs.declared.ActedCore.{ActedCore}
