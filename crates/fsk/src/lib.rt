@@ -11,8 +11,6 @@ ghost use lib.Ieee.{Float};
 ghost use Rattle.fsk.specs.RunStep.{lengthenOf, rejoinOf, beginRunOf, confirmOf, confirmDueOf, fskRunStepOf};
 ghost use Rattle.fsk.specs.Resolve.{beginFrameOf, sliceThrOf, pastOf, firstPastOf, candAtOf, beforeOf, turnAtOf, hiLoOf, otherLevelOf, isEarlyOf, openRunsOf, secondRunOf, settleOf, fskResolveOf};
 use arith::C32;
-use arith::Fix64;
-use arith::Steps;
 
 // The low-passed product, and its frequency at the sample before.
 pub struct Tone {

@@ -9,13 +9,10 @@ ghost use mathlib.Core.List.{List};
 ghost use lib.Ieee.{Float};
 use arith::C32;
 use fsk::CandCore;
-use fsk::Committed;
 use fsk::Early;
 use fsk::FrameCore;
 use fsk::Levels;
 use fsk::Mean;
-use fsk::Ran;
-use fsk::Runs;
 use fsk::Tone;
 use ook::Settings;
 
