@@ -1,3 +1,4 @@
+-- `frame::frame_done` meets its contract: at each branch the definition gives what the calls ensure. Assumes nothing.
 use Prim.Native.Nat.{ℕ}
 use mathlib.Core.Bool.{true}
 use mathlib.Core.Path.{_≡_}
@@ -17,11 +18,6 @@ use Rattle.frame.specs.Done.{frameDoneOf}
 use borrow.Author.Needs.{needs}
 use Rattle.frame.proofs.frame_done.Statement.{statement}
 use Rattle.frame.proofs.frame_done.Tie as tie
-use Rattle.frame.proofs.frame_done.Reads as reads
-use Rattle.frame.proofs.frame_done.Lts as lts
-use Rattle.frame.proofs.cut_train.Reads as cut-train-reads
-use Rattle.frame.proofs.end_frame.Reads as end-frame-reads
-use Rattle.ook.proofs.sat_add.Reads as sat-add-reads
 
 -- a frame in Auto mode cuts the train
 cuts : (p : Settings) (b : Body) (high : Float) (pac : C32) (start end : Float) (ook fsk ook′ fsk′ : List ℕ) (f : Framed) (e : Ended) (frames : ℕ)
@@ -31,44 +27,13 @@ cuts : (p : Settings) (b : Body) (high : Float) (pac : C32) (start end : Float) 
 unfolding frameDoneOf
 cuts p b high pac start end ook fsk ook′ fsk′ f e frames ends is-frame more auto cut = simp (← ends, is-frame, more, auto, ← cut)
 
--- src/lib.rt:301:9
-end-frame-requires : tie.Need-end-frame-requires
-end-frame-requires c κs = search needs
-
--- src/lib.rt:309:13
-sat-add-requires : tie.Need-sat-add-requires
-sat-add-requires c κs = search needs
-
--- src/lib.rt:315:17
-cut-train-requires : tie.Need-cut-train-requires
-cut-train-requires c κs = search needs
-
--- src/lib.rt:320:13
-same-length : tie.Need-same-length
-same-length c = search needs
-
--- src/lib.rt:320:13
-same-length-2 : tie.Need-same-length-2
-same-length-2 c = search needs
-
--- src/lib.rt:320:13
 returns : tie.Need-returns
 returns c = λ cs. cuts _ _ _ _ _ _ _ _ _ _ _ _ _ (c .before .before .before .before .before .before .before .before .before .before .before .before .before .before .before .before .before .end-frame .ensures cs) (c .before .before .before .before .before .before .before .before .before .before .before .if1 .taken) (c .before .before .before .before .before .before .before .before .before .before .sat-add .ensures) (c .before .before .before .before .before .before .before .before .if2 .taken) (c .before .before .before .before .cut-train .ensures)
 
--- src/lib.rt:322:9
-same-length-3 : tie.Need-same-length-3
-same-length-3 c = search needs
-
--- src/lib.rt:322:9
 returns-2 : tie.Need-returns-2
 unfolding frameDoneOf
 returns-2 c = λ cs. simp (← c .before .before .before .before .before .before .before .before .before .end-frame .ensures cs, c .before .before .before .if1 .taken) (simp (← c .before .before .sat-add .ensures, c .if2 .left))
 
--- src/lib.rt:287:1
-same-length-4 : tie.Need-same-length-4
-same-length-4 c = search needs
-
--- src/lib.rt:287:1
 returns-3 : tie.Need-returns-3
 unfolding frameDoneOf
 returns-3 c = λ cs. simp (← c .before .before .before .before .before .before .end-frame .ensures cs, c .if1 .left)
@@ -76,14 +41,5 @@ returns-3 c = λ cs. simp (← c .before .before .before .before .before .before
 pub frame-done-spec : {M : Type 1} → statement M
 frame-done-spec =
     tie.close
-    (tie.spec
-    end-frame-requires
-    sat-add-requires
-    cut-train-requires
-    same-length
-    same-length-2
-    returns
-    same-length-3
-    returns-2
-    same-length-4
-    returns-3)
+    (tie.spec (search needs) (search needs) (search needs) (search needs) (search needs) returns (search needs) returns-2
+    (search needs) returns-3)
