@@ -1,4 +1,4 @@
--- What the structs of the core stand for, with the candidates.
+-- The structs of the core that hold a frame, with the candidates and the record that a caller sees: whole ones.
 use mathlib.Core.List.{List}
 use lib.Ieee.{Float}
 use Rattle.fsk.specs.Core.{wholeFrame}

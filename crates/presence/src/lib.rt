@@ -1,6 +1,6 @@
 // The presence machine of the modes FSK and Auto: `presence` of the Rust, and what `begin_run` does to it.
 ghost use mathlib.Core.Path.{_≡_};
-ghost use Prim.Native.Nat.{_+_, _*_, _-_, _%_, _^_, _<_, _≤_};
+ghost use Prim.Native.Nat.{_+_, _*_, _-_, _<_};
 ghost use Rattle.presence.specs.Move.{presThrOf, lengthenOf, rejoinOf, beginRunOf, movePresOf, extendOf, moveFrameOf};
 ghost use Rattle.presence.specs.Presence.{sliceIfOf, dueOf, sureIfOf, endsOf, inWindowOf, endOf, endIfOf, longOf, endCarrierOf, carrierIfOf, advanceOf, presenceOf, nearStartOf, snapOf};
 ghost use Rattle.arith.specs.Leaves.{edgeOf, crossOf};
@@ -10,17 +10,12 @@ ghost use Rattle.presence.specs.Core.{wholeAdvanced, wholePresent, whole
 ghost use mathlib.Core.List.{List};
 ghost use lib.Ieee.{Float};
 use arith::C32;
-use arith::Steps;
 use frame::Body;
 use frame::BodyCore;
 use fsk::Frame;
 use fsk::FrameCore;
-use fsk::Runs;
-use ook::EndedCore;
 use ook::Next;
-use ook::OutCore;
 use ook::Settings;
-use ook::Train;
 
 // The run of the presence, and the trigger factor.
 pub struct Pres {

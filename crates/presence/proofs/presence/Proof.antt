@@ -1,3 +1,4 @@
+-- `presence::presence` meets its contract: the definition over what the calls ensure. Assumes nothing.
 use Prim.Native.Nat.{ℕ}
 use mathlib.Core.Bool.{Bool}
 use mathlib.Core.Path.{_≡_}
@@ -15,14 +16,6 @@ use Rattle.presence.specs.Presence.{presenceOf}
 use borrow.Author.Needs.{needs}
 use Rattle.presence.proofs.presence.Statement.{statement}
 use Rattle.presence.proofs.presence.Tie as tie
-use Rattle.presence.proofs.presence.Reads as reads
-use Rattle.presence.proofs.presence.Lts as lts
-use Rattle.presence.proofs.advance.Reads as advance-reads
-use Rattle.presence.proofs.carrier_if.Reads as carrier-if-reads
-use Rattle.presence.proofs.due_of.Reads as due-of-reads
-use Rattle.presence.proofs.end_if.Reads as end-if-reads
-use Rattle.presence.proofs.ends_of.Reads as ends-of-reads
-use Rattle.presence.proofs.sure_if.Reads as sure-if-reads
 
 -- the definition, from what each part gives
 goes : (p : Settings) (a : Inputs) (s : Pres) (b : Body) (ook fsk : List ℕ) (l : Advanced) (fsk₁ : List ℕ) (due ends : Bool) (s₂ : Pres) (b₂ : Body) (ook₂ fsk₂ : List ℕ) (r : Present) (ook₃ fsk₃ : List ℕ)
@@ -33,39 +26,9 @@ goes : (p : Settings) (a : Inputs) (s : Pres) (b : Body) (ook fsk : List ℕ) (l
 unfolding presenceOf
 goes p a s b ook fsk l fsk₁ due ends s₂ b₂ ook₂ fsk₂ r ook₃ fsk₃ e₁ e₂ e₃ e₄ e₅ e₆ = simp (← e₁, ← e₂, ← e₃, ← e₄, ← e₅) e₆
 
--- src/lib.rt:372:9
-advance-requires : tie.Need-advance-requires
-advance-requires c κs = search needs
-
--- src/lib.rt:377:9
-due-of-requires : tie.Need-due-of-requires
-due-of-requires c κs = search needs
-
--- src/lib.rt:378:9
-ends-of-requires : tie.Need-ends-of-requires
-ends-of-requires c κs = search needs
-
--- src/lib.rt:379:9
-sure-if-requires : tie.Need-sure-if-requires
-sure-if-requires c κs = search needs
-
--- src/lib.rt:380:9
-end-if-requires : tie.Need-end-if-requires
-end-if-requires c κs = search needs
-
--- src/lib.rt:381:5
-carrier-if-requires : tie.Need-carrier-if-requires
-carrier-if-requires c κs = search needs
-
--- src/lib.rt:360:1
-same-length : tie.Need-same-length
-same-length c = search needs
-
--- src/lib.rt:360:1
 same-length-2 : tie.Need-same-length-2
 same-length-2 c = omega (arith, c .before .before .before .before .carrier-if .kept .1 .1 .1 .1 .1 .1 .0, c .before .before .before .before .before .before .before .before .before .before .before .end-if .kept .1 .1 .1 .1 .1 .1 .0, c .before .before .before .before .before .before .before .before .before .before .before .before .before .before .before .before .before .before .before .before .before .advance .kept .1 .1 .1 .1 .1 .0)
 
--- src/lib.rt:360:1
 returns : tie.Need-returns
 returns c =
     goes _ _ _ _ _ _ _ _ _ _ _ _ _ _ _ _ _ (c .before .before .before .before .before .before .before .before .before .before .before .before .before .before .before .before .before .before .before .before .before .advance .ensures) (c .before .before .before .before .before .before .before .before .before .before .before .before .before .before .before .before .due-of .ensures) (c .before .before .before .before .before .before .before .before .before .before .before .before .before .before .before .ends-of .ensures) (c .before .before .before .before .before .before .before .before .before .before .before .before .before .before .sure-if .ensures) (c .before .before .before .before .before .before .before .before .before .before .before .end-if .ensures _) (c .before .before .before .before .carrier-if .ensures _)
@@ -73,13 +36,5 @@ returns c =
 pub presence-spec : {M : Type 1} → statement M
 presence-spec =
     tie.close
-    (tie.spec
-    advance-requires
-    due-of-requires
-    ends-of-requires
-    sure-if-requires
-    end-if-requires
-    carrier-if-requires
-    same-length
-    same-length-2
-    returns)
+    (tie.spec (search needs) (search needs) (search needs) (search needs) (search needs) (search needs) (search needs)
+    same-length-2 returns)
