@@ -7,4 +7,3 @@ pub mod Advance
 pub mod Step
 pub mod Part
 pub mod Core
-pub mod CoreStep

@@ -25,7 +25,6 @@ use arith::Steps;
 use burst::Burst;
 use burst::BurstCore;
 use burst::Lead;
-use burst::SampledCore;
 use fsk::Cand;
 use fsk::CandCore;
 use fsk::Committed;
@@ -651,49 +650,25 @@ pub fn envelopes(l: Lane) -> [f32; 16]
 fn reals_of(xs: [C32; 17]) -> [f32; 17]
     ensures { λ r. ⌜ (r ≡ realsOf xs) × (length r ≡ 17) ⌝ }
 {
-    [
-        xs[0].re,
-        xs[1].re,
-        xs[2].re,
-        xs[3].re,
-        xs[4].re,
-        xs[5].re,
-        xs[6].re,
-        xs[7].re,
-        xs[8].re,
-        xs[9].re,
-        xs[10].re,
-        xs[11].re,
-        xs[12].re,
-        xs[13].re,
-        xs[14].re,
-        xs[15].re,
-        xs[16].re,
-    ]
+    let mut r = [0.0f32; 17];
+    let mut i: usize = 0;
+    while i < 17 {
+        r[i] = xs[i].re;
+        i = i + 1;
+    }
+    r
 }
 
 fn imaginaries_of(xs: [C32; 17]) -> [f32; 17]
     ensures { λ r. ⌜ (r ≡ imaginariesOf xs) × (length r ≡ 17) ⌝ }
 {
-    [
-        xs[0].im,
-        xs[1].im,
-        xs[2].im,
-        xs[3].im,
-        xs[4].im,
-        xs[5].im,
-        xs[6].im,
-        xs[7].im,
-        xs[8].im,
-        xs[9].im,
-        xs[10].im,
-        xs[11].im,
-        xs[12].im,
-        xs[13].im,
-        xs[14].im,
-        xs[15].im,
-        xs[16].im,
-    ]
+    let mut r = [0.0f32; 17];
+    let mut i: usize = 0;
+    while i < 17 {
+        r[i] = xs[i].im;
+        i = i + 1;
+    }
+    r
 }
 
 pub fn reals(l: Lane) -> [f32; 17]
@@ -713,76 +688,17 @@ pub fn imaginaries(l: Lane) -> [f32; 17]
 fn pairs_of(re: [f32; 17], im: [f32; 17]) -> [C32; 17]
     ensures { λ r. ⌜ r ≡ zipOf re im ⌝ }
 {
-    [
-        C32 {
-            re: re[0],
-            im: im[0],
-        },
-        C32 {
-            re: re[1],
-            im: im[1],
-        },
-        C32 {
-            re: re[2],
-            im: im[2],
-        },
-        C32 {
-            re: re[3],
-            im: im[3],
-        },
-        C32 {
-            re: re[4],
-            im: im[4],
-        },
-        C32 {
-            re: re[5],
-            im: im[5],
-        },
-        C32 {
-            re: re[6],
-            im: im[6],
-        },
-        C32 {
-            re: re[7],
-            im: im[7],
-        },
-        C32 {
-            re: re[8],
-            im: im[8],
-        },
-        C32 {
-            re: re[9],
-            im: im[9],
-        },
-        C32 {
-            re: re[10],
-            im: im[10],
-        },
-        C32 {
-            re: re[11],
-            im: im[11],
-        },
-        C32 {
-            re: re[12],
-            im: im[12],
-        },
-        C32 {
-            re: re[13],
-            im: im[13],
-        },
-        C32 {
-            re: re[14],
-            im: im[14],
-        },
-        C32 {
-            re: re[15],
-            im: im[15],
-        },
-        C32 {
-            re: re[16],
-            im: im[16],
-        },
-    ]
+    let mut r = [C32 { re: 0.0, im: 0.0 }; 17];
+    let mut i: usize = 0;
+    while i < 17 {
+        let x = C32 {
+            re: re[i],
+            im: im[i],
+        };
+        r[i] = x;
+        i = i + 1;
+    }
+    r
 }
 
 fn whole_frame(f: FrameCore, cs: [f32; 8]) -> Frame
@@ -885,6 +801,17 @@ fn no_core_out() -> OutCore
     }
 }
 
+// The burst without a record.
+fn clear_core(b: BurstCore) -> BurstCore
+    ensures { λ r. ⌜ ((cs : List Float) → wholeBurst cs r ≡ clearedOf (wholeBurst cs b)) ⌝ }
+{
+    let o = no_core_out();
+    let mut n = b;
+    n.out_ook = o;
+    n.out_fsk = o;
+    n
+}
+
 fn ring_put(ring: &mut [f32; 32], index: u64, e: f32)
     ensures { λ _. ⌜ now (ring .exit) ≡ ringOf (now (ring .entry)) index e ⌝ }
 {
@@ -963,13 +890,11 @@ pub fn step_core(
         ring_put(ring, s.index, s.envelope);
         let q = at_of(c, s);
         let x = s.x;
+        let old = c.burst;
+        let clear = clear_core(old);
         m.last = s.index;
         m.x_prev = x;
-        let o = no_core_out();
-        let mut mb = m.burst;
-        mb.out_ook = o;
-        mb.out_fsk = o;
-        m.burst = mb;
+        m.burst = clear;
         reply = Reply::Stay;
         let leads = c.phase == 1;
         let mut n: usize = 1;
@@ -981,8 +906,7 @@ pub fn step_core(
             n = 0;
             if !fills {
                 n = len as usize;
-                let cur = m.burst;
-                let first = first_burst(c.lead_at, es, n, cur);
+                let first = first_burst(c.lead_at, es, n, clear);
                 m.burst = first;
             }
         }

@@ -1,104 +1,31 @@
-use mathlib.Core.Path.{ap, refl}
+-- `lane::imaginaries_of` meets its contract: its loop fills the array place by place. Assumes nothing.
+use Prim.Native.Nat.{_-_}
+use mathlib.Core.Path.{refl, sym, _∙_}
+use lib.Ieee.{nan}
+use lib.ListN.{length-map, List·getD-map}
 use borrow.Author.Needs.{needs}
-use Rattle.lane.specs.Core.{spell, spelled, nanC32, imaginariesOf}
-use mathlib.Core.Path.{refl}
+use Rattle.arith.specs.declared.C32.{C32}
+use Rattle.lane.specs.Core.{imaginariesOf}
+use Rattle.lane.proofs.Fills.{Filled, fill-start, fill-turn, fill-end}
 use Rattle.lane.proofs.imaginaries_of.Statement.{statement}
 use Rattle.lane.proofs.imaginaries_of.Tie as tie
-use Rattle.lane.proofs.imaginaries_of.Reads as reads
-use Rattle.lane.proofs.imaginaries_of.Lts as lts
 
--- src/lib.rt:664:9
-element-copy-out-t5 : tie.Need-element-copy-out-t5
-element-copy-out-t5 c = search needs
+abbrev Inv-loop : tie.InvT-loop
+Inv-loop xs r₀ i₀ r i = Filled 17 (imaginariesOf xs) r i
 
--- src/lib.rt:665:9
-element-copy-out-t8 : tie.Need-element-copy-out-t8
-element-copy-out-t8 c = search needs
+abbrev μ-loop : tie.MeasureT-loop
+μ-loop xs r₀ i₀ r i = 17 - i
 
--- src/lib.rt:666:9
-element-copy-out-t11 : tie.Need-element-copy-out-t11
-element-copy-out-t11 c = search needs
+loop-holds : tie.Need-loop-holds Inv-loop μ-loop
+loop-holds c = fill-start refl (length-map (c .args .t1) _ ∙ search needs)
 
--- src/lib.rt:667:9
-element-copy-out-t14 : tie.Need-element-copy-out-t14
-element-copy-out-t14 c = search needs
+loop-again : tie.Need-loop-again Inv-loop μ-loop
+loop-again c = fill-turn (c .before .loop .inv) nan (c .loop-test .taken) (sym (List·getD-map (λ (x : C32). x .im) (c .before .before .args .t1) _ (record { re = nan; im = nan })))
 
--- src/lib.rt:668:9
-element-copy-out-t17 : tie.Need-element-copy-out-t17
-element-copy-out-t17 c = search needs
-
--- src/lib.rt:669:9
-element-copy-out-t20 : tie.Need-element-copy-out-t20
-element-copy-out-t20 c = search needs
-
--- src/lib.rt:670:9
-element-copy-out-t23 : tie.Need-element-copy-out-t23
-element-copy-out-t23 c = search needs
-
--- src/lib.rt:671:9
-element-copy-out-t26 : tie.Need-element-copy-out-t26
-element-copy-out-t26 c = search needs
-
--- src/lib.rt:672:9
-element-copy-out-t29 : tie.Need-element-copy-out-t29
-element-copy-out-t29 c = search needs
-
--- src/lib.rt:673:9
-element-copy-out-t32 : tie.Need-element-copy-out-t32
-element-copy-out-t32 c = search needs
-
--- src/lib.rt:674:9
-element-copy-out-t35 : tie.Need-element-copy-out-t35
-element-copy-out-t35 c = search needs
-
--- src/lib.rt:675:9
-element-copy-out-t38 : tie.Need-element-copy-out-t38
-element-copy-out-t38 c = search needs
-
--- src/lib.rt:676:9
-element-copy-out-t41 : tie.Need-element-copy-out-t41
-element-copy-out-t41 c = search needs
-
--- src/lib.rt:677:9
-element-copy-out-t44 : tie.Need-element-copy-out-t44
-element-copy-out-t44 c = search needs
-
--- src/lib.rt:678:9
-element-copy-out-t47 : tie.Need-element-copy-out-t47
-element-copy-out-t47 c = search needs
-
--- src/lib.rt:679:9
-element-copy-out-t50 : tie.Need-element-copy-out-t50
-element-copy-out-t50 c = search needs
-
--- src/lib.rt:680:9
-element-copy-out-t53 : tie.Need-element-copy-out-t53
-element-copy-out-t53 c = search needs
-
--- src/lib.rt:660:1
-returns : tie.Need-returns
-unfolding spell
-returns c = (ap imaginariesOf (spelled (c .args .t1) nanC32 17 (search needs)), refl)
+returns : tie.Need-returns Inv-loop μ-loop
+returns c = (fill-end (c .before .loop .inv) (c .loop-test .left), c .before .loop .inv .long)
 
 pub imaginaries-of-spec : {M : Type 1} → statement M
 imaginaries-of-spec =
     tie.close
-    (tie.spec
-    element-copy-out-t5
-    element-copy-out-t8
-    element-copy-out-t11
-    element-copy-out-t14
-    element-copy-out-t17
-    element-copy-out-t20
-    element-copy-out-t23
-    element-copy-out-t26
-    element-copy-out-t29
-    element-copy-out-t32
-    element-copy-out-t35
-    element-copy-out-t38
-    element-copy-out-t41
-    element-copy-out-t44
-    element-copy-out-t47
-    element-copy-out-t50
-    element-copy-out-t53
-    returns)
+    (tie.spec Inv-loop μ-loop loop-holds (search needs) (search needs) (search needs) (search needs) (search needs) (search needs) loop-again returns)
