@@ -83,6 +83,7 @@ pub struct Frame {
     pub done: Committed,
 }
 
+// The same in the core.
 pub struct FrameCore {
     pub tone: Tone,
     pub fsk_phase: u32,
@@ -250,8 +251,7 @@ fn confirm(max: u32, r: Runs, c: Committed, upper: bool, fsk: &mut [u32]) -> Ran
     q.fsk_confirmed = 1;
     let has = r.fsk_has_prev == 1;
     if has {
-        let k = c;
-        let d = fsk_commit(max, k, !upper, r.ft_prev, r.ft_run, fsk);
+        let d = fsk_commit(max, c, !upper, r.ft_prev, r.ft_run, fsk);
         q.fsk_has_prev = 0;
         return Ran { runs: q, done: d };
     }
@@ -502,8 +502,7 @@ fn open_runs(
     ensures { λ r. ⌜ (r, now (fsk .exit)) ≡ openRunsOf max early «first_upper» from «t_early» c (now (fsk .entry)) ⌝ }
 {
     if early {
-        let k = c;
-        let d = fsk_commit(max, k, !first_upper, from, t_early, fsk);
+        let d = fsk_commit(max, c, !first_upper, from, t_early, fsk);
         return Opening {
             from: t_early,
             done: d,
@@ -552,8 +551,7 @@ fn settle(
     let long = t.second >= fsk_min;
     if long {
         let q = second_run(first_upper, run, t, o.from, 1, 0);
-        let k = c;
-        let d = fsk_commit(max, k, first_upper, o.from, t.tc, fsk);
+        let d = fsk_commit(max, c, first_upper, o.from, t.tc, fsk);
         return Ran { runs: q, done: d };
     }
     let q = second_run(first_upper, run, t, o.from, 0, 1);
