@@ -280,6 +280,7 @@ fn end_if(
     if ends {
         let end = end_of(a.level, a.c_run, s.p_t_run);
         let pac = a.pac;
+        // Copies: a struct that is handed on here would else stand in memory on the other way too.
         let q = p;
         let c = b;
         return frame::frame_done(q, c, a.high, pac, s.p_t_prev, end, ook, fsk);
@@ -336,8 +337,9 @@ fn carrier_if(
 {
     let long = long_of(on, s.p_run, p.long_steps);
     if long {
-        let c = b;
+        // Copies, as in end_if.
         let q = p;
+        let c = b;
         let k = end_carrier(q, a, s.p_t_run, c, ook, fsk);
         return PresentCore {
             next: Next::IdleAt(a.e),
