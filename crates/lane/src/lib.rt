@@ -4,9 +4,9 @@ ghost use mathlib.Core.Path.{_≡_};
 ghost use mathlib.Core.Bool.{true};
 ghost use Prim.Native.Nat.{ℕ, _≤_};
 ghost use Rattle.lane.specs.Answers.{replyOf, phaseOf};
-ghost use Rattle.lane.specs.Refusals.{openedOk, laneOk, historyOk, beginFloatsOk, stepFloatsOk, followsOf, beginRefusal, stepRefusal, stepRefusalBy};
-ghost use Rattle.lane.specs.Idle.{noOut, noRuns, noneDone, noFrame, noEnv, noTrain, noPres, noBurst, noLead, idleLane, noSettings};
-ghost use Rattle.lane.specs.Begin.{ringBeforeOf, historyOf, ringOf, beginLeadOf, clearedOf, withFactor, leadLane};
+ghost use Rattle.lane.specs.Refusals.{openedOk, laneOk, historyOk, beginFloatsOk, stepFloatsOk, followsOf, beginRefusal, stepRefusalBy};
+ghost use Rattle.lane.specs.Idle.{noOut, noRuns, noneDone, noFrame, noEnv, noTrain, noPres, noBurst, noLead, idleLane};
+ghost use Rattle.lane.specs.Begin.{ringBeforeOf, historyOf, ringOf, beginLeadOf, clearedOf, leadLane};
 ghost use Rattle.lane.specs.Core.{zipOf, realsOf, imaginariesOf, leadIn, joinedOf, answerOf, atCall};
 ghost use Rattle.fsk.specs.Core.{wholeFrame};
 ghost use Rattle.ook.specs.Core.{wholeOut};
@@ -548,6 +548,7 @@ fn reply_of(n: Next) -> Reply
 
 // ---- the core: the lane but for its arrays, which are lent
 
+// The lead-in's envelopes and samples, the ring and the candidates stand beside it: es, re and im, ring, cs.
 pub struct Core {
     pub opened: u32,
     pub settings: Settings,
@@ -615,6 +616,7 @@ fn core_burst(b: Burst) -> BurstCore
     }
 }
 
+// The core of a lane: with the lane's arrays it joins to that lane.
 pub fn core_of(l: Lane) -> Core
     ensures { λ r. ⌜ ((re im : List Float) → zipOf re im ≡ l .lead .«lead_x» → joinedOf r (l .lead .«lead_e») re im (l .ring) (l .burst .frame .cand .«cand_f») ≡ l) ⌝ }
 {
@@ -640,6 +642,7 @@ fn envelopes_of(d: Lead) -> [f32; 16]
     d.lead_e
 }
 
+// The arrays of the lead-in: its envelopes, and the real and the imaginary parts of its samples.
 pub fn envelopes(l: Lane) -> [f32; 16]
     ensures { λ r. ⌜ (r ≡ l .lead .«lead_e») × (length r ≡ 16) ⌝ }
 {
@@ -753,6 +756,7 @@ fn whole_burst(b: BurstCore, cs: [f32; 8]) -> Burst
     }
 }
 
+// The lane that a core and its arrays stand for.
 pub fn joined(
     c: Core,
     es: [f32; 16],
@@ -867,6 +871,8 @@ fn first_burst(lead_at: u64, es: &[f32; 16], n: usize, b: BurstCore) -> BurstCor
     burst::begin_burst(high, t, es[0], b)
 }
 
+// A step of the core, where refusal 4 does not apply. Its ways meet again, so that `samples` is called in one place and the
+// core returned in one: with a return on each way a step takes half as long again, with two calls twice as long.
 pub fn step_core(
     c: Core,
     s: StepArgs,

@@ -5,12 +5,9 @@ use borrow.Author.Needs.{needs}
 use Rattle.lane.proofs.opened_ok.Statement.{statement}
 use Rattle.lane.proofs.opened_ok.Tie as tie
 
-settings-ok-requires : tie.Need-settings-ok-requires
-settings-ok-requires c κs = search needs
-
 returns : tie.Need-returns
 unfolding openedOk opened
 returns c = simp (← c .settings-ok .ensures)
 
 pub opened-ok-spec : {M : Type 1} → statement M
-opened-ok-spec = tie.close (tie.spec settings-ok-requires returns)
+opened-ok-spec = tie.close (tie.spec (search needs) returns)
