@@ -338,8 +338,8 @@ fn carrier_if(
     let long = long_of(on, s.p_run, p.long_steps);
     if long {
         // Copies, as in end_if.
-        let q = p;
         let c = b;
+        let q = p;
         let k = end_carrier(q, a, s.p_t_run, c, ook, fsk);
         return PresentCore {
             next: Next::IdleAt(a.e),
