@@ -1,22 +1,20 @@
 -- `begin_burst` and `lead` (source document 000): the lead-in fills, and once it is full its samples are replayed.
 use Prim.Native.Nat.{ℕ, zero, suc, _+_, _-_, _%_, _^_, _<_, _≤_}
-use mathlib.Core.Bool.{Bool, true, false, cond}
-use mathlib.Core.Path.{_≡_, refl, ap, sym, _∙_}
+use mathlib.Core.Bool.{false, cond}
+use mathlib.Core.Path.{_≡_, refl}
 use mathlib.Core.List.{List}
 use native.Mathlib.Omega.{arith}
 use lib.ListN.{set, getD}
-use lib.Dec.{eqb}
 use lib.IntN.{pos}
 use lib.Ieee.{Float, nan, binary64, lt, ofInt}
 use Rattle.arith.specs.Leaves.{zero32, leadLenOf}
 use Rattle.arith.specs.declared.C32.{C32}
 use Rattle.ook.specs.Counts.{inc, zeroC32}
-use Rattle.ook.specs.Answers.{nextNumberOf, isStayOf}
+use Rattle.ook.specs.Answers.{isStayOf}
 use Rattle.ook.specs.Run.{beginEnvOf}
 use Rattle.ook.specs.Train.{emptyTrainOf}
 use Rattle.ook.specs.declared.Settings.{Settings}
-use Rattle.ook.specs.declared.Next.{Next}
-use Rattle.ook.specs.declared.Next.the-variants.{Stay, Idle, IdleAt}
+use Rattle.ook.specs.declared.Next.the-variants.{Stay}
 use Rattle.presence.specs.Move.{presOf}
 use Rattle.presence.specs.declared.Pres.{Pres}
 use Rattle.stages.specs.declared.At.{At}
@@ -94,39 +92,9 @@ pub largest-end : (es : List Float) (len i : ℕ) (m : Float) → len ≤ i → 
 unfolding largestFrom
 largest-end es len i m h = let e : len - i ≡ 0 = omega arith in rw e
 
-is-stay : (n : Next) → isStayOf n ≡ true → n ≡ Stay
-is-stay Stay h = refl
-is-stay Idle h = let z : _≡_ {A = Bool} false true = h in cc
-is-stay (IdleAt e) h = let z : _≡_ {A = Bool} false true = h in cc
-
 module _ (p : Settings) (noise : Float) (ring : List Float) (l : Lead) where
   -- an end stays the end
   pub replay-stop : (k i : ℕ) (s : Sampled × List ℕ × List ℕ) → isStayOf (s .0 .next) ≡ false → replayFrom p noise ring l k i s ≡ s
   unfolding replayFrom
   replay-stop zero i s h = refl
   replay-stop (suc k) i s h = rw h (replay-stop k (i + 1) s h)
-
-  pub replay-turn : (len i : ℕ) (b : Burst) (ook fsk : List ℕ) → i < len → replayFrom p noise ring l (len - i) i (staying b ook fsk) ≡ replayFrom p noise ring l (len - (i + 1)) (i + 1) (sampleOf p (leadAtOf noise l i) ring b ook fsk)
-  unfolding replayFrom
-  replay-turn len i b ook fsk h = let e : len - i ≡ suc (len - (i + 1)) = omega arith in rw e
-
-  pub replay-end : (len i : ℕ) (s : Sampled × List ℕ × List ℕ) → len ≤ i → replayFrom p noise ring l (len - i) i s ≡ s
-  unfolding replayFrom
-  replay-end len i s h = let e : len - i ≡ 0 = omega arith in rw e
-
-  -- the loop's turn, as the code has it
-  pub turn-again : (len i : ℕ) (b : Burst) (ook fsk : List ℕ) (r : Sampled) (ook′ fsk′ : List ℕ) (a : At) (stay : Bool)
-      → i < len → a ≡ leadAtOf noise l i → (r, ook′, fsk′) ≡ sampleOf p a ring b ook fsk → stay ≡ isStayOf (r .next) → stay ≡ true
-      → replayFrom p noise ring l (len - (i + 1)) (i + 1) (staying (r .burst) ook′ fsk′) ≡ replayFrom p noise ring l (len - i) i (staying b ook fsk)
-  turn-again len i b ook fsk r ook′ fsk′ a stay h ea es eb et =
-      let n : r .next ≡ Stay = is-stay (r .next) (sym eb ∙ et) in
-      let s : staying (r .burst) ook′ fsk′ ≡ (r, ook′, fsk′) = ap (λ (x : Next). (record { next = x; burst = r .burst }, ook′, fsk′)) (sym n) in
-      let q : sampleOf p a ring b ook fsk ≡ sampleOf p (leadAtOf noise l i) ring b ook fsk = ap (λ (x : At). sampleOf p x ring b ook fsk) ea in
-      ap (replayFrom p noise ring l (len - (i + 1)) (i + 1)) (s ∙ es ∙ q) ∙ sym (replay-turn len i b ook fsk h)
-
-  pub turn-stop : (len i : ℕ) (b : Burst) (ook fsk : List ℕ) (r : Sampled) (ook′ fsk′ : List ℕ) (a : At) (stay : Bool)
-      → i < len → a ≡ leadAtOf noise l i → (r, ook′, fsk′) ≡ sampleOf p a ring b ook fsk → stay ≡ isStayOf (r .next) → stay ≡ false
-      → (r, ook′, fsk′) ≡ replayFrom p noise ring l (len - i) i (staying b ook fsk)
-  turn-stop len i b ook fsk r ook′ fsk′ a stay h ea es eb et =
-      let q : sampleOf p a ring b ook fsk ≡ sampleOf p (leadAtOf noise l i) ring b ook fsk = ap (λ (x : At). sampleOf p x ring b ook fsk) ea in
-      sym (replay-stop (len - (i + 1)) (i + 1) (r, ook′, fsk′) (sym eb ∙ et)) ∙ ap (replayFrom p noise ring l (len - (i + 1)) (i + 1)) (es ∙ q) ∙ sym (replay-turn len i b ook fsk h)

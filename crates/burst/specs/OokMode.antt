@@ -4,14 +4,13 @@ use mathlib.Core.Bool.{Bool, true, false, cond}
 use mathlib.Core.Path.{_≡_, refl}
 use mathlib.Core.List.{List}
 use lib.Dec.{eqb}
-use lib.Ieee.{Float, binary64, sub}
-use Rattle.ook.specs.Answers.{nextNumberOf, isStayOf}
+use lib.Ieee.{Float}
+use Rattle.ook.specs.Answers.{isStayOf}
 use Rattle.ook.specs.declared.Settings.{Settings}
 use Rattle.ook.specs.declared.Done.{Done}
 use Rattle.fsk.specs.declared.Frame.{Frame}
 use Rattle.presence.specs.Presence.{nearStartOf, snapOf}
 use Rattle.presence.specs.declared.Pres.{Pres}
-use Rattle.presence.specs.declared.Snapped.{Snapped}
 use Rattle.stages.specs.See.{seeOf}
 use Rattle.stages.specs.Act.{actOf}
 use Rattle.stages.specs.Tail.{tailOf}

@@ -1,6 +1,6 @@
 -- `sample` (source document 000), all three modes: level and run of the envelope, confirmation, presence, the end of the burst.
 use Prim.Native.Nat.{ℕ}
-use mathlib.Core.Bool.{Bool, true, false, cond}
+use mathlib.Core.Bool.{Bool, cond}
 use mathlib.Core.List.{List}
 use lib.Dec.{eqb}
 use lib.Ieee.{Float}

@@ -1,6 +1,6 @@
 -- The commands as document 01, "Commands", has them: over lists of bytes, little-endian.
 use Prim.Native.Nat.{ℕ, _+_}
-use mathlib.Core.Bool.{cond}
+use mathlib.Core.Bool.{Bool, true, false, cond}
 use mathlib.Core.List.{List}
 use lib.ListN.{length, getD, drop}
 use lib.Dec.{eqb, ltb}
@@ -86,3 +86,12 @@ sizeOf (Begin b) = 61
 sizeOf (Step s) = 25
 sizeOf Unknown = 0
 sizeOf Short = 0
+
+-- whether it is a step
+abbrev pub isStepOf : Command → Bool
+isStepOf End = false
+isStepOf (Open p) = false
+isStepOf (Begin b) = false
+isStepOf (Step s) = true
+isStepOf Unknown = false
+isStepOf Short = false

@@ -1,16 +1,16 @@
 -- Laws of the decoder that a reader of a stream needs. Assumes nothing.
 use Prim.Native.Nat.{ℕ, suc, _+_, _<_, _≤_}
 use mathlib.Core.Bool.{Bool, true, false, cond}
-use mathlib.Core.Path.{_≡_, refl, ap}
+use mathlib.Core.Path.{_≡_, refl, ap, sym, _∙_}
 use mathlib.Core.List.{List, [], _∷_, _++_}
 use native.Mathlib.Omega.{arith}
-use lib.ListN.{length, getD, length-append, List·getD-append}
+use lib.ListN.{length, getD, drop, length-append, length-drop, List·getD-append}
 use lib.Dec.{eqb, ltb, leb}
-use borrow.Author.Tests.{ltb-false, leb-true, le-ltb}
+use borrow.Author.Tests.{eqb-true, ltb-true, ltb-false, leb-true, lt-ltb, le-ltb}
 use native.Mathlib.Nat.{not-suc-le-zero}
 use Rattle.commands.specs.declared.Command.{Command}
 use Rattle.commands.specs.declared.Command.the-variants.{End, Open, Begin, Step, Unknown, Short}
-use Rattle.commands.specs.Command.{u32At, u64At, settingsOf, beginArgsOf, stepArgsOf, historyOf, within, decoded, sizeOf}
+use Rattle.commands.specs.Command.{u32At, u64At, settingsOf, beginArgsOf, stepArgsOf, historyOf, within, decoded, sizeOf, isStepOf}
 
 -- ---- a command that lies in the bytes takes no more of them than there are
 
@@ -98,3 +98,44 @@ decoded-more (b ∷ o) t w =
     (choose (eqb b 2) _ _ _ _ (within-whole 60 o t _ _ (λ h. ap Begin (begin-more o t h)))
     (choose (eqb b 3) _ _ _ _ (within-whole 24 o t _ _ (λ h. ap Step (step-more o t h))) (λ q. refl)))
     (simp (le-ltb (suc (length o)) 1 (omega arith)) at w))
+
+-- ---- a step at the front of the bytes
+
+neither : (b : Bool) (x y : Command) → isStepOf x ≡ false → isStepOf y ≡ false → isStepOf (cond b x y) ≡ false
+neither true x y h k = h
+neither false x y h k = k
+
+-- a command byte 3 with its 24 operand bytes
+step-front : (s : List ℕ) → 25 ≤ length s → eqb (getD s 0 0) 3 ≡ true → decoded s ≡ Step (stepArgsOf (drop 1 s))
+unfolding decoded
+step-front s h e =
+    let b : getD s 0 0 ≡ 3 = eqb-true (getD s 0 0) 3 e in
+    simp (le-ltb (length s) 1 (omega arith), b, le-ltb (length (drop 1 s)) 24 (omega (arith, length-drop 1 s)))
+
+-- no step, whatever the first three commands have
+no-step : (s : List ℕ) → isStepOf (cond (eqb (getD s 0 0) 3) (within 24 (drop 1 s) (Step (stepArgsOf (drop 1 s)))) Unknown) ≡ false → isStepOf (decoded s) ≡ false
+unfolding decoded
+no-step s h =
+    neither (ltb (length s) 1) _ _ refl
+    (neither (eqb (getD s 0 0) 1) _ _ (neither (ltb (length (drop 1 s)) 37) _ _ refl refl)
+    (neither (eqb (getD s 0 0) 2) _ _ (neither (ltb (length (drop 1 s)) 60) _ _ refl refl) h))
+
+pub short-front : (s : List ℕ) → length s < 25 → isStepOf (decoded s) ≡ false
+short-front s h =
+    no-step s
+    (neither (eqb (getD s 0 0) 3) _ _ (ap (λ (b : Bool). isStepOf (cond b Short (Step (stepArgsOf (drop 1 s))))) (lt-ltb (length (drop 1 s)) 24 (omega (arith, length-drop 1 s, h)))) refl)
+
+pub long-front : (s : List ℕ) → 25 ≤ length s → eqb (getD s 0 0) 3 ≡ isStepOf (decoded s)
+long-front s h = go (eqb (getD s 0 0) 3) refl
+  where
+    go : (b : Bool) → eqb (getD s 0 0) 3 ≡ b → b ≡ isStepOf (decoded s)
+    go true q = sym (ap isStepOf (step-front s h q))
+    go false q = sym (no-step s (ap (λ (b : Bool). isStepOf (cond b (within 24 (drop 1 s) (Step (stepArgsOf (drop 1 s)))) Unknown)) q))
+
+-- so a step has its operand bytes
+pub step-there : (s : List ℕ) → isStepOf (decoded s) ≡ true → (25 ≤ length s) × (Step (stepArgsOf (drop 1 s)) ≡ decoded s)
+step-there s e = go (ltb (length s) 25) refl
+  where
+    go : (b : Bool) → ltb (length s) 25 ≡ b → (25 ≤ length s) × (Step (stepArgsOf (drop 1 s)) ≡ decoded s)
+    go true q = let z : _≡_ {A = Bool} false true = sym (short-front s (ltb-true (length s) 25 q)) ∙ e in absurd (let y : _≡_ {A = ℕ} 0 1 = cc in omega arith)
+    go false q = let h = ltb-false (length s) 25 q in (h, sym (step-front s h (long-front s h ∙ e)))

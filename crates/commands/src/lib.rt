@@ -3,7 +3,9 @@
 ghost use mathlib.Core.Path.{_≡_};
 ghost use Prim.Native.Nat.{_+_, _≤_, _<_};
 ghost use lib.ListN.{length, drop};
-ghost use Rattle.commands.specs.Command.{pairAt, historyOf, settingsOf, beginArgsOf, stepArgsOf, decoded, sizeOf};
+ghost use Rattle.commands.specs.Command.{pairAt, historyOf, settingsOf, beginArgsOf, stepArgsOf, decoded, sizeOf, isStepOf};
+ghost use mathlib.Core.Bool.{true};
+ghost use Rattle.commands.specs.declared.Command.the-variants.{Step};
 use arith::C32;
 use lane::BeginArgs;
 use lane::History;
@@ -151,6 +153,28 @@ pub fn decode_at(s: &[u8], at: usize) -> Command
     ensures { λ r. ⌜ r ≡ decoded (drop at (now (s .entry))) ⌝ }
 {
     decode(after(s, at))
+}
+
+// Whether a step stands at a place of the bytes. Most commands of a stream are steps: a loop over
+// them takes the operands alone.
+pub fn is_step_at(s: &[u8], at: usize) -> bool
+    ensures { λ r. ⌜ r ≡ isStepOf (decoded (drop at (now (s .entry)))) ⌝ }
+{
+    let u = after(s, at);
+    if u.len() < 25 {
+        return false;
+    }
+    u[0] == 3
+}
+
+// The operands of the step at a place of the bytes.
+pub fn step_at(s: &[u8], at: usize) -> StepArgs
+    requires { ⌜ isStepOf (decoded (drop at (now s))) ≡ true ⌝ }
+    ensures { λ r. ⌜ Step r ≡ decoded (drop at (now (s .entry))) ⌝ }
+{
+    let u = after(s, at);
+    let o = after(u, 1);
+    step_args(o)
 }
 
 // How many bytes a command takes.

@@ -3,6 +3,7 @@
 ghost use Prim.Native.Nat.{_≤_};
 ghost use mathlib.Core.Path.{_≡_};
 ghost use lib.ListN.{length, take, drop};
+ghost use Rattle.reached.specs.Reached.{Sound};
 ghost use Rattle.feed.specs.Feeds.{Feeds};
 use lane::Lane;
 
@@ -42,6 +43,7 @@ pub fn feed(
     fsk: &mut [u32],
     text: &mut [u8],
 ) -> Fed
+    requires { ⌜ Sound lane ⌝ }
     ensures { λ r. ⌜ Feeds (lane, now (ook .entry), now (fsk .entry)) (take end (now (buf .entry))) last r (r .lane, now (ook .exit), now (fsk .exit)) (now (buf .exit)) (now (text .exit)) ⌝ }
 {
     let n = turns::smaller(end, buf.len());

@@ -2,3 +2,4 @@
 pub mod End
 pub mod Cut
 pub mod Done
+pub mod Core

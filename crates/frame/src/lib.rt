@@ -5,15 +5,20 @@ ghost use lib.ListN.{getD};
 ghost use Rattle.frame.specs.End.{isSplitOf, enoughRunsOf, isFrameOf, lastRunOf, closePairOf, widthsInOf, carrierOf, outOf, endFrameOf};
 ghost use Rattle.frame.specs.Cut.{gapAtOf, keepNextOf, keepBeforeOf, startKeptOf, cutTrainOf};
 ghost use Rattle.frame.specs.Done.{frameDoneOf};
+ghost use Rattle.ook.specs.Core.{carrierIn, wholeOut, wholeEnded};
+ghost use Rattle.fsk.specs.Core.{wholeFrame};
+ghost use Rattle.frame.specs.Core.{wholeFramed, wholeBody};
+ghost use mathlib.Core.List.{List};
+ghost use lib.Ieee.{Float};
 use arith::C32;
-use arith::Steps;
 use fsk::Committed;
 use fsk::Frame;
-use fsk::Levels;
+use fsk::FrameCore;
 use fsk::Runs;
-use ook::Carrier;
-use ook::Ended;
+use ook::EndedCore;
+use ook::Flat;
 use ook::Out;
+use ook::OutCore;
 use ook::Settings;
 use ook::Train;
 
@@ -38,6 +43,21 @@ pub struct Body {
     pub frames: u32,
     pub out_ook: Out,
     pub out_fsk: Out,
+}
+
+// The two in the core.
+pub struct FramedCore {
+    pub is_fsk: u32,
+    pub frame: FrameCore,
+    pub out: OutCore,
+}
+
+pub struct BodyCore {
+    pub frame: FrameCore,
+    pub train: Train,
+    pub frames: u32,
+    pub out_ook: OutCore,
+    pub out_fsk: OutCore,
 }
 
 fn is_split(phase: u32, hi: f32, lo: f32, least: f32) -> bool
@@ -114,24 +134,24 @@ fn widths_in(fsk: &mut [u32], n: usize)
     }
 }
 
-fn carrier_of(phase: u32, hi: f32, lo: f32, pac: C32) -> Carrier
-    ensures { λ r. ⌜ r ≡ carrierOf phase hi lo pac ⌝ }
+fn carrier_of(phase: u32, hi: f32, lo: f32, pac: C32) -> Flat
+    ensures { λ r. ⌜ carrierIn r ≡ carrierOf phase hi lo pac ⌝ }
 {
     let after = phase == 1;
     if after {
         let m = arith::midpoint(hi, lo);
-        return Carrier::Angle(m);
+        return ook::angle(m);
     }
-    Carrier::Vector(pac.re, pac.im)
+    ook::vector(pac.re, pac.im)
 }
 
-fn out_of(start: f64, end: f64, c: Committed, high: f32, carrier: Carrier) -> Out
-    ensures { λ r. ⌜ r ≡ outOf start end c high carrier ⌝ }
+fn out_of(start: f64, end: f64, c: Committed, high: f32, carrier: Flat) -> OutCore
+    ensures { λ r. ⌜ wholeOut r ≡ outOf start end c high (carrierIn carrier) ⌝ }
 {
     let i = arith::step_of(start);
     let e = arith::step_of(end);
     let cut = ook::bit(c.fsk_full == 1);
-    Out {
+    OutCore {
         index: i,
         end: e,
         state: 1,
@@ -145,15 +165,15 @@ fn out_of(start: f64, end: f64, c: Committed, high: f32, carrier: Carrier) -> Ou
 
 pub fn end_frame(
     p: Settings,
-    fr: Frame,
+    fr: FrameCore,
     high: f32,
     pac: C32,
     start: f64,
     end: f64,
-    out: Out,
+    out: OutCore,
     fsk: &mut [u32],
-) -> Framed
-    ensures { λ r. ⌜ (r, now (fsk .exit)) ≡ endFrameOf p fr high pac start end out (now (fsk .entry)) ⌝ }
+) -> FramedCore
+    ensures { λ r. ⌜ ((cs : List Float) → (wholeFramed cs r, now (fsk .exit)) ≡ endFrameOf p (wholeFrame cs fr) high pac start end (wholeOut out) (now (fsk .entry))) ⌝ }
 {
     let split = is_split(fr.fsk_phase, fr.levels.f_hi, fr.levels.f_lo, p.fsk_split);
     let enough = enough_runs(fr.done.fsk_runs, fr.runs.fsk_has_prev);
@@ -168,13 +188,13 @@ pub fn end_frame(
         let o = out_of(start, end, c2, high, k);
         let mut n = fr;
         n.done = c2;
-        return Framed {
+        return FramedCore {
             is_fsk: 1,
             frame: n,
             out: o,
         };
     }
-    Framed {
+    FramedCore {
         is_fsk: 0,
         frame: fr,
         out,
@@ -244,15 +264,15 @@ fn keep_before(ook: &[u32], n: u32, total: u32, from: u64, limit: f64) -> Kept
     s
 }
 
-pub fn cut_train(t: Train, high: f32, out: Out, start: f64, ook: &mut [u32]) -> Ended
-    ensures { λ r. ⌜ (r, now (ook .exit)) ≡ cutTrainOf t high out start (now (ook .entry)) ⌝ }
+pub fn cut_train(t: Train, high: f32, out: OutCore, start: f64, ook: &mut [u32]) -> EndedCore
+    ensures { λ r. ⌜ (wholeEnded r, now (ook .exit)) ≡ cutTrainOf t high (wholeOut out) start (now (ook .entry)) ⌝ }
 {
     let total = std::num::wrapping_add_u32(t.ook_n, t.open);
     let k = keep_before(ook, t.ook_n, total, t.start, start - 2.0);
     let none = k.keep == 0;
     if none {
         let z = ook::empty_train(t);
-        return Ended { train: z, out };
+        return EndedCore { train: z, out };
     }
     let m = fsk::sat_sub32(k.keep, 1);
     let mut n = t;
@@ -264,15 +284,15 @@ pub fn cut_train(t: Train, high: f32, out: Out, start: f64, ook: &mut [u32]) -> 
 
 pub fn frame_done(
     p: Settings,
-    b: Body,
+    b: BodyCore,
     high: f32,
     pac: C32,
     start: f64,
     end: f64,
     ook: &mut [u32],
     fsk: &mut [u32],
-) -> Body
-    ensures { λ r. ⌜ (r, now (ook .exit), now (fsk .exit)) ≡ frameDoneOf p b high pac start end (now (ook .entry)) (now (fsk .entry)) ⌝ }
+) -> BodyCore
+    ensures { λ r. ⌜ ((cs : List Float) → (wholeBody cs r, now (ook .exit), now (fsk .exit)) ≡ frameDoneOf p (wholeBody cs b) high pac start end (now (ook .entry)) (now (fsk .entry))) ⌝ }
 {
     let fr = b.frame;
     let o = b.out_fsk;

@@ -3,3 +3,4 @@ pub mod Makers
 pub mod Commit
 pub mod RunStep
 pub mod Resolve
+pub mod Core

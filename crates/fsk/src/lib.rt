@@ -4,11 +4,13 @@ ghost use mathlib.Core.Path.{_≡_};
 ghost use Prim.Native.Nat.{_+_, _*_, _-_, _<_, _≤_, min};
 ghost use Rattle.fsk.specs.Commit.{putEndOf, originOf, countRunOf, upperRunOf, closePairOf, lowerRunOf, fskCommitOf};
 ghost use Rattle.fsk.specs.Makers.{runsOf};
+ghost use Rattle.fsk.specs.Core.{wholeCand, wholeFrame};
+ghost use Rattle.arith.specs.Leaves.{edgeOf, crossOf};
+ghost use mathlib.Core.List.{List};
+ghost use lib.Ieee.{Float};
 ghost use Rattle.fsk.specs.RunStep.{lengthenOf, rejoinOf, beginRunOf, confirmOf, confirmDueOf, fskRunStepOf};
 ghost use Rattle.fsk.specs.Resolve.{beginFrameOf, sliceThrOf, pastOf, firstPastOf, candAtOf, beforeOf, turnAtOf, hiLoOf, otherLevelOf, isEarlyOf, openRunsOf, secondRunOf, settleOf, fskResolveOf};
 use arith::C32;
-use arith::Fix64;
-use arith::Steps;
 
 // The low-passed product, and its frequency at the sample before.
 pub struct Tone {
@@ -25,6 +27,12 @@ pub struct Mean {
 // The candidates of the first transition, and the frequency before the first of them.
 pub struct Cand {
     pub cand_f: [f32; 8],
+    pub cand_before: f32,
+    pub fsk_cand: u32,
+}
+
+// The same in the core: the candidates are an array of their own there, which is lent where one is stored or read.
+pub struct CandCore {
     pub cand_before: f32,
     pub fsk_cand: u32,
 }
@@ -69,6 +77,18 @@ pub struct Frame {
     pub fsk_phase: u32,
     pub mean: Mean,
     pub cand: Cand,
+    pub early: Early,
+    pub levels: Levels,
+    pub runs: Runs,
+    pub done: Committed,
+}
+
+// The same in the core.
+pub struct FrameCore {
+    pub tone: Tone,
+    pub fsk_phase: u32,
+    pub mean: Mean,
+    pub cand: CandCore,
     pub early: Early,
     pub levels: Levels,
     pub runs: Runs,
@@ -258,10 +278,13 @@ pub fn fsk_run_step(
     r: Runs,
     c: Committed,
     upper: bool,
-    tc: f64,
+    idx: u64,
+    fp: f32,
+    f: f32,
+    thr: f32,
     fsk: &mut [u32],
 ) -> Ran
-    ensures { λ s. ⌜ (s, now (fsk .exit)) ≡ fskRunStepOf max «fsk_min» r c upper tc (now (fsk .entry)) ⌝ }
+    ensures { λ s. ⌜ (s, now (fsk .exit)) ≡ fskRunStepOf max «fsk_min» r c upper (edgeOf idx (crossOf fp f thr)) (now (fsk .entry)) ⌝ }
 {
     let level = ook::bit(upper);
     let same = level == r.fsk_level;
@@ -269,6 +292,7 @@ pub fn fsk_run_step(
         let q = lengthen(r);
         return confirm_due(max, fsk_min, q, c, upper, fsk);
     }
+    let tc = arith::edge(idx, arith::cross(fp, f, thr));
     let open = r.fsk_confirmed == 0;
     if open {
         let has = r.fsk_has_prev == 1;
@@ -298,17 +322,16 @@ fn no_run(t: f64) -> Runs
     }
 }
 
-pub fn begin_frame(fr: Frame, t: f64) -> Frame
-    ensures { λ r. ⌜ r ≡ beginFrameOf fr t ⌝ }
+pub fn begin_frame(fr: FrameCore, t: f64) -> FrameCore
+    ensures { λ r. ⌜ ((cs : List Float) → wholeFrame cs r ≡ beginFrameOf (wholeFrame cs fr) t) ⌝ }
 {
-    let cs = fr.cand.cand_f;
     let runs = no_run(t);
     let mut done = fr.done;
     done.fsk_open = 0;
     done.fsk_n = 0;
     done.fsk_runs = 0;
     done.fsk_full = 0;
-    Frame {
+    FrameCore {
         tone: Tone {
             fm: C32 { re: 0.0, im: 0.0 },
             f_prev: 0.0,
@@ -318,8 +341,7 @@ pub fn begin_frame(fr: Frame, t: f64) -> Frame
             f_ref: 0.0,
             fsk_cnt: 0,
         },
-        cand: Cand {
-            cand_f: cs,
+        cand: CandCore {
             cand_before: 0.0,
             fsk_cand: 0,
         },
@@ -367,9 +389,9 @@ fn past(first_upper: bool, f: f32, thr: f32) -> bool
 }
 
 // The first of n candidates past the threshold, or other.
-fn first_past(first_upper: bool, thr: f32, cs: [f32; 8], n: u32, other: u32) -> u32
+fn first_past(first_upper: bool, thr: f32, cs: &[f32; 8], n: u32, other: u32) -> u32
     requires { ⌜ n ≤ 8 ⌝ }
-    ensures { λ r. ⌜ r ≡ firstPastOf «first_upper» thr cs other n 0 ⌝ }
+    ensures { λ r. ⌜ r ≡ firstPastOf «first_upper» thr (now (cs .entry)) other n 0 ⌝ }
 {
     let mut j: u32 = 0;
     while j < n {
@@ -392,8 +414,8 @@ fn at_most_8(n: u32) -> u32
     8
 }
 
-fn cand_at(cs: [f32; 8], j: u32, other: f32) -> f32
-    ensures { λ r. ⌜ r ≡ candAtOf cs j other ⌝ }
+fn cand_at(cs: &[f32; 8], j: u32, other: f32) -> f32
+    ensures { λ r. ⌜ r ≡ candAtOf (now (cs .entry)) j other ⌝ }
 {
     let i = j as usize;
     if i < 8 {
@@ -403,8 +425,8 @@ fn cand_at(cs: [f32; 8], j: u32, other: f32) -> f32
 }
 
 // The frequency before candidate j.
-fn before_of(cs: [f32; 8], before: f32, j: u32) -> f32
-    ensures { λ r. ⌜ r ≡ beforeOf cs before j ⌝ }
+fn before_of(cs: &[f32; 8], before: f32, j: u32) -> f32
+    ensures { λ r. ⌜ r ≡ beforeOf (now (cs .entry)) before j ⌝ }
 {
     let none = j == 0;
     if none {
@@ -414,10 +436,9 @@ fn before_of(cs: [f32; 8], before: f32, j: u32) -> f32
 }
 
 // The time of the transition, of which `second` samples are over at idx.
-fn turn_at(first_upper: bool, thr: f32, c: Cand, f: f32, idx: u64) -> Turn
-    ensures { λ r. ⌜ r ≡ turnAtOf «first_upper» thr c f idx ⌝ }
+fn turn_at(first_upper: bool, thr: f32, c: CandCore, f: f32, idx: u64, cs: &[f32; 8]) -> Turn
+    ensures { λ r. ⌜ r ≡ turnAtOf «first_upper» thr (wholeCand (now (cs .entry)) c) f idx ⌝ }
 {
-    let cs = c.cand_f;
     let n = at_most_8(c.fsk_cand);
     let last = sat_sub32(c.fsk_cand, 1);
     let j = first_past(first_upper, thr, cs, n, last);
@@ -537,14 +558,22 @@ fn settle(
     Ran { runs: q, done: c }
 }
 
-pub fn fsk_resolve(max: u32, fsk_min: u32, fr: Frame, f: f32, idx: u64, fsk: &mut [u32]) -> Frame
-    ensures { λ r. ⌜ (r, now (fsk .exit)) ≡ fskResolveOf max «fsk_min» fr f idx (now (fsk .entry)) ⌝ }
+pub fn fsk_resolve(
+    max: u32,
+    fsk_min: u32,
+    fr: FrameCore,
+    f: f32,
+    idx: u64,
+    cs: &[f32; 8],
+    fsk: &mut [u32],
+) -> FrameCore
+    ensures { λ r. ⌜ (wholeFrame (now (cs .entry)) r, now (fsk .exit)) ≡ fskResolveOf max «fsk_min» (wholeFrame (now (cs .entry)) fr) f idx (now (fsk .entry)) ⌝ }
 {
     let first_upper = fr.mean.f_ref > f;
     let l = hi_lo(first_upper, fr.mean.f_ref, f);
     let thr = slice_thr(first_upper, l.f_hi, l.f_lo);
     let c = fr.cand;
-    let t = turn_at(first_upper, thr, c, f, idx);
+    let t = turn_at(first_upper, thr, c, f, idx, cs);
     let e = fr.early;
     let early = is_early(e, first_upper, l.f_hi, l.f_lo, fr.runs.ft_run);
     let c0 = fr.done;

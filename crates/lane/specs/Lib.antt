@@ -6,4 +6,4 @@ pub mod Begin
 pub mod Advance
 pub mod Step
 pub mod Part
-pub mod Steady
+pub mod Core

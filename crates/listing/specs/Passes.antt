@@ -8,6 +8,7 @@ use native.Mathlib.Omega.{arith}
 use lib.ListN.{length, take}
 use Rattle.lane.specs.declared.Lane.{Lane}
 use Rattle.lane.specs.Step.{newLane}
+use Rattle.reached.specs.Reached.{Sound, unopened}
 use Rattle.turns.specs.Turn.{State}
 use Rattle.turns.specs.Blocks.{Blocks, none, Over}
 use Rattle.feed.specs.declared.Fed.{Fed}
@@ -41,9 +42,10 @@ pub record Passes (p : Passed) (b ook fsk : List ℕ) (r : Passed) (x o f y : Li
   pub none-while : p .fed .full ≡ true → came ≡ []
   pub feeds : Feeds (p .fed .lane, ook, fsk) (take (p .fed .left) b ++ came) (r .last) (r .fed) (r .fed .lane, o, f) x y
 
--- before a pass: of some bytes that were read the blocks printed some lines, and left the lane, the buffers and the bytes at the front of b
+-- before a pass: the lane is sound, and of some bytes that were read the blocks printed some lines, and left the lane, the buffers and the bytes at the front of b
 pub record Standing (p : State) (a : Passed) (b ook fsk : List ℕ) : Type 0 where
   pub inside : a .fed .left ≤ length b
+  pub sound : Sound (a .fed .lane)
   pub read : List ℕ
   pub printed : List ℕ
   pub blocks : Blocks p (a .last) false read printed (a .fed .lane, ook, fsk) (take (a .fed .left) b)
@@ -60,13 +62,14 @@ pub record Runs (p : State) (whole : Bool) (ook fsk : List ℕ) : Type 0 where
   pub over : whole ≡ true → Over last ended left
 
 pub starts : (b ook fsk : List ℕ) → Standing (newLane, ook, fsk) started b ook fsk
-starts b ook fsk = record { inside = omega arith; read = []; printed = []; blocks = none }
+starts b ook fsk = record { inside = omega arith; sound = unopened; read = []; printed = []; blocks = none }
 
 -- a pass more
 pub goes : {p : State} {a r : Passed} {b ook fsk x o f y : List ℕ} → Standing p a b ook fsk → Passes a b ook fsk r x o f y → r .fed .done ≡ false → Standing p r x o f
 goes {p = p} {r = r} {x = x} {o = o} {f = f} {y = y} s g d =
     record {
       inside = g .feeds .inside;
+      sound = g .feeds .block .sound;
       read = s .read ++ g .came;
       printed = s .printed ++ take (r .fed .at) y;
       blocks =

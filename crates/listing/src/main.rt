@@ -5,6 +5,7 @@ ghost use Prim.Native.Nat.{_≤_};
 ghost use mathlib.Core.Path.{_≡_};
 ghost use lib.ListN.{length};
 ghost use Rattle.lane.specs.Step.{newLane};
+ghost use Rattle.reached.specs.Reached.{Sound};
 ghost use Rattle.listing.specs.Passes.{Came, Quiet, started, Passes, Runs};
 use feed::Fed;
 use libc::STDIN_FILENO;
@@ -95,7 +96,7 @@ fn start() -> Passed
 
 // One read, the turns of what is there, and one write.
 fn pass(p: Passed, buf: &mut [u8], ook: &mut [u32], fsk: &mut [u32], text: &mut [u8]) -> Passed
-    requires { ⌜ p .fed .left ≤ length (now buf) ⌝ }
+    requires { ⌜ (p .fed .left ≤ length (now buf)) × Sound (p .fed .lane) ⌝ }
     ensures { λ r. ⌜ Passes p (now (buf .entry)) (now (ook .entry)) (now (fsk .entry)) r (now (buf .exit)) (now (ook .exit)) (now (fsk .exit)) (now (text .exit)) ⌝ }
 {
     let q = p.fed;

@@ -2,6 +2,7 @@
 pub mod Tests
 pub mod Counts
 pub mod Answers
+pub mod Core
 pub mod Params
 pub mod Run
 pub mod Refine

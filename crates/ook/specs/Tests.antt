@@ -1,5 +1,5 @@
 -- The parts of a test that holds.
-use mathlib.Core.Bool.{Bool, true, false, not, cond, _&&_, _||_}
+use mathlib.Core.Bool.{Bool, true, false, _&&_, _||_}
 use mathlib.Core.Path.{_≡_, refl}
 
 pub both-true : (a b : Bool) → (a && b) ≡ true → (a ≡ true) × (b ≡ true)
@@ -10,12 +10,6 @@ both-true false b h = let z : _≡_ {A = Bool} false true = h in (cc, cc)
 pub other-true : (a b : Bool) → (a || b) ≡ true → a ≡ false → b ≡ true
 other-true true b h q = cc
 other-true false b h q = h
-
--- what stands under two tests that do not hold both
-pub not-both : {A : Type 0} (a b : Bool) (x y : A) → not (a && b) ≡ true → cond a (cond b x y) y ≡ y
-not-both true true x y h = let z : _≡_ {A = Bool} false true = h in cc
-not-both true false x y h = refl
-not-both false b x y h = refl
 
 pub six-true : (a b c d e f : Bool) → (a && b && c && d && e && f) ≡ true → (a ≡ true) × (b ≡ true) × (c ≡ true) × (d ≡ true) × (e ≡ true) × (f ≡ true)
 six-true a b c d e f q =

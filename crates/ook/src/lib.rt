@@ -7,6 +7,8 @@ ghost use Rattle.arith.specs.Leaves.{edgeOf, crossOf};
 ghost use Rattle.ook.specs.Counts.{satAddOf};
 ghost use Rattle.ook.specs.Counts as counts;
 ghost use Rattle.ook.specs.Answers.{nextNumberOf, nextEnvelopeOf, isStayOf, carrierKindOf, carrierFirstOf, carrierSecondOf};
+ghost use Rattle.ook.specs.Core.{carrierIn, wholeOut, wholeEnded, wholeDone};
+ghost use Rattle.ook.specs.declared.Carrier.the-variants as Carrier;
 ghost use Rattle.ook.specs.Params.{fskMinOf, refineAtOf};
 ghost use Rattle.ook.specs.Run.{lengthenOf, rejoinOf, beginRunOf, beginsOf, advanceOf, zeroIf, pacRunOf, beginEnvOf};
 ghost use Rattle.ook.specs.Refine.{refineLevelOf, refineLoOf, excessOf, bestAt, splitAt, bestSplitOf, refineInOf, refineOf};
@@ -53,6 +55,24 @@ pub struct Out {
     pub level: f32,
     pub fsk: u32,
     pub carrier: Carrier,
+}
+
+// The same in the core: the carrier as a number and two floats, which fit between the numbers around them (`carrierIn`).
+pub struct Flat {
+    pub kind: u32,
+    pub first: f32,
+    pub second: f32,
+}
+
+pub struct OutCore {
+    pub index: u64,
+    pub end: u64,
+    pub state: u32,
+    pub cut: u32,
+    pub pairs: u32,
+    pub level: f32,
+    pub fsk: u32,
+    pub carrier: Flat,
 }
 
 // The run of the envelope.
@@ -105,6 +125,18 @@ pub struct Done {
     pub next: Next,
     pub train: Train,
     pub out: Out,
+}
+
+// The two in the core.
+pub struct EndedCore {
+    pub train: Train,
+    pub out: OutCore,
+}
+
+pub struct DoneCore {
+    pub next: Next,
+    pub train: Train,
+    pub out: OutCore,
 }
 
 // ---- whole numbers
@@ -204,6 +236,82 @@ pub fn carrier_second(c: Carrier) -> f32
     match c {
         Carrier::Angle(_) => 0.0,
         Carrier::Vector(_, im) => im,
+    }
+}
+
+// ---- a carrier in the core, and a record
+
+pub fn angle(x: f32) -> Flat
+    ensures { λ r. ⌜ carrierIn r ≡ Carrier.Angle x ⌝ }
+{
+    Flat {
+        kind: 1,
+        first: x,
+        second: 0.0,
+    }
+}
+
+pub fn vector(re: f32, im: f32) -> Flat
+    ensures { λ r. ⌜ carrierIn r ≡ Carrier.Vector re im ⌝ }
+{
+    Flat {
+        kind: 0,
+        first: re,
+        second: im,
+    }
+}
+
+fn flat_of(c: Carrier) -> Flat
+    ensures { λ r. ⌜ carrierIn r ≡ c ⌝ }
+{
+    match c {
+        Carrier::Angle(x) => angle(x),
+        Carrier::Vector(re, im) => vector(re, im),
+    }
+}
+
+fn carrier_in(f: Flat) -> Carrier
+    ensures { λ r. ⌜ r ≡ carrierIn f ⌝ }
+{
+    let is_angle = f.kind == 1;
+    if is_angle {
+        return Carrier::Angle(f.first);
+    }
+    Carrier::Vector(f.first, f.second)
+}
+
+// The record of a caller, made from that of the core and back.
+pub fn whole_out(o: OutCore) -> Out
+    ensures { λ r. ⌜ r ≡ wholeOut o ⌝ }
+{
+    let f = o.carrier;
+    let carrier = carrier_in(f);
+    Out {
+        index: o.index,
+        end: o.end,
+        state: o.state,
+        cut: o.cut,
+        pairs: o.pairs,
+        level: o.level,
+        fsk: o.fsk,
+        carrier,
+    }
+}
+
+pub fn core_out(o: Out) -> OutCore
+    ensures { λ r. ⌜ wholeOut r ≡ o ⌝ }
+{
+    let c = o.carrier;
+    let carrier = flat_of(c);
+    OutCore {
+        index: o.index,
+        end: o.end,
+        state: o.state,
+        cut: o.cut,
+        pairs: o.pairs,
+        level: o.level,
+        fsk: o.fsk,
+        carrier,
     }
 }
 
@@ -517,15 +625,15 @@ pub fn empty_train(t: Train) -> Train
     }
 }
 
-fn finish(t: Train, high: f32, out: Out) -> Ended
-    ensures { λ r. ⌜ r ≡ finishOf t high out ⌝ }
+fn finish(t: Train, high: f32, out: OutCore) -> EndedCore
+    ensures { λ r. ⌜ wholeEnded r ≡ finishOf t high (wholeOut out) ⌝ }
 {
     let empty = empty_train(t);
     let some = t.ook_n > 0;
     if some {
         let cut = bit(t.truncated == 1);
-        let carrier = Carrier::Vector(t.acc.re, t.acc.im);
-        let o = Out {
+        let carrier = vector(t.acc.re, t.acc.im);
+        let o = OutCore {
             index: t.start,
             end: t.pulse_end,
             state: 1,
@@ -535,16 +643,16 @@ fn finish(t: Train, high: f32, out: Out) -> Ended
             fsk: 0,
             carrier,
         };
-        return Ended {
+        return EndedCore {
             train: empty,
             out: o,
         };
     }
-    Ended { train: empty, out }
+    EndedCore { train: empty, out }
 }
 
-pub fn end_train(t: Train, high: f32, out: Out, ook: &mut [u32]) -> Ended
-    ensures { λ r. ⌜ (r, now (ook .exit)) ≡ endTrainOf t high out (now (ook .entry)) ⌝ }
+pub fn end_train(t: Train, high: f32, out: OutCore, ook: &mut [u32]) -> EndedCore
+    ensures { λ r. ⌜ (wholeEnded r, now (ook .exit)) ≡ endTrainOf t high (wholeOut out) (now (ook .entry)) ⌝ }
 {
     let n = close_gap(t, Steps(0), ook);
     finish(n, high, out)
@@ -561,13 +669,13 @@ fn longer(longest: Steps, len: Steps) -> Steps
 }
 
 // After the push of a pulse: the burst stays, or the train is full and ends.
-fn after_push(q: Pushed, high: f32, out: Out, ook: &mut [u32]) -> Done
-    ensures { λ r. ⌜ (r, now (ook .exit)) ≡ pushedBy high out (q, now (ook .entry)) ⌝ }
+fn after_push(q: Pushed, high: f32, out: OutCore, ook: &mut [u32]) -> DoneCore
+    ensures { λ r. ⌜ (wholeDone r, now (ook .exit)) ≡ pushedBy high (wholeOut out) (q, now (ook .entry)) ⌝ }
 {
     let t = q.train;
     let fits = q.fits;
     if fits {
-        return Done {
+        return DoneCore {
             next: Next::Stay,
             train: t,
             out,
@@ -576,7 +684,7 @@ fn after_push(q: Pushed, high: f32, out: Out, ook: &mut [u32]) -> Done
     let e = end_train(t, high, out, ook);
     let et = e.train;
     let eo = e.out;
-    Done {
+    DoneCore {
         next: Next::Idle,
         train: et,
         out: eo,
@@ -588,19 +696,19 @@ pub fn pulse_done(
     t: Train,
     pac: C32,
     high: f32,
-    out: Out,
+    out: OutCore,
     len: Steps,
     end: f64,
     ook: &mut [u32],
-) -> Done
-    ensures { λ r. ⌜ (r, now (ook .exit)) ≡ pulseDoneOf p t pac high out len end (now (ook .entry)) ⌝ }
+) -> DoneCore
+    ensures { λ r. ⌜ (wholeDone r, now (ook .exit)) ≡ pulseDoneOf p t pac high (wholeOut out) len end (now (ook .entry)) ⌝ }
 {
     let mut n = t;
     n.pulse_end = arith::step_of(end);
     let fsk = p.mode == 1;
     if fsk {
         n.started = 0;
-        return Done {
+        return DoneCore {
             next: Next::Stay,
             train: n,
             out,

@@ -1,4 +1,4 @@
 -- The definitions that the contracts of the presence machine cite.
 pub mod Move
 pub mod Presence
-pub mod Steady
+pub mod Core

@@ -1,6 +1,6 @@
 -- `presence` (source document 000): the run of the carrier's presence, and what its moves do to the frame.
 use Prim.Native.Nat.{ℕ}
-use mathlib.Core.Bool.{Bool, true, false, cond}
+use mathlib.Core.Bool.{Bool, cond}
 use lib.Dec.{eqb}
 use lib.Ieee.{Float, binary32, mul, ofBits}
 use Rattle.ook.specs.Counts.{satAddOf}

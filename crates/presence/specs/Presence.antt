@@ -1,19 +1,17 @@
 -- `presence` (source document 000): one sample of the presence machine, and what `begin_run` of the envelope does to it.
 use Prim.Native.Nat.{ℕ}
-use mathlib.Core.Bool.{Bool, true, false, cond}
+use mathlib.Core.Bool.{Bool, false, cond}
 use mathlib.Core.List.{List}
 use lib.Dec.{ltb, leb, eqb}
 use lib.IntN.{pos}
-use lib.Ieee.{Float, binary32, binary64, add, sub, mul, lt, le, ofBits, ofInt}
+use lib.Ieee.{Float, binary64, add, sub, le, ofBits, ofInt}
 use Rattle.arith.specs.Leaves.{zero64, one64, edgeOf, crossOf}
 use Rattle.ook.specs.Counts.{bit}
 use Rattle.ook.specs.Train.{endTrainOf}
-use Rattle.ook.specs.declared.Train.{Train}
-use Rattle.ook.specs.declared.Out.{Out}
 use Rattle.ook.specs.declared.Ended.{Ended}
 use Rattle.ook.specs.declared.Settings.{Settings}
 use Rattle.ook.specs.declared.Next.{Next}
-use Rattle.ook.specs.declared.Next.the-variants.{Stay, Idle, IdleAt}
+use Rattle.ook.specs.declared.Next.the-variants.{Stay, IdleAt}
 use Rattle.fsk.specs.Makers.{withFull, withStart, withRuns, withDone}
 use Rattle.fsk.specs.declared.Frame.{Frame}
 use Rattle.slicer.specs.Tone.{upperOf}

@@ -1,19 +1,21 @@
 // The presence machine of the modes FSK and Auto: `presence` of the Rust, and what `begin_run` does to it.
 ghost use mathlib.Core.Path.{_≡_};
-ghost use Prim.Native.Nat.{_+_, _*_, _-_, _%_, _^_, _<_, _≤_};
+ghost use Prim.Native.Nat.{_+_, _*_, _-_, _<_};
 ghost use Rattle.presence.specs.Move.{presThrOf, lengthenOf, rejoinOf, beginRunOf, movePresOf, extendOf, moveFrameOf};
 ghost use Rattle.presence.specs.Presence.{sliceIfOf, dueOf, sureIfOf, endsOf, inWindowOf, endOf, endIfOf, longOf, endCarrierOf, carrierIfOf, advanceOf, presenceOf, nearStartOf, snapOf};
-ghost use Rattle.presence.specs.Steady.{presentAt, presSteadyOf};
+ghost use Rattle.arith.specs.Leaves.{edgeOf, crossOf};
+ghost use Rattle.fsk.specs.Core.{wholeFrame};
+ghost use Rattle.frame.specs.Core.{wholeBody};
+ghost use Rattle.presence.specs.Core.{wholeAdvanced, wholePresent, wholeSnapped};
+ghost use mathlib.Core.List.{List};
+ghost use lib.Ieee.{Float};
 use arith::C32;
-use arith::Steps;
 use frame::Body;
+use frame::BodyCore;
 use fsk::Frame;
-use fsk::Runs;
-use ook::Ended;
+use fsk::FrameCore;
 use ook::Next;
-use ook::Out;
 use ook::Settings;
-use ook::Train;
 
 // The run of the presence, and the trigger factor.
 pub struct Pres {
@@ -46,11 +48,25 @@ pub struct Advanced {
     pub frame: Frame,
 }
 
+// The same in the core.
+pub struct AdvancedCore {
+    pub on: bool,
+    pub pres: Pres,
+    pub frame: FrameCore,
+}
+
 // What the sample asks for, the presence, and what the end of a frame may have changed.
 pub struct Present {
     pub next: Next,
     pub pres: Pres,
     pub body: Body,
+}
+
+// The same in the core.
+pub struct PresentCore {
+    pub next: Next,
+    pub pres: Pres,
+    pub body: BodyCore,
 }
 
 fn pres_thr(up: bool, noise: f32, factor: f32) -> f32
@@ -62,7 +78,7 @@ fn pres_thr(up: bool, noise: f32, factor: f32) -> f32
     noise * factor * 1.125
 }
 
-pub fn lengthen(s: Pres) -> Pres
+fn lengthen(s: Pres) -> Pres
     ensures { λ r. ⌜ r ≡ lengthenOf s ⌝ }
 {
     let n = ook::sat_add(s.p_run, 1);
@@ -96,8 +112,8 @@ fn begin_run(s: Pres, level: u32, tc: f64) -> Pres
     q
 }
 
-fn move_pres(s: Pres, level: u32, tc: f64) -> Pres
-    ensures { λ r. ⌜ r ≡ movePresOf s level tc ⌝ }
+fn move_pres(s: Pres, level: u32, idx: u64, ep: f32, e: f32, thr: f32) -> Pres
+    ensures { λ r. ⌜ r ≡ movePresOf s level (edgeOf idx (crossOf ep e thr)) ⌝ }
 {
     let same = level == s.p_level;
     if same {
@@ -107,12 +123,12 @@ fn move_pres(s: Pres, level: u32, tc: f64) -> Pres
     if short {
         return rejoin(s, level);
     }
-    begin_run(s, level, tc)
+    begin_run(s, level, arith::edge(idx, arith::cross(ep, e, thr)))
 }
 
 // A short absence inside a frame: its samples extend the frequency run.
-fn extend(fr: Frame, n: u32) -> Frame
-    ensures { λ r. ⌜ r ≡ extendOf fr n ⌝ }
+fn extend(fr: FrameCore, n: u32) -> FrameCore
+    ensures { λ r. ⌜ ((cs : List Float) → wholeFrame cs r ≡ extendOf (wholeFrame cs fr) n) ⌝ }
 {
     let k = ook::sat_add(fr.runs.fsk_run, n);
     let mut q = fr;
@@ -121,8 +137,17 @@ fn extend(fr: Frame, n: u32) -> Frame
 }
 
 // What the move of the presence s does to the frame.
-fn move_frame(s: Pres, on: bool, level: u32, tc: f64, fr: Frame) -> Frame
-    ensures { λ r. ⌜ r ≡ moveFrameOf s on level tc fr ⌝ }
+fn move_frame(
+    s: Pres,
+    on: bool,
+    level: u32,
+    idx: u64,
+    ep: f32,
+    e: f32,
+    thr: f32,
+    fr: FrameCore,
+) -> FrameCore
+    ensures { λ r. ⌜ ((cs : List Float) → wholeFrame cs r ≡ moveFrameOf s on level (edgeOf idx (crossOf ep e thr)) (wholeFrame cs fr)) ⌝ }
 {
     let same = level == s.p_level;
     if same {
@@ -136,34 +161,47 @@ fn move_frame(s: Pres, on: bool, level: u32, tc: f64, fr: Frame) -> Frame
         return fr;
     }
     if on {
-        return fsk::begin_frame(fr, tc);
+        return fsk::begin_frame(fr, arith::edge(idx, arith::cross(ep, e, thr)));
     }
     fr
 }
 
-fn slice_if(p: Settings, a: Inputs, on: bool, fr: Frame, fsk: &mut [u32]) -> Frame
-    ensures { λ r. ⌜ (r, now (fsk .exit)) ≡ sliceIfOf p a on fr (now (fsk .entry)) ⌝ }
+fn slice_if(
+    p: Settings,
+    a: Inputs,
+    on: bool,
+    fr: FrameCore,
+    cs: &mut [f32; 8],
+    fsk: &mut [u32],
+) -> FrameCore
+    ensures { λ r. ⌜ (wholeFrame (now (cs .exit)) r, now (fsk .exit)) ≡ sliceIfOf p a on (wholeFrame (now (cs .entry)) fr) (now (fsk .entry)) ⌝ }
 {
     if on {
         let d = a.d;
-        return slicer::fsk_sample(p, fr, a.high, d, a.e, a.idx, fsk);
+        return slicer::fsk_sample(p, fr, a.high, d, a.e, a.idx, cs, fsk);
     }
     fr
 }
 
 // The first half: the level, the run of the presence, the frame, and the slicer's sample.
-fn advance(p: Settings, a: Inputs, s: Pres, fr: Frame, fsk: &mut [u32]) -> Advanced
-    ensures { λ r. ⌜ (r, now (fsk .exit)) ≡ advanceOf p a s fr (now (fsk .entry)) ⌝ }
+fn advance(
+    p: Settings,
+    a: Inputs,
+    s: Pres,
+    fr: FrameCore,
+    cs: &mut [f32; 8],
+    fsk: &mut [u32],
+) -> AdvancedCore
+    ensures { λ r. ⌜ (wholeAdvanced (now (cs .exit)) r, now (fsk .exit)) ≡ advanceOf p a s (wholeFrame (now (cs .entry)) fr) (now (fsk .entry)) ⌝ }
 {
     let up = s.p_level == 1;
     let thr = pres_thr(up, a.noise, s.p_factor);
     let on = slicer::upper_of(up, a.e, thr);
     let level = ook::bit(on);
-    let tc = arith::edge(a.idx, arith::cross(a.ep, a.e, thr));
-    let q = move_pres(s, level, tc);
-    let f = move_frame(s, on, level, tc, fr);
-    let g = slice_if(p, a, on, f, fsk);
-    Advanced {
+    let q = move_pres(s, level, a.idx, a.ep, a.e, thr);
+    let f = move_frame(s, on, level, a.idx, a.ep, a.e, thr, fr);
+    let g = slice_if(p, a, on, f, cs, fsk);
+    AdvancedCore {
         on,
         pres: q,
         frame: g,
@@ -233,16 +271,19 @@ fn end_if(
     p: Settings,
     a: Inputs,
     s: Pres,
-    b: Body,
+    b: BodyCore,
     ook: &mut [u32],
     fsk: &mut [u32],
-) -> Body
-    ensures { λ r. ⌜ (r, now (ook .exit), now (fsk .exit)) ≡ endIfOf ends p a s b (now (ook .entry)) (now (fsk .entry)) ⌝ }
+) -> BodyCore
+    ensures { λ r. ⌜ ((cs : List Float) → (wholeBody cs r, now (ook .exit), now (fsk .exit)) ≡ endIfOf ends p a s (wholeBody cs b) (now (ook .entry)) (now (fsk .entry))) ⌝ }
 {
     if ends {
         let end = end_of(a.level, a.c_run, s.p_t_run);
         let pac = a.pac;
-        return frame::frame_done(p, b, a.high, pac, s.p_t_prev, end, ook, fsk);
+        // Copies: a struct that is handed on here would else stand in memory on the other way too.
+        let q = p;
+        let c = b;
+        return frame::frame_done(q, c, a.high, pac, s.p_t_prev, end, ook, fsk);
     }
     b
 }
@@ -261,11 +302,11 @@ fn end_carrier(
     p: Settings,
     a: Inputs,
     t_run: f64,
-    b: Body,
+    b: BodyCore,
     ook: &mut [u32],
     fsk: &mut [u32],
-) -> Body
-    ensures { λ r. ⌜ (r, now (ook .exit), now (fsk .exit)) ≡ endCarrierOf p a «t_run» b (now (ook .entry)) (now (fsk .entry)) ⌝ }
+) -> BodyCore
+    ensures { λ r. ⌜ ((cs : List Float) → (wholeBody cs r, now (ook .exit), now (fsk .exit)) ≡ endCarrierOf p a «t_run» (wholeBody cs b) (now (ook .entry)) (now (fsk .entry))) ⌝ }
 {
     let mut m = b;
     m.frame.done.fsk_full = 1;
@@ -288,22 +329,25 @@ fn carrier_if(
     a: Inputs,
     on: bool,
     s: Pres,
-    b: Body,
+    b: BodyCore,
     ook: &mut [u32],
     fsk: &mut [u32],
-) -> Present
-    ensures { λ r. ⌜ (r, now (ook .exit), now (fsk .exit)) ≡ carrierIfOf p a on s b (now (ook .entry)) (now (fsk .entry)) ⌝ }
+) -> PresentCore
+    ensures { λ r. ⌜ ((cs : List Float) → (wholePresent cs r, now (ook .exit), now (fsk .exit)) ≡ carrierIfOf p a on s (wholeBody cs b) (now (ook .entry)) (now (fsk .entry))) ⌝ }
 {
     let long = long_of(on, s.p_run, p.long_steps);
     if long {
-        let k = end_carrier(p, a, s.p_t_run, b, ook, fsk);
-        return Present {
+        // Copies, as in end_if.
+        let c = b;
+        let q = p;
+        let k = end_carrier(q, a, s.p_t_run, c, ook, fsk);
+        return PresentCore {
             next: Next::IdleAt(a.e),
             pres: s,
             body: k,
         };
     }
-    Present {
+    PresentCore {
         next: Next::Stay,
         pres: s,
         body: b,
@@ -314,14 +358,15 @@ pub fn presence(
     p: Settings,
     a: Inputs,
     s: Pres,
-    b: Body,
+    b: BodyCore,
+    cs: &mut [f32; 8],
     ook: &mut [u32],
     fsk: &mut [u32],
-) -> Present
-    ensures { λ r. ⌜ (r, now (ook .exit), now (fsk .exit)) ≡ presenceOf p a s b (now (ook .entry)) (now (fsk .entry)) ⌝ }
+) -> PresentCore
+    ensures { λ r. ⌜ (wholePresent (now (cs .exit)) r, now (ook .exit), now (fsk .exit)) ≡ presenceOf p a s (wholeBody (now (cs .entry)) b) (now (ook .entry)) (now (fsk .entry)) ⌝ }
 {
     let fr = b.frame;
-    let l = advance(p, a, s, fr, fsk);
+    let l = advance(p, a, s, fr, cs, fsk);
     let s1 = l.pres;
     let f1 = l.frame;
     let mut b1 = b;
@@ -339,9 +384,15 @@ pub struct Snapped {
     pub frame: Frame,
 }
 
+// The same in the core.
+pub struct SnappedCore {
+    pub pres: Pres,
+    pub frame: FrameCore,
+}
+
 // `begin_run` of the envelope, at a rise: its edge is the better start of a frame that the presence began just before.
-pub fn snap(s: Pres, fr: Frame, tc: f64) -> Snapped
-    ensures { λ r. ⌜ r ≡ snapOf s fr tc ⌝ }
+pub fn snap(s: Pres, fr: FrameCore, tc: f64) -> SnappedCore
+    ensures { λ r. ⌜ ((cs : List Float) → wholeSnapped cs r ≡ snapOf s (wholeFrame cs fr) tc) ⌝ }
 {
     let near = near_start(s.p_level, fr.fsk_phase, fr.done.fsk_runs, tc - s.p_t_run);
     if near {
@@ -349,9 +400,9 @@ pub fn snap(s: Pres, fr: Frame, tc: f64) -> Snapped
         q.p_t_run = tc;
         let mut f = fr;
         f.runs.ft_run = tc;
-        return Snapped { pres: q, frame: f };
+        return SnappedCore { pres: q, frame: f };
     }
-    Snapped { pres: s, frame: fr }
+    SnappedCore { pres: s, frame: fr }
 }
 
 fn near_start(level: u32, phase: u32, runs: u32, lead: f64) -> bool
@@ -370,23 +421,4 @@ fn near_start(level: u32, phase: u32, runs: u32, lead: f64) -> bool
         return false;
     }
     false
-}
-
-// ---- a steady sample: the run of the presence goes on, and nothing is confirmed or ended by it
-
-// Whether the carrier is present at a sample.
-pub fn present_at(noise: f32, e: f32, s: Pres) -> bool
-    ensures { λ r. ⌜ r ≡ presentAt noise e s ⌝ }
-{
-    let up = s.p_level == 1;
-    slicer::upper_of(up, e, pres_thr(up, noise, s.p_factor))
-}
-
-// Whether the run goes on with the sample, and is neither confirmed nor too long with it.
-pub fn pres_steady(min_steps: u32, long_steps: u32, on: bool, s: Pres) -> bool
-    ensures { λ r. ⌜ r ≡ presSteadyOf «min_steps» «long_steps» on s ⌝ }
-{
-    let n = lengthen(s);
-    let same = ook::bit(on) == s.p_level;
-    same & !due_of(n, min_steps) & !long_of(on, n.p_run, long_steps)
 }

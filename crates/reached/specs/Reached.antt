@@ -92,7 +92,7 @@ idle-sound p q =
     let w : Within (idleLane 1 p) = record { had = refl; domain = q; kept = none-within p; going = λ e. absurd (omega arith); named = omega arith; filled = λ e. omega arith; from = omega arith; near = omega arith } in
     within w
 
-open-sound : {l : Lane} (p : Settings) → Sound l → Sound (opened l p .lane)
+pub open-sound : {l : Lane} (p : Settings) → Sound l → Sound (opened l p .lane)
 unfolding opened
 open-sound {l} p h = go (settingsOk p) refl
   where
@@ -110,7 +110,7 @@ lead-sound {l} b m n e (within h) =
     let w : Within (leadLane l b) = record { had = h .had; domain = h .domain; kept = factor-within (b .factor) (cleared-within (h .kept)); going = λ q. absurd (omega arith); named = omega arith; filled = λ q. omega (arith, d .min-steps .0, d .min-steps .1); from = t; near = t } in
     within w
 
-begin-sound : {l : Lane} (b : BeginArgs) (ook fsk : List ℕ) → Sound l → Sound (begun l b ook fsk .lane)
+pub begin-sound : {l : Lane} (b : BeginArgs) (ook fsk : List ℕ) → Sound l → Sound (begun l b ook fsk .lane)
 unfolding begun
 begin-sound {l} b ook fsk h = go (eqb (beginRefusal l b (length ook) (length fsk)) 0) refl
   where
@@ -178,7 +178,7 @@ accepted-sound {l} s ook fsk e (within h) =
     let t = none-failed true (laneOk l) (not (eqb (l .phase) 0)) (indexOk (s .index) && followsOf (l .last) (s .index)) (stepFloatsOk s) (roomOk (l .settings) (length ook) (length fsk)) e in
     advance-sound s ook fsk h (eqb-false (l .phase) 0 (not-true (eqb (l .phase) 0) (t .2))) (leb-true (s .index) maxIndex (both-true (indexOk (s .index)) (followsOf (l .last) (s .index)) (t .3) .0))
 
-step-sound : {l : Lane} (s : StepArgs) (ook fsk : List ℕ) → Sound l → Sound (stepped l s ook fsk .0 .lane)
+pub step-sound : {l : Lane} (s : StepArgs) (ook fsk : List ℕ) → Sound l → Sound (stepped l s ook fsk .0 .lane)
 unfolding stepped
 step-sound {l} s ook fsk h = go (eqb (stepRefusal l s (length ook) (length fsk)) 0) refl
   where

@@ -2,7 +2,6 @@
 -- to be decided), cut mark and kind are flags too.
 use Prim.Native.Nat.{ℕ, _+_}
 use mathlib.Core.Bool.{Bool, not, _&&_, _||_}
-use mathlib.Core.Path.{_≡_, refl}
 use lib.Dec.{leb, ltb, eqb}
 use Rattle.domain.specs.Limits.{maxIndex, maxCount}
 use Rattle.arith.specs.Leaves.{leadLenOf}
@@ -50,14 +49,6 @@ unfoldable pub burstOk : ℕ → Burst → Bool
 burstOk max b =
     envOk (b .env) && trainOk max (b .train) && outOk (b .«out_ook»)
     && presOk (b .pres) && frameOk max (b .frame) && outOk (b .«out_fsk»)
-
--- the same of the parts that it reads
-unfoldable pub partsOk : ℕ → Env → Train → Out → Pres → Frame → Out → Bool
-partsOk max env train ook pres frame fsk = envOk env && trainOk max train && outOk ook && presOk pres && frameOk max frame && outOk fsk
-
-pub burst-parts : (max : ℕ) (b : Burst) → burstOk max b ≡ partsOk max (b .env) (b .train) (b .«out_ook») (b .pres) (b .frame) (b .«out_fsk»)
-unfolding burstOk partsOk
-burst-parts max b = refl
 
 -- in lead, phase 1, the count is below lead_len; the lead's index is at most maxIndex in every phase
 unfoldable pub leadOk : ℕ → ℕ → Lead → Bool

@@ -3,7 +3,7 @@ ghost use mathlib.Core.Path.{_≡_};
 ghost use Prim.Native.Nat.{_+_};
 ghost use lib.Dec.{leb};
 ghost use Rattle.refusals.specs.Domain.{within, between, settingsOk, unsetOk, factorOk, envelopeOk, sampleOk, indexOk, roomOk};
-ghost use Rattle.refusals.specs.State.{flag, envOk, trainOk, presOk, runsOk, committedOk, frameOk, outOk, burstOk, partsOk, leadOk, candOk};
+ghost use Rattle.refusals.specs.State.{flag, envOk, trainOk, presOk, runsOk, committedOk, frameOk, outOk, burstOk, leadOk, candOk};
 ghost use Rattle.refusals.specs.Order.{check, firstFailed};
 use arith::C32;
 use burst::Burst;
@@ -162,26 +162,6 @@ pub fn burst_ok(max: u32, b: Burst) -> bool
     let pres = b.pres;
     let frame = b.frame;
     let out_fsk = b.out_fsk;
-    env_ok(env)
-        & train_ok(max, train)
-        & out_ok(out_ook)
-        & pres_ok(pres)
-        & frame_ok(max, frame)
-        & out_ok(out_fsk)
-}
-
-// The same over the burst's parts, for a step: a burst that is handed on whole is copied whole.
-pub fn parts_ok(
-    max: u32,
-    env: Env,
-    train: Train,
-    out_ook: Out,
-    pres: Pres,
-    frame: Frame,
-    out_fsk: Out,
-) -> bool
-    ensures { λ r. ⌜ r ≡ partsOk max env train «out_ook» pres frame «out_fsk» ⌝ }
-{
     env_ok(env)
         & train_ok(max, train)
         & out_ok(out_ook)

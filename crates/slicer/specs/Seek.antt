@@ -1,6 +1,7 @@
 -- `fsk_sample` before the first transition (source document 000): the mean of the first level, and the candidates of the second.
 use Prim.Native.Nat.{ℕ, min, _+_, _-_, _%_, _^_}
 use mathlib.Core.Bool.{Bool, cond}
+use mathlib.Core.List.{List}
 use lib.ListN.{set, getD}
 use lib.Dec.{ltb, eqb}
 use lib.IntN.{pos}
@@ -35,8 +36,12 @@ startOf «fsk_cand» side «last_side» = cond (ltb 0 «fsk_cand») (cond side (
 unfoldable pub beforeIfOf : ℕ → Float → Float → Float
 beforeIfOf «fsk_cand» fp «cand_before» = cond (eqb «fsk_cand» 0) fp «cand_before»
 
+-- cand_f has FSK_CAND (8) places
+unfoldable pub storeOf : List Float → ℕ → Float → List Float
+storeOf «cand_f» n f = cond (ltb n 8) (set «cand_f» n f) «cand_f»
+
 abbrev pub candidateAt : Cand → Float → Float → ℕ → Cand
-candidateAt c f fp n = candOf (set (c .«cand_f») n f) (beforeIfOf n fp (c .«cand_before»)) (inc n)
+candidateAt c f fp n = candOf (storeOf (c .«cand_f») n f) (beforeIfOf n fp (c .«cand_before»)) (inc n)
 
 unfoldable pub pushCandOf : Cand → Float → Float → Float → Cand
 pushCandOf c «f_ref» f fp = candidateAt c f fp (startOf (c .«fsk_cand») (lt zero32 (sub binary32 f «f_ref»)) (lt «f_ref» (getD (c .«cand_f») 0 nan)))

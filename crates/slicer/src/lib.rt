@@ -1,19 +1,18 @@
 // The frequency slicer: `fsk_sample` of the Rust.
 ghost use mathlib.Core.Path.{_≡_};
 ghost use Prim.Native.Nat.{_+_, _*_, _-_, _<_, min};
-ghost use lib.ListN.{set};
 ghost use Rattle.slicer.specs.Tone.{lowPassOf, toneOf, upperOf, followOf};
-ghost use Rattle.slicer.specs.Seek.{seedOf, averageOf, startOf, beforeIfOf, pushCandOf, restartAtOf, restartEarlyOf, clearOf, farFromOf};
+ghost use Rattle.slicer.specs.Seek.{seedOf, averageOf, startOf, beforeIfOf, pushCandOf, restartAtOf, restartEarlyOf, clearOf, farFromOf, storeOf};
 ghost use Rattle.slicer.specs.Sample.{seekFrameOf, restartOf, awayOf, seekOf, fskSampleOf, trackOf};
+ghost use Rattle.fsk.specs.Core.{wholeCand, wholeFrame};
+ghost use mathlib.Core.List.{List};
+ghost use lib.Ieee.{Float};
 use arith::C32;
-use fsk::Cand;
-use fsk::Committed;
+use fsk::CandCore;
 use fsk::Early;
-use fsk::Frame;
+use fsk::FrameCore;
 use fsk::Levels;
 use fsk::Mean;
-use fsk::Ran;
-use fsk::Runs;
 use fsk::Tone;
 use ook::Settings;
 
@@ -126,29 +125,25 @@ fn before_if(n: u32, fp: f32, before: f32) -> f32
     before
 }
 
-fn store(cs: [f32; 8], i: usize, f: f32) -> [f32; 8]
-    ensures { λ r. ⌜ r ≡ set cs i f ⌝ }
+// A place past the end is not written.
+fn store(cs: &mut [f32; 8], i: usize, f: f32)
+    ensures { λ _. ⌜ now (cs .exit) ≡ storeOf (now (cs .entry)) i f ⌝ }
 {
     if i < 8 {
-        let mut q = cs;
-        q[i] = f;
-        return q;
+        cs[i] = f;
     }
-    cs
 }
 
-fn push_cand(c: Cand, f_ref: f32, f: f32, fp: f32) -> Cand
-    ensures { λ r. ⌜ r ≡ pushCandOf c «f_ref» f fp ⌝ }
+fn push_cand(c: CandCore, f_ref: f32, f: f32, fp: f32, cs: &mut [f32; 8]) -> CandCore
+    ensures { λ r. ⌜ wholeCand (now (cs .exit)) r ≡ pushCandOf (wholeCand (now (cs .entry)) c) «f_ref» f fp ⌝ }
 {
-    let cs = c.cand_f;
     let side = f - f_ref > 0.0;
     let last = cs[0] > f_ref;
     let n = start_of(c.fsk_cand, side, last);
     let before = before_if(n, fp, c.cand_before);
-    let q = store(cs, n as usize, f);
+    store(cs, n as usize, f);
     let k = ook::inc(n);
-    Cand {
-        cand_f: q,
+    CandCore {
         cand_before: before,
         fsk_cand: k,
     }
@@ -162,12 +157,11 @@ fn restart_at(before: f32, at: f32, thr: f32, cand: u32, idx: u64) -> f64
 }
 
 // The samples before a restart may be a short first run.
-fn restart_early(e: Early, m: Mean, c: Cand, f: f32, idx: u64) -> Early
-    ensures { λ r. ⌜ r ≡ restartEarlyOf e m c f idx ⌝ }
+fn restart_early(e: Early, m: Mean, c: CandCore, f: f32, idx: u64, cs: &[f32; 8]) -> Early
+    ensures { λ r. ⌜ r ≡ restartEarlyOf e m (wholeCand (now (cs .entry)) c) f idx ⌝ }
 {
     let some = m.fsk_cnt > 0;
     if some {
-        let cs = c.cand_f;
         let thr = arith::midpoint(m.f_ref, f);
         let t = restart_at(c.cand_before, cs[0], thr, c.fsk_cand, idx);
         return Early {
@@ -179,8 +173,8 @@ fn restart_early(e: Early, m: Mean, c: Cand, f: f32, idx: u64) -> Early
     e
 }
 
-fn clear(c: Cand) -> Cand
-    ensures { λ r. ⌜ r ≡ clearOf c ⌝ }
+fn clear(c: CandCore) -> CandCore
+    ensures { λ r. ⌜ ((cs : List Float) → wholeCand cs r ≡ clearOf (wholeCand cs c)) ⌝ }
 {
     let mut d = c;
     d.fsk_cand = 0;
@@ -194,8 +188,8 @@ fn far_from(f: f32, f_ref: f32, delta: f32) -> bool
 }
 
 // The frame before its first transition: the levels and the committed runs stay.
-fn seek_frame(fr: Frame, t: Tone, mean: Mean, c: Cand, e: Early) -> Frame
-    ensures { λ r. ⌜ r ≡ seekFrameOf fr t mean c e ⌝ }
+fn seek_frame(fr: FrameCore, t: Tone, mean: Mean, c: CandCore, e: Early) -> FrameCore
+    ensures { λ r. ⌜ ((old cs : List Float) → wholeFrame cs r ≡ seekFrameOf (wholeFrame old fr) t mean (wholeCand cs c) e) ⌝ }
 {
     let r0 = fr.runs;
     let runs = fsk::lengthen(r0);
@@ -209,11 +203,11 @@ fn seek_frame(fr: Frame, t: Tone, mean: Mean, c: Cand, e: Early) -> Frame
 }
 
 // Too few samples before the candidates to know the first level: the mean starts over.
-fn restart(fr: Frame, t: Tone, mean: Mean, c: Cand, idx: u64) -> Frame
-    ensures { λ r. ⌜ r ≡ restartOf fr t mean c idx ⌝ }
+fn restart(fr: FrameCore, t: Tone, mean: Mean, c: CandCore, idx: u64, cs: &[f32; 8]) -> FrameCore
+    ensures { λ r. ⌜ ((old : List Float) → wholeFrame (now (cs .entry)) r ≡ restartOf (wholeFrame old fr) t mean (wholeCand (now (cs .entry)) c) idx) ⌝ }
 {
     let e0 = fr.early;
-    let e = restart_early(e0, mean, c, t.f_prev, idx);
+    let e = restart_early(e0, mean, c, t.f_prev, idx, cs);
     let k = clear(c);
     let fresh = Mean {
         f_ref: t.f_prev,
@@ -226,14 +220,15 @@ fn restart(fr: Frame, t: Tone, mean: Mean, c: Cand, idx: u64) -> Frame
 fn away(
     max: u32,
     m: u32,
-    fr: Frame,
+    fr: FrameCore,
     t: Tone,
     mean: Mean,
-    c: Cand,
+    c: CandCore,
     idx: u64,
+    cs: &[f32; 8],
     fsk: &mut [u32],
-) -> Frame
-    ensures { λ r. ⌜ (r, now (fsk .exit)) ≡ awayOf max m fr t mean c idx (now (fsk .entry)) ⌝ }
+) -> FrameCore
+    ensures { λ r. ⌜ ((old : List Float) → (wholeFrame (now (cs .entry)) r, now (fsk .exit)) ≡ awayOf max m (wholeFrame old fr) t mean (wholeCand (now (cs .entry)) c) idx (now (fsk .entry))) ⌝ }
 {
     let few = c.fsk_cand < m;
     if few {
@@ -242,24 +237,32 @@ fn away(
     }
     let young = mean.fsk_cnt < m;
     if young {
-        return restart(fr, t, mean, c, idx);
+        return restart(fr, t, mean, c, idx, cs);
     }
     let e = fr.early;
     let n = seek_frame(fr, t, mean, c, e);
-    fsk::fsk_resolve(max, m, n, t.f_prev, idx, fsk)
+    fsk::fsk_resolve(max, m, n, t.f_prev, idx, cs, fsk)
 }
 
 // Before the first transition: the mean of the first level, and the candidates.
-fn seek(p: Settings, m: u32, fr: Frame, t: Tone, idx: u64, fsk: &mut [u32]) -> Frame
-    ensures { λ r. ⌜ (r, now (fsk .exit)) ≡ seekOf p m fr t idx (now (fsk .entry)) ⌝ }
+fn seek(
+    p: Settings,
+    m: u32,
+    fr: FrameCore,
+    t: Tone,
+    idx: u64,
+    cs: &mut [f32; 8],
+    fsk: &mut [u32],
+) -> FrameCore
+    ensures { λ r. ⌜ (wholeFrame (now (cs .exit)) r, now (fsk .exit)) ≡ seekOf p m (wholeFrame (now (cs .entry)) fr) t idx (now (fsk .entry)) ⌝ }
 {
     let m0 = fr.mean;
     let c0 = fr.cand;
     let mean = seed(m0, c0.fsk_cand, t.f_prev);
     let far = far_from(t.f_prev, mean.f_ref, p.fsk_delta);
     if far {
-        let c = push_cand(c0, mean.f_ref, t.f_prev, fr.tone.f_prev);
-        return away(p.max_pulses, m, fr, t, mean, c, idx, fsk);
+        let c = push_cand(c0, mean.f_ref, t.f_prev, fr.tone.f_prev, cs);
+        return away(p.max_pulses, m, fr, t, mean, c, idx, cs, fsk);
     }
     let a = average(mean, t.f_prev);
     let k = clear(c0);
@@ -268,8 +271,8 @@ fn seek(p: Settings, m: u32, fr: Frame, t: Tone, idx: u64, fsk: &mut [u32]) -> F
 }
 
 // After it: the two levels are followed, and the run machine goes on.
-fn track(p: Settings, m: u32, fr: Frame, t: Tone, idx: u64, fsk: &mut [u32]) -> Frame
-    ensures { λ r. ⌜ (r, now (fsk .exit)) ≡ trackOf p m fr t idx (now (fsk .entry)) ⌝ }
+fn track(p: Settings, m: u32, fr: FrameCore, t: Tone, idx: u64, fsk: &mut [u32]) -> FrameCore
+    ensures { λ r. ⌜ ((cs : List Float) → (wholeFrame cs r, now (fsk .exit)) ≡ trackOf p m (wholeFrame cs fr) t idx (now (fsk .entry))) ⌝ }
 {
     let f = t.f_prev;
     let r0 = fr.runs;
@@ -279,8 +282,18 @@ fn track(p: Settings, m: u32, fr: Frame, t: Tone, idx: u64, fsk: &mut [u32]) -> 
     let thr = fsk::slice_thr(up, l0.f_hi, l0.f_lo);
     let upper = upper_of(up, f, thr);
     let l = follow(upper, l0, f);
-    let tc = arith::edge(idx, arith::cross(fr.tone.f_prev, f, thr));
-    let s = fsk::fsk_run_step(p.max_pulses, m, r0, d0, upper, tc, fsk);
+    let s = fsk::fsk_run_step(
+        p.max_pulses,
+        m,
+        r0,
+        d0,
+        upper,
+        idx,
+        fr.tone.f_prev,
+        f,
+        thr,
+        fsk,
+    );
     let sr = s.runs;
     let sd = s.done;
     let mut n = fr;
@@ -293,21 +306,22 @@ fn track(p: Settings, m: u32, fr: Frame, t: Tone, idx: u64, fsk: &mut [u32]) -> 
 
 pub fn fsk_sample(
     p: Settings,
-    fr: Frame,
+    fr: FrameCore,
     high: f32,
     d: C32,
     e: f32,
     idx: u64,
+    cs: &mut [f32; 8],
     fsk: &mut [u32],
-) -> Frame
-    ensures { λ r. ⌜ (r, now (fsk .exit)) ≡ fskSampleOf p fr high d e idx (now (fsk .entry)) ⌝ }
+) -> FrameCore
+    ensures { λ r. ⌜ (wholeFrame (now (cs .exit)) r, now (fsk .exit)) ≡ fskSampleOf p (wholeFrame (now (cs .entry)) fr) high d e idx (now (fsk .entry)) ⌝ }
 {
     let m = ook::fsk_min(p.min_steps);
     let t0 = fr.tone;
     let t = tone_of(p.alpha, high, d, e, t0);
     let first = fr.fsk_phase == 0;
     if first {
-        return seek(p, m, fr, t, idx, fsk);
+        return seek(p, m, fr, t, idx, cs, fsk);
     }
     track(p, m, fr, t, idx, fsk)
 }

@@ -3,4 +3,4 @@ pub mod See
 pub mod Act
 pub mod Tail
 pub mod Limits
-pub mod Steady
+pub mod Core

@@ -22,8 +22,7 @@ use Rattle.lines.specs.declared.Written.{Written}
 use Rattle.lines.specs.Line.{maxSlots, callRoom, largerOf, hasRoom, recordLine, callText, writtenCall, put}
 use Rattle.lines.specs.Room.{room-there, length-call, larger-left, larger-right}
 use Rattle.reached.specs.Records.{PartsFit, parts-fit-step, parts-fit-begin, parts-fit-open, slots-step, answered-step, answered-begin, answered-open}
-use Rattle.turns.specs.declared.Turned.{Turned}
-use Rattle.turns.specs.Turn.{State, Called, called, indexOf, shownOf, answerText, calledText, textOf, turned, Turn, placeOf, waits, smallerOf, slotsOf, mostOf}
+use Rattle.turns.specs.Turn.{State, Called, called, indexOf, shownOf, answerText, calledText, textOf, placeOf, waits, smallerOf, slotsOf, mostOf}
 
 -- ---- room
 
@@ -97,9 +96,9 @@ shown-by Idle o ook fsk most h = h (λ e. omega (arith, e))
 shown-by (IdleAt x) o ook fsk most h = h (λ e. omega (arith, e))
 
 -- both parts that a call prints have at most `most` slots
-record Shown (c : Called) (most : ℕ) : Type 0 where
-  fsk-shown : length (shownOf (c .0 .reply) (c .0 .lane .burst .«out_fsk») (c .1) (c .2)) ≤ most
-  ook-shown : length (shownOf (c .0 .reply) (c .0 .lane .burst .«out_ook») (c .1) (c .2)) ≤ most
+pub record Shown (c : Called) (most : ℕ) : Type 0 where
+  pub fsk-shown : length (shownOf (c .0 .reply) (c .0 .lane .burst .«out_fsk») (c .1) (c .2)) ≤ most
+  pub ook-shown : length (shownOf (c .0 .reply) (c .0 .lane .burst .«out_ook») (c .1) (c .2)) ≤ most
 
 shown-fits : (c : Called) (most : ℕ) → ((replyNumberOf (c .0 .reply) ≡ 3 → ⊥) → PartsFit most (c .0 .lane .burst) (c .1) (c .2)) → Shown c most
 shown-fits c most h =
@@ -126,7 +125,7 @@ step-shown p s h g =
     record { ook-part = within (c .0 .lane .burst .«out_ook») (f .ook-part); fsk-part = within (c .0 .lane .burst .«out_fsk») (f .fsk-part) })
 
 -- no part that a call prints has more slots than `mostOf` says; nothing is said where there is no command
-shown-most : (p : State) (k : Command) → waits true k ≡ false → length (called p k .1) ≡ length (p .1) → length (called p k .2) ≡ length (p .2) → Shown (called p k) (mostOf p)
+pub shown-most : (p : State) (k : Command) → waits true k ≡ false → length (called p k .1) ≡ length (p .1) → length (called p k .2) ≡ length (p .2) → Shown (called p k) (mostOf p)
 unfolding called
 shown-most p End w h g = let z : _≡_ {A = Bool} true false = w in let q : _≡_ {A = ℕ} 0 1 = cc in absurd (omega arith)
 shown-most p (Open s) w h g = shown-fits (called p (Open s)) (mostOf p) (λ n. parts-fit-open (p .0) s (answered-open (p .0) s n) (mostOf p) (p .1) (p .2))
@@ -134,13 +133,6 @@ shown-most p (Begin b) w h g = shown-fits (called p (Begin b)) (mostOf p) (λ n.
 shown-most p (Step s) w h g = step-shown p s h g
 shown-most p Unknown w h g = record { fsk-shown = omega arith; ook-shown = omega arith }
 shown-most p Short w h g = record { fsk-shown = omega arith; ook-shown = omega arith }
-
--- the same of the call as it was made, which keeps the lengths of the buffers
-shown-called : (p : State) (k : Command) (c : Called) → waits true k ≡ false → c ≡ called p k → length (c .1) ≡ length (p .1) → length (c .2) ≡ length (p .2) → Shown (called p k) (mostOf p)
-shown-called p k c w e h g =
-    shown-most p k w (ap (λ (d : Called). length (d .1)) (sym e) ∙ h) (ap (λ (d : Called). length (d .2)) (sym e) ∙ g)
-
--- ---- the lines of a call
 
 -- a refused call prints no record, so that its lines are those without the parts
 shown-text : (r : Reply) (f o : Out) (ook fsk : List ℕ) (index : ℕ) → callText r (recordLine f (shownOf r f ook fsk) ++ recordLine o (shownOf r o ook fsk)) index ≡ answerText r f o ook fsk index
@@ -160,14 +152,11 @@ answered r f o ook fsk fs os x y index at e w room df dg q de =
     ap (λ (n : ℕ). (n, y)) de ∙ ap (λ (z : Written × List ℕ). (placeOf (z .0) at, z .1)) q ∙ rw (df, dg) (rw room (ap (λ (v : List ℕ). (at + length v, sets x at v)) (shown-text r f o ook fsk index)))
 
 -- the room that a turn has is room for the parts of its call
-pub turn-room : (p : State) (k : Command) (c : Called) (len at : ℕ) → waits true k ≡ false → hasRoom (mostOf p) len at ≡ true
-    → c ≡ called p k → length (c .1) ≡ length (p .1) → length (c .2) ≡ length (p .2)
+pub room-shown : (c : Called) (most len at : ℕ) → Shown c most → hasRoom most len at ≡ true
     → hasRoom (largerOf (length (shownOf (c .0 .reply) (c .0 .lane .burst .«out_fsk») (c .1) (c .2))) (length (shownOf (c .0 .reply) (c .0 .lane .burst .«out_ook») (c .1) (c .2)))) len at ≡ true
-turn-room p k c len at w room e h g =
-    let s : Shown c (mostOf p) = subst (λ (d : Called). Shown d (mostOf p)) (sym e) (shown-called p k c w e h g) in
-    room-less _ (mostOf p) len at (larger-short _ _ (mostOf p) (s .fsk-shown) (s .ook-shown)) room
+room-shown c most len at h room = room-less _ most len at (larger-short _ _ most (h .fsk-shown) (h .ook-shown)) room
 
-called-short : (c : Called) (index most : ℕ) → Shown c most → length (calledText c index) ≤ callRoom most
+pub called-short : (c : Called) (index most : ℕ) → Shown c most → length (calledText c index) ≤ callRoom most
 called-short c index most h =
     let r = c .0 .reply in
     let f = c .0 .lane .burst .«out_fsk» in
@@ -180,49 +169,11 @@ called-short c index most h =
       h .ook-shown,
     )
 
-text-short : (k : Command) (c : Called) (most : ℕ) → Shown c most → length (textOf k c) ≤ callRoom most
-text-short End c most h = omega arith
-text-short (Open s) c most h = called-short c 0 most h
-text-short (Begin b) c most h = called-short c (b .index) most h
-text-short (Step s) c most h = called-short c (s .index) most h
-text-short Unknown c most h = called-short c 0 most h
-text-short Short c most h = called-short c 0 most h
-
--- ---- a turn
-
 -- a command that is there prints the lines of its call
-there : (k : Command) (c : Called) → waits true k ≡ false → textOf k c ≡ calledText c (indexOf k)
+pub there : (k : Command) (c : Called) → waits true k ≡ false → textOf k c ≡ calledText c (indexOf k)
 there End c w = let z : _≡_ {A = Bool} true false = w in let q : _≡_ {A = ℕ} 0 1 = cc in absurd (omega arith)
 there (Open s) c w = refl
 there (Begin b) c w = refl
 there (Step s) c w = refl
 there Unknown c w = refl
 there Short c w = refl
-
-abbrev made : ℕ → List ℕ → ℕ → List ℕ → Called → Turned × List ℕ × List ℕ × List ℕ
-made at x size w c = (record { lane = c .0 .lane; size = size; at = at + length w }, c .1, c .2, sets x at w)
-
-turn-meets : (p : State) (k : Command) (x y : List ℕ) (c : Called) (size index at e : ℕ)
-    → waits true k ≡ false → size ≡ sizeOf k → index ≡ indexOf k → c ≡ called p k
-    → _≡_ {A = ℕ × List ℕ} (e, y) (put (calledText c index) (at, x))
-    → _≡_ {A = Turned × List ℕ × List ℕ × List ℕ} (record { lane = c .0 .lane; size = size; at = e }, c .1, c .2, y) (turned p k at x)
-unfolding turned put
-turn-meets p k x y c size index at e w ds di dc dp =
-    ap (λ (z : ℕ × List ℕ). (record { lane = c .0 .lane; size = size; at = z .0 }, c .1, c .2, z .1)) dp
-    ∙ ap (λ (n : ℕ). made at x n (calledText c index) c) ds
-    ∙ ap (λ (v : List ℕ). made at x (sizeOf k) v c) (ap (calledText c) di ∙ sym (there k c w))
-    ∙ ap (λ (d : Called). made at x (sizeOf k) (textOf k d) d) dc
-
--- the turn of a command, by the call that it makes and the lines that it puts
-pub turn-made : (p : State) (k : Command) (x y : List ℕ) (c : Called) (size index at e : ℕ)
-    → waits true k ≡ false → hasRoom (mostOf p) (length x) at ≡ true → length (c .1) ≡ length (p .1) → length (c .2) ≡ length (p .2)
-    → size ≡ sizeOf k → index ≡ indexOf k → c ≡ called p k
-    → _≡_ {A = ℕ × List ℕ} (e, y) (put (calledText c index) (at, x))
-    → Turn p k at x (record { lane = c .0 .lane; size = size; at = e }, c .1, c .2, y)
-unfolding turned
-turn-made p k x y c size index at e w room h g ds di dc dp =
-    let meets = turn-meets p k x y c size index at e w ds di dc dp in
-    record {
-      meets = meets;
-      near = omega (arith, text-short k (called p k) (mostOf p) (shown-called p k c w dc h g), room-there (mostOf p) (length x) at room .1, ap (λ (z : Turned × List ℕ × List ℕ × List ℕ). z .0 .at) meets);
-    }

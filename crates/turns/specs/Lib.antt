@@ -2,4 +2,4 @@ pub mod Turn
 pub mod Laws
 pub mod Stream
 pub mod Blocks
-pub mod Steady
+pub mod Steps

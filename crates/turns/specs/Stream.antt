@@ -14,9 +14,9 @@ use Rattle.commands.specs.declared.Command.the-variants.{End, Open, Begin, Step
 use Rattle.commands.specs.Command.{decoded, sizeOf}
 use Rattle.commands.specs.Stream.{size-fits, whole, decoded-more}
 use Rattle.lines.specs.Line.{callRoom}
+use Rattle.reached.specs.Reached.{Sound}
 use Rattle.turns.specs.declared.Ran.{Ran}
-use Rattle.turns.specs.declared.Turned.{Turned}
-use Rattle.turns.specs.Turn.{State, called, next, textOf, turned, Turn, waits, mostOf}
+use Rattle.turns.specs.Turn.{State, called, next, textOf, waits, mostOf}
 
 -- the lines of at most n commands: those of the first, and, unless the stream ends with it, of what is after it
 unfoldable pub listed : ℕ → State → List ℕ → List ℕ
@@ -51,7 +51,7 @@ fuel (suc n) (suc m) p s h g =
     (omega (arith, shorter s (eqb-false _ _ q)))
     (omega (arith, shorter s (eqb-false _ _ q)))))
 
-unroll : (p : State) (s : List ℕ)
+pub unroll : (p : State) (s : List ℕ)
     → listing p s
     ≡ textOf (decoded s) (called p (decoded s))
     ++ cond (eqb (sizeOf (decoded s)) 0) [] (listing (next (called p (decoded s))) (drop (sizeOf (decoded s)) s))
@@ -117,7 +117,7 @@ pub seen : (last : Bool) (s t : List ℕ) (used : ℕ) → used ≤ length s →
 seen last s t used inside w may = ap decoded (drop-append-le used s t inside) ∙ settled last (drop used s) t may w
 
 -- bytes that are no command change nothing
-no-command : (p : State) (k : Command) → sizeOf k ≡ 0 → next (called p k) ≡ p
+pub no-command : (p : State) (k : Command) → sizeOf k ≡ 0 → next (called p k) ≡ p
 unfolding called
 no-command p End h = refl
 no-command p (Open s) h = absurd (omega (arith, h))
@@ -144,84 +144,7 @@ pub record Streamed (p : State) (s : List ℕ) (last : Bool) (r : Ran) (q : Stat
       → take (r .at) y ++ cond (r .ended) [] (listing q (drop (r .used) s ++ t)) ≡ listing p (s ++ t)
   pub left : (t : List ℕ) → May last t → Turns p (s ++ t) (r .used) q
   pub stopped : Stopped s last r q y
-
--- ---- one turn of a block
-
--- a text stored where there is room, up to its end
-stored : (x w : List ℕ) (at : ℕ) → at + length w ≤ length x → take (at + length w) (sets x at w) ≡ take at x ++ w
-stored x w at h =
-    ap (take (at + length w)) (sets-eq w x at h)
-    ∙ take-at (take at x ++ w) (drop (at + length w) x) (at + length w) (omega (arith, length-append (take at x) w, length-take at x))
-
--- what a turn printed, and the lines of what it leaves
-abbrev left : List ℕ → List ℕ → Turned × List ℕ × List ℕ × List ℕ → List ℕ
-left s t z = take (z .0 .at) (z .3) ++ cond (eqb (z .0 .size) 0) [] (listing (z .0 .lane, z .1, z .2) (drop (z .0 .size) s ++ t))
-
-module _ (last : Bool) (p₀ p : State) (s x : List ℕ) (used at : ℕ) (k : Command) (z : Turned × List ℕ × List ℕ × List ℕ)
-    (inside : used ≤ length s) (is : k ≡ decoded (drop used s)) (ready : waits last k ≡ false) (turn : Turn p k at x z) where
-  -- the turn, of what stands at the place
-  taken : z ≡ turned p (decoded (drop used s)) at x
-  taken = turn .meets ∙ ap (λ (c : Command). turned p c at x) is
-
-  whole-there : waits last (decoded (drop used s)) ≡ false
-  whole-there = ap (waits last) (sym is) ∙ ready
-
-  step : (t : List ℕ) → May last t → left (drop used s) t z ≡ take at x ++ listing p (drop used s ++ t)
-  unfolding turned
-  step t may =
-      let k = decoded (drop used s) in
-      let c = called p k in
-      let r = cond (eqb (sizeOf k) 0) [] (listing (next c) (drop (sizeOf k) (drop used s) ++ t)) in
-      let fits : at + length (textOf k c) ≤ length x = omega (arith, turn .near, ap (λ (y : Turned × List ℕ × List ℕ × List ℕ). y .0 .at) taken) in
-      ap (left (drop used s) t) taken
-      ∙ ap (λ (w : List ℕ). w ++ r) (stored x (textOf k c) at fits)
-      ∙ append-assoc (take at x) (textOf k c) r
-      ∙ ap (λ (w : List ℕ). take at x ++ w) (front last p (drop used s) t may whole-there)
-
-  -- the stream goes on; w are the lines of what is left
-  pub again : (z .0 .size ≡ 0 → ⊥) → (t w : List ℕ) → May last t
-      → w ≡ listing (z .0 .lane, z .1, z .2) (drop (used + z .0 .size) s ++ t)
-      → take at x ++ listing p (drop used s ++ t) ≡ listing p₀ (s ++ t)
-      → take (z .0 .at) (z .3) ++ w ≡ listing p₀ (s ++ t)
-  again n t w may left h =
-      ap (λ (v : List ℕ). take (z .0 .at) (z .3) ++ v) left
-      ∙ ap (λ (u : List ℕ). take (z .0 .at) (z .3) ++ listing (z .0 .lane, z .1, z .2) (u ++ t)) (sym (drop-drop (z .0 .size) used s))
-      ∙ ap (λ (b : Bool). take (z .0 .at) (z .3) ++ cond b [] (listing (z .0 .lane, z .1, z .2) (drop (z .0 .size) (drop used s) ++ t)))
-      (sym (ne-eqb (z .0 .size) 0 n))
-      ∙ step t may ∙ h
-
-  -- the command that the turn takes, and the state after it
-  next-is : (z .0 .lane, z .1, z .2) ≡ next (called p (decoded (drop used s)))
-  unfolding turned
-  next-is = ap (λ (y : Turned × List ℕ × List ℕ × List ℕ). (y .0 .lane, y .1, y .2)) taken
-
-  size-is : z .0 .size ≡ sizeOf (decoded (drop used s))
-  unfolding turned
-  size-is = ap (λ (y : Turned × List ℕ × List ℕ × List ℕ). y .0 .size) taken
-
-  pub leads : (z .0 .size ≡ 0 → ⊥) → (t : List ℕ) → May last t → Turns p₀ (s ++ t) used p → Turns p₀ (s ++ t) (used + z .0 .size) (z .0 .lane, z .1, z .2)
-  leads n t may h =
-      let k = seen last s t used inside whole-there may in
-      more h (λ e. n (size-is ∙ ap sizeOf (sym k) ∙ e)) (ap (λ (m : ℕ). used + m) (size-is ∙ ap sizeOf (sym k))) (next-is ∙ ap (λ (c : Command). next (called p c)) (sym k))
-
-  pub leads-nowhere : z .0 .size ≡ 0 → (t : List ℕ) → Turns p₀ (s ++ t) used p → Turns p₀ (s ++ t) used (z .0 .lane, z .1, z .2)
-  leads-nowhere n t h = subst (Turns p₀ (s ++ t) used) (sym (next-is ∙ no-command p (decoded (drop used s)) (sym size-is ∙ n))) h
-
-  -- its bytes are there
-  pub within : used + z .0 .size ≤ length s
-  within = omega (arith, size-is, size-fits (drop used s), length-drop used s)
-
-  pub no-more : z .0 .size ≡ 0 → sizeOf (decoded (drop used s)) ≡ 0
-  no-more n = sym size-is ∙ n
-
-  -- the stream ends
-  pub over : z .0 .size ≡ 0 → (t : List ℕ) → May last t
-      → take at x ++ listing p (drop used s ++ t) ≡ listing p₀ (s ++ t)
-      → take (z .0 .at) (z .3) ++ [] ≡ listing p₀ (s ++ t)
-  over n t may h =
-      ap (λ (b : Bool). take (z .0 .at) (z .3) ++ cond b [] (listing (z .0 .lane, z .1, z .2) (drop (z .0 .size) (drop used s) ++ t)))
-      (sym (eq-eqb (z .0 .size) 0 n))
-      ∙ step t may ∙ h
+  pub sound : Sound (q .0)
 
 -- nothing is left to wait for where all bytes are used
 pub none-left : (last : Bool) (s : List ℕ) (used : ℕ) → length s ≤ used → waits last (decoded (drop used s)) ≡ true

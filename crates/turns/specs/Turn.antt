@@ -4,7 +4,6 @@ use mathlib.Core.Bool.{Bool, true, false, cond, not}
 use mathlib.Core.Path.{_≡_}
 use mathlib.Core.List.{List, [], _++_}
 use lib.ListN.{length, take}
-use lib.Seq.{sets}
 use lib.Dec.{ltb}
 use Rattle.ook.specs.declared.Out.{Out}
 use Rattle.lane.specs.declared.Lane.{Lane}
@@ -15,11 +14,9 @@ use Rattle.lane.specs.Step.{opened, begun, stepped}
 use Rattle.lane.specs.Part.{partOf}
 use Rattle.commands.specs.declared.Command.{Command}
 use Rattle.commands.specs.declared.Command.the-variants.{End, Open, Begin, Step, Unknown, Short}
-use Rattle.commands.specs.Command.{sizeOf}
 use Rattle.lines.specs.declared.Written.{Written}
 use Rattle.lines.specs.declared.Written.the-variants.{At, NoRoom}
 use Rattle.lines.specs.Line.{recordLine, callText, maxSlots, largerOf}
-use Rattle.turns.specs.declared.Turned.{Turned}
 
 -- a lane with its OOK and its FSK buffer
 abbrev pub State : Type 0
@@ -82,22 +79,10 @@ textOf (Step s) c = calledText c (s .index)
 textOf Unknown c = calledText c 0
 textOf Short c = calledText c 0
 
--- the turn of a command: what it leaves, and its lines stored at a place of the text
-unfoldable pub turned : State → Command → ℕ → List ℕ → Turned × List ℕ × List ℕ × List ℕ
-turned p k at x =
-    let c = called p k in
-    let w = textOf k c in
-    (record { lane = c .0 .lane; size = sizeOf k; at = at + length w }, c .1, c .2, sets x at w)
-
 -- the place after lines that were written
 abbrev pub placeOf : Written → ℕ → ℕ
 placeOf (At e) at = e
 placeOf NoRoom at = at
-
--- what a turn says: it is that of the command, and stays inside the text
-pub record Turn (p : State) (k : Command) (at : ℕ) (x : List ℕ) (z : Turned × List ℕ × List ℕ × List ℕ) : Type 0 where
-  pub meets : z ≡ turned p k at x
-  pub near : z .0 .at ≤ length x
 
 -- ---- when a command is made
 

@@ -4,10 +4,12 @@ ghost use mathlib.Core.Path.{_≡_};
 ghost use mathlib.Core.Bool.{true, false};
 ghost use mathlib.Core.List.{List};
 ghost use Prim.Native.Nat.{ℕ, _≤_, _<_};
-ghost use lib.ListN.{length};
+ghost use lib.ListN.{length, drop};
+ghost use Rattle.commands.specs.Command.{decoded, isStepOf};
+ghost use Rattle.reached.specs.Reached.{Sound};
 ghost use Rattle.lines.specs.Line.{largerOf, hasRoom, put};
-ghost use Rattle.turns.specs.Turn.{Called, called, indexOf, refusedOf, shownOf, answerText, Turn, placeOf, waits as Turn·waits, smallerOf, slotsOf, mostOf};
-ghost use Rattle.turns.specs.Steady.{isStepOf, noArgs, argsOf, Passed};
+ghost use Rattle.turns.specs.Turn.{Called, called, indexOf, refusedOf, shownOf, answerText, placeOf, waits as Turn·waits, smallerOf, slotsOf, mostOf};
+ghost use Rattle.turns.specs.Steps.{noArgs, argsOf, quietOf, Passed, Turn};
 ghost use Rattle.turns.specs.Stream.{Streamed};
 use arith::C32;
 use commands::Command;
@@ -34,9 +36,47 @@ fn index_of(k: Command) -> u64
     }
 }
 
-// The lane's answer to a command, or refusal 1 or 2.
-pub fn call(l: Lane, k: Command, ook: &mut [u32], fsk: &mut [u32]) -> Answer
-    ensures { λ r. ⌜ _≡_ {A = Called} (r, now (ook .exit), now (fsk .exit)) (called (l, now (ook .entry), now (fsk .entry)) k) ⌝ }
+fn is_step(k: Command) -> bool
+    ensures { λ r. ⌜ r ≡ isStepOf k ⌝ }
+{
+    match k {
+        Command::End => false,
+        Command::Open(_) => false,
+        Command::Begin(_) => false,
+        Command::Step(_) => true,
+        Command::Unknown => false,
+        Command::Short => false,
+    }
+}
+
+fn no_args() -> StepArgs
+    ensures { λ r. ⌜ r ≡ noArgs ⌝ }
+{
+    StepArgs {
+        index: 0,
+        noise: 0.0,
+        envelope: 0.0,
+        x: C32 { re: 0.0, im: 0.0 },
+    }
+}
+
+// The operands of a step, and zeros for another command.
+fn args_of(k: Command) -> StepArgs
+    ensures { λ r. ⌜ r ≡ argsOf k ⌝ }
+{
+    match k {
+        Command::End => no_args(),
+        Command::Open(_) => no_args(),
+        Command::Begin(_) => no_args(),
+        Command::Step(s) => s,
+        Command::Unknown => no_args(),
+        Command::Short => no_args(),
+    }
+}
+
+// The lane's answer to a command that is no step, or refusal 1 or 2. Neither buffer is written.
+fn call_still(l: Lane, k: Command, ook: &[u32], fsk: &[u32]) -> Answer
+    ensures { λ r. ⌜ (isStepOf k ≡ false → _≡_ {A = Called} (r, now (ook .entry), now (fsk .entry)) (called (l, now (ook .entry), now (fsk .entry)) k)) ⌝ }
 {
     match k {
         Command::End => Answer {
@@ -45,7 +85,10 @@ pub fn call(l: Lane, k: Command, ook: &mut [u32], fsk: &mut [u32]) -> Answer
         },
         Command::Open(p) => lane::open(l, p),
         Command::Begin(b) => lane::begin(l, b, ook, fsk),
-        Command::Step(s) => lane::step(l, s, ook, fsk),
+        Command::Step(_) => Answer {
+            reply: Reply::Stay,
+            lane: l,
+        },
         Command::Unknown => Answer {
             reply: Reply::Refused(1),
             lane: l,
@@ -55,6 +98,18 @@ pub fn call(l: Lane, k: Command, ook: &mut [u32], fsk: &mut [u32]) -> Answer
             lane: l,
         },
     }
+}
+
+// The lane's answer to a command, or refusal 1 or 2.
+pub fn call(l: Lane, k: Command, ook: &mut [u32], fsk: &mut [u32]) -> Answer
+    ensures { λ r. ⌜ _≡_ {A = Called} (r, now (ook .exit), now (fsk .exit)) (called (l, now (ook .entry), now (fsk .entry)) k) ⌝ }
+{
+    let is = is_step(k);
+    if is {
+        let s = args_of(k);
+        return lane::step(l, s, ook, fsk);
+    }
+    call_still(l, k, ook, fsk)
 }
 
 fn place_of(w: Written, at: usize) -> usize
@@ -108,110 +163,134 @@ fn put_answer<'a>(
     place_of(w, at)
 }
 
+// ---- commands of a stream
+
+// Where some commands lead: the place after them, and what the last of them answers.
+struct Past {
+    lane: Lane,
+    used: usize,
+    reply: Reply,
+    index: u64,
+}
+
+// Whether a call prints nothing: it stays, and decides no record.
+fn is_quiet(r: Reply, f: u32, o: u32) -> bool
+    ensures { λ b. ⌜ b ≡ quietOf r f o ⌝ }
+{
+    match r {
+        Reply::Refused(_) => false,
+        Reply::Stay => (f != 1) & (o != 1),
+        Reply::Idle => false,
+        Reply::IdleAt(_) => false,
+    }
+}
+
+// The steps from a place of the bytes on, where one is, up to the first that prints: core and arrays
+// are changed in place. A sound lane never meets refusal 4, so it is not asked for.
+fn steps(lane: Lane, s: &[u8], from: usize, ook: &mut [u32], fsk: &mut [u32]) -> Past
+    requires { ⌜ (from < length (now s)) × (isStepOf (decoded (drop from (now s))) ≡ true) × Sound lane ⌝ }
+    ensures { λ r. ⌜ Passed (lane, now (ook .entry), now (fsk .entry)) (now (s .entry)) from r (r .lane, now (ook .exit), now (fsk .exit)) ⌝ }
+{
+    let mut c = lane::core_of(lane);
+    let mut es = lane::envelopes(lane);
+    let mut re = lane::reals(lane);
+    let mut im = lane::imaginaries(lane);
+    let mut ring = lane.ring;
+    let mut cs = lane.burst.frame.cand.cand_f;
+    let mut used = from;
+    let mut reply = Reply::Stay;
+    let mut index: u64 = 0;
+    while used < s.len() {
+        let is = commands::is_step_at(s, used);
+        if !is {
+            break;
+        }
+        let b = commands::step_at(s, used);
+        let a = lane::step_core(
+            c,
+            b,
+            &mut es,
+            &mut re,
+            &mut im,
+            &mut ring,
+            &mut cs,
+            ook,
+            fsk,
+        );
+        reply = a.reply;
+        c = a.core;
+        index = b.index;
+        used += 25;
+        let quiet = is_quiet(reply, c.burst.out_fsk.state, c.burst.out_ook.state);
+        if !quiet {
+            break;
+        }
+    }
+    let l = lane::joined(c, es, re, im, ring, cs);
+    Past {
+        lane: l,
+        used,
+        reply,
+        index,
+    }
+}
+
+// The command k at a place of the bytes, and where it is a step those after it up to the first that
+// prints.
+fn pass(l: Lane, k: Command, s: &[u8], from: usize, ook: &mut [u32], fsk: &mut [u32]) -> Past
+    requires { ⌜ (from < length (now s)) × (k ≡ decoded (drop from (now s))) × Sound l ⌝ }
+    ensures { λ r. ⌜ Passed (l, now (ook .entry), now (fsk .entry)) (now (s .entry)) from r (r .lane, now (ook .exit), now (fsk .exit)) ⌝ }
+{
+    let is = is_step(k);
+    if is {
+        return steps(l, s, from, ook, fsk);
+    }
+    let size = commands::size_of(k);
+    let index = index_of(k);
+    let a = call_still(l, k, ook, fsk);
+    let lane = a.lane;
+    let reply = a.reply;
+    Past {
+        lane,
+        used: from + size,
+        reply,
+        index,
+    }
+}
+
 pub struct Turned {
     pub lane: Lane,
-    // The bytes that the command took; none where the stream ends.
-    pub size: usize,
+    // The place after the commands; the one before them where the stream ends.
+    pub used: usize,
     // The place after the lines.
     pub at: usize,
 }
 
-// The call of a command and its lines. `waits true` is that nothing is left.
-fn turn(l: Lane, k: Command, ook: &mut [u32], fsk: &mut [u32], text: &mut [u8], at: usize) -> Turned
-    requires { ⌜ (Turn·waits true k ≡ false) × (hasRoom (mostOf (l, now ook, now fsk)) (length (now text)) at ≡ true) ⌝ }
-    ensures { λ r. ⌜ Turn (l, now (ook .entry), now (fsk .entry)) k at (now (text .entry)) (r, now (ook .exit), now (fsk .exit), now (text .exit)) ⌝ }
+// The commands from k, at a place of the bytes, up to the first that prints, and its lines.
+fn turn(
+    l: Lane,
+    k: Command,
+    s: &[u8],
+    from: usize,
+    ook: &mut [u32],
+    fsk: &mut [u32],
+    text: &mut [u8],
+    at: usize,
+) -> Turned
+    requires { ⌜ (from < length (now s)) × (k ≡ decoded (drop from (now s))) × Sound l × (hasRoom (mostOf (l, now ook, now fsk)) (length (now text)) at ≡ true) ⌝ }
+    ensures { λ r. ⌜ Turn (l, now (ook .entry), now (fsk .entry)) (now (s .entry)) from at (now (text .entry)) (r, now (ook .exit), now (fsk .exit), now (text .exit)) ⌝ }
 {
-    let size = commands::size_of(k);
-    let index = index_of(k);
-    let a = call(l, k, ook, fsk);
-    let n = a.lane;
-    let r = a.reply;
+    let g = pass(l, k, s, from, ook, fsk);
+    let n = g.lane;
+    let r = g.reply;
     let f = n.burst.out_fsk;
     let o = n.burst.out_ook;
-    let e = put_answer(r, f, o, index, ook, fsk, text, at);
+    let e = put_answer(r, f, o, g.index, ook, fsk, text, at);
     Turned {
         lane: n,
-        size,
+        used: g.used,
         at: e,
     }
-}
-
-// ---- the steady steps of a burst
-
-fn is_step(k: Command) -> bool
-    ensures { λ r. ⌜ r ≡ isStepOf k ⌝ }
-{
-    match k {
-        Command::End => false,
-        Command::Open(_) => false,
-        Command::Begin(_) => false,
-        Command::Step(_) => true,
-        Command::Unknown => false,
-        Command::Short => false,
-    }
-}
-
-fn no_args() -> StepArgs
-    ensures { λ r. ⌜ r ≡ noArgs ⌝ }
-{
-    StepArgs {
-        index: 0,
-        noise: 0.0,
-        envelope: 0.0,
-        x: C32 { re: 0.0, im: 0.0 },
-    }
-}
-
-// The operands of a step, and zeros for another command.
-fn args_of(k: Command) -> StepArgs
-    ensures { λ r. ⌜ r ≡ argsOf k ⌝ }
-{
-    match k {
-        Command::End => no_args(),
-        Command::Open(_) => no_args(),
-        Command::Begin(_) => no_args(),
-        Command::Step(s) => s,
-        Command::Unknown => no_args(),
-        Command::Short => no_args(),
-    }
-}
-
-struct Past {
-    lane: Lane,
-    // The place after the steady steps.
-    used: usize,
-}
-
-// The steady steps from a place of the bytes on. They print nothing, and most steps of a burst are
-// steady: the lane is changed in place, with its ring apart, where a turn hands it on.
-fn steady_steps(lane: Lane, s: &[u8], from: usize, ook: &[u32], fsk: &mut [u32]) -> Past
-    requires { ⌜ from ≤ length (now s) ⌝ }
-    ensures { λ r. ⌜ Passed (lane, now (ook .entry), now (fsk .entry)) (now (s .entry)) from r (now (fsk .exit)) ⌝ }
-{
-    let mut l = lane;
-    let mut ring = l.ring;
-    let mut used = from;
-    while used < s.len() {
-        let k = commands::decode_at(s, used);
-        let steps = is_step(k);
-        let a = args_of(k);
-        let q = lane::steady_step(l, a, ook.len(), fsk.len());
-        let steady = steps & q.ok;
-        if !steady {
-            break;
-        }
-        let i = (a.index % 32) as usize;
-        ring[i] = a.envelope;
-        l = lane::steadied_lane(l, a, q);
-        used += 25;
-        let present = q.present;
-        if !present {
-            continue;
-        }
-        l = lane::sliced_lane(l, a, q, fsk);
-    }
-    l.ring = ring;
-    Past { lane: l, used }
 }
 
 // ---- a block of bytes
@@ -275,6 +354,7 @@ pub fn block(
     fsk: &mut [u32],
     text: &mut [u8],
 ) -> Ran
+    requires { ⌜ Sound lane ⌝ }
     ensures { λ r. ⌜ Streamed (lane, now (ook .entry), now (fsk .entry)) (now (s .entry)) last r (r .lane, now (ook .exit), now (fsk .exit)) (now (text .exit)) ⌝ }
 {
     let mut l = lane;
@@ -294,17 +374,14 @@ pub fn block(
             full = true;
             break;
         }
-        let t = turn(l, k, ook, fsk, text, at);
+        let t = turn(l, k, s, used, ook, fsk, text, at);
         l = t.lane;
         at = t.at;
-        if t.size == 0 {
+        if t.used == used {
             ended = true;
             break;
         }
-        used += t.size;
-        let g = steady_steps(l, s, used, ook, fsk);
-        l = g.lane;
-        used = g.used;
+        used = t.used;
     }
     Ran {
         lane: l,

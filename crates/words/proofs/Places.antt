@@ -4,7 +4,7 @@ use mathlib.Core.Bool.{Bool, true, false, cond, _&&_}
 use mathlib.Core.List.{List}
 use mathlib.Core.Path.{_≡_, refl, sym}
 use native.Mathlib.Omega.{arith}
-use lib.ListN.{length, getD, set, List·getD-eq-default}
+use lib.ListN.{getD, set}
 use lib.Seq.{sets}
 use lib.Dec.{eqb}
 use borrow.Author.Tests.{eqb-true, eqb-false, eq-eqb, ne-eqb}
@@ -30,13 +30,6 @@ put-four l p v ea eb ec ed =
     let e2 : p + 2 ≡ suc (suc p) = omega arith in
     let e3 : p + 3 ≡ suc (suc (suc p)) = omega arith in
     rw (ea, eb, ec, ed, e1, e2, e3)
-
--- past the end there is no byte
-pub none-at : (o : List ℕ) (i k : ℕ) → length o ≤ i → 0 ≡ getD o (i + k) 0
-none-at o i k h = sym (List·getD-eq-default o 0 (omega arith))
-
-pub none-after : (o : List ℕ) (i k : ℕ) → length o - i ≤ k → 0 ≡ getD o (i + k) 0
-none-after o i k h = sym (List·getD-eq-default o 0 (omega arith))
 
 -- bytes in fours, n of them
 pub in-fours : (b n : ℕ) → (eqb (b % 4) 0 && eqb (b / 4) n) ≡ eqb b (4 * n)

@@ -1,24 +1,11 @@
 // Little-endian numbers in bytes (document 01, "Commands"): one at a place, and lists of u32 words.
 ghost use mathlib.Core.Path.{_≡_};
-ghost use Prim.Native.Nat.{_+_, _*_, _%_, _<_};
-ghost use lib.ListN.{length, getD};
+ghost use Prim.Native.Nat.{_+_, _*_, _%_, _<_, _≤_};
+ghost use lib.ListN.{length};
 ghost use lib.Dec.{eqb};
 ghost use Rattle.words.specs.Words.{joined, u32At, u64At, f32At, decode, encode, putAt, readOf, writtenOf};
 
 // ---- a number at a place
-
-// The byte k places after i, 0 past the end.
-fn byte_at(o: &[u8], i: usize, k: usize) -> u8
-    ensures { λ r. ⌜ r ≡ getD (now (o .entry)) (i + k) 0 ⌝ }
-{
-    if o.len() <= i {
-        return 0;
-    }
-    if o.len() - i <= k {
-        return 0;
-    }
-    o[i + k]
-}
 
 fn join(a: u8, b: u8, c: u8, d: u8) -> u32
     ensures { λ r. ⌜ r ≡ joined a b c d ⌝ }
@@ -26,66 +13,26 @@ fn join(a: u8, b: u8, c: u8, d: u8) -> u32
     a as u32 + (b as u32) * 0x100 + (c as u32) * 0x1_0000 + (d as u32) * 0x100_0000
 }
 
-fn word_at(bytes: &[u8], p: usize) -> u32
-    requires { ⌜ p + 3 < length (now bytes) ⌝ }
-    ensures { λ r. ⌜ r ≡ u32At (now (bytes .entry)) p ⌝ }
-{
-    join(bytes[p], bytes[p + 1], bytes[p + 2], bytes[p + 3])
-}
-
-// Where the bytes may end before the number does.
-fn part_at(o: &[u8], i: usize) -> u32
-    ensures { λ r. ⌜ r ≡ u32At (now (o .entry)) i ⌝ }
-{
-    join(
-        byte_at(o, i, 0),
-        byte_at(o, i, 1),
-        byte_at(o, i, 2),
-        byte_at(o, i, 3),
-    )
-}
-
-fn part64_at(o: &[u8], i: usize) -> u64
-    ensures { λ r. ⌜ r ≡ u64At (now (o .entry)) i ⌝ }
-{
-    let low = part_at(o, i) as u64;
-    let high = join(
-        byte_at(o, i, 4),
-        byte_at(o, i, 5),
-        byte_at(o, i, 6),
-        byte_at(o, i, 7),
-    ) as u64;
-    low + high * 0x1_0000_0000
-}
-
-// One test for the four bytes: the compiler then reads them at once.
+// The four bytes from i on. Whoever reads a number has measured its bytes, so that none is tested
+// again.
 pub fn u32_at(o: &[u8], i: usize) -> u32
+    requires { ⌜ i + 4 ≤ length (now o) ⌝ }
     ensures { λ r. ⌜ r ≡ u32At (now (o .entry)) i ⌝ }
 {
-    if o.len() < 4 {
-        return part_at(o, i);
-    }
-    if o.len() - 4 < i {
-        return part_at(o, i);
-    }
-    word_at(o, i)
+    join(o[i], o[i + 1], o[i + 2], o[i + 3])
 }
 
 pub fn u64_at(o: &[u8], i: usize) -> u64
+    requires { ⌜ i + 8 ≤ length (now o) ⌝ }
     ensures { λ r. ⌜ r ≡ u64At (now (o .entry)) i ⌝ }
 {
-    if o.len() < 8 {
-        return part64_at(o, i);
-    }
-    if o.len() - 8 < i {
-        return part64_at(o, i);
-    }
-    let low = word_at(o, i) as u64;
-    let high = word_at(o, i + 4) as u64;
+    let low = u32_at(o, i) as u64;
+    let high = u32_at(o, i + 4) as u64;
     low + high * 0x1_0000_0000
 }
 
 pub fn f32_at(o: &[u8], i: usize) -> f32
+    requires { ⌜ i + 4 ≤ length (now o) ⌝ }
     ensures { λ r. ⌜ r ≡ f32At (now (o .entry)) i ⌝ }
 {
     arith::f32_of_bits(u32_at(o, i))
@@ -99,7 +46,7 @@ fn read_all(bytes: &[u8], buf: &mut [u32])
 {
     let mut i = 0;
     while i < buf.len() {
-        buf[i] = word_at(bytes, 4 * i);
+        buf[i] = u32_at(bytes, 4 * i);
         i += 1;
     }
 }

@@ -23,20 +23,8 @@ Inv-loop commands ook₀ fsk₀ l₀ used₀ ook fsk l used = (used ≤ length c
 abbrev μ-loop : tie.MeasureT-loop
 μ-loop commands ook₀ fsk₀ l₀ used₀ ook fsk l used = length commands - used
 
-new-lane-requires : tie.Need-new-lane-requires Inv-loop μ-loop
-new-lane-requires c κs = search needs
-
 loop-holds : tie.Need-loop-holds Inv-loop μ-loop
 loop-holds c = (search needs, refl, refl, none)
-
-decode-at-requires : tie.Need-decode-at-requires Inv-loop μ-loop
-decode-at-requires c κs = search needs
-
-size-of-requires : tie.Need-size-of-requires Inv-loop μ-loop
-size-of-requires c κs = search needs
-
-call-requires : tie.Need-call-requires Inv-loop μ-loop
-call-requires c κs = search needs
 
 add-used : tie.Need-add-used Inv-loop μ-loop
 add-used c = record { fits = omega (arith, inside (c .before .before .before .before .before .before .before .before .before .before .before .before .before .before .before .before .before .args .commands .now) _ _ _ (c .before .before .before .before .before .before .before .before .before .before .decode-at .ensures) (c .before .before .before .before .before .before .before .before .before .size-of .ensures) (c .before .before .before .before .before .before .before .before .before .before .before .before .loop .inv .0), c .before .before .before .before .before .before .before .before .before .before .before .before .before .before .before .before .before .good .0) }
@@ -52,23 +40,11 @@ loop-again c = (
   one-more _ _ (c .before .before .before .before .before .before .before .before .before .before .before .before .before .before .before .before .before .args .commands .now) (c .before .before .before .before .before .before .before .before .before .before .before .before .loop .used) _ _ _ (c .before .before .before .before .before .before .before .before .before .before .before .before .loop .inv .3) (c .before .before .before .before .before .before .before .before .before .before .decode-at .ensures) (c .before .before .before .before .before .before .before .before .before .size-of .ensures) (c .before .before .before .before .before .before .before .before .if1 .left) (c .before .before .before .before .before .call .ensures),
 )
 
-same-length : tie.Need-same-length Inv-loop μ-loop
-same-length c = search needs
-
-same-length-2 : tie.Need-same-length-2 Inv-loop μ-loop
-same-length-2 c = search needs
-
 returns : tie.Need-returns Inv-loop μ-loop
 returns c =
     let v = c .before .loop in
     left-whole (c .before .before .before .before .before .before .args .commands .now) (v .used) _ _ _ _ _ _ (c .before .before .new-lane .ensures) (v .inv .0) (v .inv .3)
     (none-left (c .before .before .before .before .before .before .args .commands .now) (v .used) (omega (arith, c .loop-test .left)))
-
-same-length-3 : tie.Need-same-length-3 Inv-loop μ-loop
-same-length-3 c = search needs
-
-same-length-4 : tie.Need-same-length-4 Inv-loop μ-loop
-same-length-4 c = search needs
 
 returns-2 : tie.Need-returns-2 Inv-loop μ-loop
 returns-2 c =
@@ -79,20 +55,4 @@ returns-2 c =
 pub lane-buffers-lent-spec : {M : Type 1} → statement M
 lane-buffers-lent-spec =
     tie.close
-    (tie.spec
-    Inv-loop
-    μ-loop
-    new-lane-requires
-    loop-holds
-    decode-at-requires
-    size-of-requires
-    call-requires
-    add-used
-    loop-less
-    loop-again
-    same-length
-    same-length-2
-    returns
-    same-length-3
-    same-length-4
-    returns-2)
+    (tie.spec Inv-loop μ-loop (search needs) loop-holds (search needs) (search needs) (search needs) add-used loop-less loop-again (search needs) (search needs) returns (search needs) (search needs) returns-2)

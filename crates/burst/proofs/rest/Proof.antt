@@ -1,44 +1,65 @@
--- `burst::rest` meets its contract: at each branch the definition gives what the calls ensure. Assumes nothing.
-use Rattle.burst.specs.Sample.{lastOf, restOf}
+-- `burst::rest` meets its contract. The code takes presence first, in OOK mode none, and then the end of the burst in one place; the
+-- definition has the end twice, in OOK mode and after presence: `rest-beside`, by the mode. Assumes nothing.
+use Prim.Native.Nat.{ℕ}
+use mathlib.Core.Bool.{Bool, true, false, cond}
+use mathlib.Core.Path.{_≡_, refl}
+use mathlib.Core.List.{List}
+use native.Mathlib.Omega.{arith}
+use lib.Dec.{eqb}
+use lib.Ieee.{Float}
+use Rattle.ook.specs.Answers.{isStayOf}
+use Rattle.ook.specs.declared.Settings.{Settings}
+use Rattle.ook.specs.declared.Done.{Done}
+use Rattle.presence.specs.Presence.{presenceOf}
+use Rattle.stages.specs.Tail.{tailOf}
+use Rattle.stages.specs.declared.At.{At}
+use Rattle.stages.specs.declared.Seen.{Seen}
+use Rattle.burst.specs.Makers.{bodyIn, doneIn}
+use Rattle.burst.specs.Sample.{absenceOf, inputsOf, lastOf, presentOf, restOf}
+use Rattle.burst.specs.Lead.{staying}
+use Rattle.burst.specs.Core.{besideBy, besideOf}
+use Rattle.burst.specs.declared.Burst.{Burst}
+use Rattle.burst.specs.declared.Sampled.{Sampled}
 use borrow.Author.Needs.{needs}
 use Rattle.burst.proofs.rest.Statement.{statement}
 use Rattle.burst.proofs.rest.Tie as tie
 
-tail-requires : tie.Need-tail-requires
-tail-requires c κs = search needs
+-- the end of the burst, unless presence has ended it
+abbrev lastBy : Settings → At → Seen → Sampled × List ℕ × List ℕ → Sampled × List ℕ × List ℕ
+lastBy p a s q = cond (isStayOf (q .0 .next)) (lastOf p (s .on) (a .e) (q .0 .burst) (q .1) (q .2)) q
 
-with-done-requires : tie.Need-with-done-requires
-with-done-requires c κs = search needs
+rest-beside : (p : Settings) (a : At) (ep : Float) (s : Seen) (b : Burst) (ook fsk : List ℕ) → restOf p a ep s b ook fsk ≡ lastBy p a s (besideOf p a ep s b ook fsk)
+unfolding restOf presentOf besideOf
+rest-beside p a ep s b ook fsk = go (eqb (p .mode) 0) refl where
+  go : (off : Bool) → eqb (p .mode) 0 ≡ off → cond off (lastOf p (s .on) (a .e) b ook fsk) (presentOf p a ep s b ook fsk) ≡ lastBy p a s (cond off (staying b ook fsk) (besideBy b (presenceOf p (inputsOf a ep s b) (b .pres) (bodyIn b) ook fsk)))
+  go true e = refl
+  go false e = refl
+
+-- the rest of a sample, from what presence and the end of the burst give
+module _ (p : Settings) (a : At) (ep : Float) (s : Seen) (b : Burst) (ook fsk : List ℕ) (w : Sampled) (ook₁ fsk₁ : List ℕ) (stay : Bool) where
+  rest-stays : (d : Done) (ook₂ : List ℕ) (r : Sampled) → (w, ook₁, fsk₁) ≡ besideOf p a ep s b ook fsk → stay ≡ isStayOf (w .next) → stay ≡ true
+      → (d, ook₂) ≡ tailOf p (s .on) (a .e) (w .burst .env .run) (absenceOf (w .burst)) (w .burst .high) (w .burst .train) (w .burst .«out_ook») ook₁
+      → r ≡ doneIn (w .burst) d → (r, ook₂, fsk₁) ≡ restOf p a ep s b ook fsk
+  unfolding lastOf
+  rest-stays d ook₂ r e₁ e₂ e₃ e₄ e₅ = simp (rest-beside p a ep s b ook fsk, ← e₁, ← e₂, e₃, ← e₄, e₅)
+
+  rest-ends : (w, ook₁, fsk₁) ≡ besideOf p a ep s b ook fsk → stay ≡ isStayOf (w .next) → stay ≡ false → (w, ook₁, fsk₁) ≡ restOf p a ep s b ook fsk
+  rest-ends e₁ e₂ e₃ = simp (rest-beside p a ep s b ook fsk, ← e₁, ← e₂, e₃)
 
 same-length : tie.Need-same-length
-same-length c = search needs
-
-returns : tie.Need-returns
-unfolding restOf lastOf
-returns c = simp (c .before .before .before .before .before .before .before .before .if1 .taken, ← c .before .before .before .tail .ensures, ← c .with-done .ensures)
-
-present-requires : tie.Need-present-requires
-present-requires c κs = search needs
+same-length c = omega (arith, c .before .before .before .tail .kept .1 .1 .1 .1 .1 .1 .1 .1 .0, c .before .before .before .before .before .before .before .before .before .before .before .before .before .before .before .present .kept .1 .1 .1 .1 .1 .1 .0)
 
 same-length-2 : tie.Need-same-length-2
-same-length-2 c = search needs
+same-length-2 c = omega (arith, c .before .before .before .before .before .before .before .before .before .before .before .before .before .before .before .present .kept .1 .1 .1 .1 .1 .1 .1 .0)
 
-same-length-3 : tie.Need-same-length-3
-same-length-3 c = search needs
+returns : tie.Need-returns
+returns c = rest-stays _ _ _ _ _ _ _ _ _ _ _ _ _ _ (c .before .before .before .before .before .before .before .before .before .before .before .before .before .before .before .present .ensures) (c .before .before .before .before .before .before .before .before .before .is-stay .ensures) (c .before .before .before .before .before .before .before .before .if1 .taken) (c .before .before .before .tail .ensures) (c .with-done .ensures _)
 
 returns-2 : tie.Need-returns-2
-unfolding restOf
-returns-2 c = simp (c .before .before .before .before .before .before .before .if1 .left, ← c .before .before .before .before .present .ensures)
+returns-2 c = rest-ends _ _ _ _ _ _ _ _ _ _ _ (c .before .before .before .before .before .before .before .present .ensures) (c .before .is-stay .ensures) (c .if1 .left)
 
 pub rest-spec : {M : Type 1} → statement M
 rest-spec =
     tie.close
-    (tie.spec
-    tail-requires
-    with-done-requires
-    same-length
-    returns
-    present-requires
-    same-length-2
-    same-length-3
-    returns-2)
+    (tie.spec (search needs) (search needs) (search needs) (search needs) same-length same-length-2 returns (search needs)
+    (search needs) returns-2)

@@ -15,6 +15,9 @@ slice-reshare-prefix-block c = omega (arith, c .smaller .ensures, smaller-in (c 
 slice-aggregate-block : tie.Need-slice-aggregate-block
 slice-aggregate-block c = simp length-take (omega (arith, c .before .smaller .ensures, smaller-in (c .before .before .before .before .before .before .args .end) (length (c .before .before .before .before .before .before .args .buf .now))))
 
+block-requires : tie.Need-block-requires
+block-requires c κs = c .before .before .before .before .before .before .before .before .before .pre
+
 shift-requires : tie.Need-shift-requires
 shift-requires c κs =
     let a = c .before .before .before .before .before .before .before .before .before .before .before .before .before .before .before .before .before .before .args in
@@ -31,5 +34,5 @@ returns c =
 pub feed-spec : {M : Type 1} → statement M
 feed-spec =
     tie.close
-    (tie.spec (search needs) slice-reshare-prefix-block slice-aggregate-block (search needs) shift-requires (search needs) (search needs)
+    (tie.spec (search needs) slice-reshare-prefix-block slice-aggregate-block block-requires shift-requires (search needs) (search needs)
     (search needs) (search needs) returns)

@@ -4,6 +4,13 @@ use borrow.Author.Needs.{needs}
 use Rattle.frame.proofs.carrier_of.Statement.{statement}
 use Rattle.frame.proofs.carrier_of.Tie as tie
 
-pub carrier-of-spec : {M : Type 1} → statement M
+returns : tie.Need-returns
 unfolding carrierOf
-carrier-of-spec = tie.close (tie.spec (search needs) (λ c. simp (c .before .if1 .taken, ← c .midpoint .ensures)) (λ c. simp (c .if1 .left)))
+returns c = simp (c .before .before .if1 .taken, ← c .before .midpoint .ensures, ← c .angle .ensures)
+
+returns-2 : tie.Need-returns-2
+unfolding carrierOf
+returns-2 c = simp (c .before .if1 .left, ← c .vector .ensures)
+
+pub carrier-of-spec : {M : Type 1} → statement M
+carrier-of-spec = tie.close (tie.spec (search needs) (search needs) returns (search needs) returns-2)

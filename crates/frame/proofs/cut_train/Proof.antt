@@ -15,4 +15,5 @@ returns-2 c = simp (← c .before .before .before .before .before .before .befor
 pub cut-train-spec : {M : Type 1} → statement M
 cut-train-spec =
     tie.close
-    (tie.spec (search needs) (search needs) (search needs) (search needs) returns (search needs) (search needs) (search needs) returns-2)
+    (tie.spec (search needs) (search needs) (search needs) (search needs) returns (search needs) (search needs)
+    (search needs) returns-2)

@@ -6,4 +6,4 @@ use Rattle.fsk.proofs.begin_frame.Tie as tie
 
 pub begin-frame-spec : {M : Type 1} → statement M
 unfolding beginFrameOf
-begin-frame-spec = tie.close (tie.spec (search needs) (λ c. simp (← c .before .no-run .ensures)))
+begin-frame-spec = tie.close (tie.spec (search needs) (λ c. λ cs. simp (← c .before .no-run .ensures)))

@@ -8,4 +8,4 @@ use Rattle.fsk.proofs.cand_at.Tie as tie
 pub cand-at-spec : {M : Type 1} → statement M
 unfolding candAtOf
 cand-at-spec =
-    tie.close (tie.spec (search needs) (search needs) (λ c. simp (lt-ltb _ _ (c .if1 .taken))) (λ c. simp (le-ltb _ _ (c .if1 .left))))
+    tie.close (tie.spec (search needs) (search needs) (λ c. simp (lt-ltb _ _ (c .before .if1 .taken))) (λ c. simp (le-ltb _ _ (c .if1 .left))))

@@ -8,19 +8,19 @@ use Rattle.fsk.proofs.first_past.Statement.{statement}
 use Rattle.fsk.proofs.first_past.Tie as tie
 
 abbrev Inv-loop : tie.InvT-loop
-Inv-loop up thr n other cs j₀ j = firstPastOf up thr cs other (n - j) j ≡ firstPastOf up thr cs other n 0
+Inv-loop up thr cs n other j₀ j = firstPastOf up thr cs other (n - j) j ≡ firstPastOf up thr cs other n 0
 
 abbrev μ-loop : tie.MeasureT-loop
-μ-loop up thr n other cs j₀ j = n - j
+μ-loop up thr cs n other j₀ j = n - j
 
 loop-holds : tie.Need-loop-holds Inv-loop μ-loop
 loop-holds c = simp unary-clauses
 
 returns : tie.Need-returns Inv-loop μ-loop
-returns c = sym (first-found _ _ _ _ _ _ _ (c .before .before .loop-test .taken) (c .before .past .ensures) (c .if1 .taken)) ∙ c .before .before .before .loop .inv
+returns c = sym (first-found _ _ _ _ _ _ _ (c .before .before .before .loop-test .taken) (c .before .past .ensures) (c .if1 .taken)) ∙ c .before .before .before .before .loop .inv
 
 loop-again : tie.Need-loop-again Inv-loop μ-loop
-loop-again c = sym (first-next _ _ _ _ _ _ _ (c .before .before .loop-test .taken) (c .before .past .ensures) (c .if1 .left)) ∙ c .before .before .before .loop .inv
+loop-again c = sym (first-next _ _ _ _ _ _ _ (c .before .before .before .loop-test .taken) (c .before .past .ensures) (c .if1 .left)) ∙ c .before .before .before .before .loop .inv
 
 returns-2 : tie.Need-returns-2 Inv-loop μ-loop
 returns-2 c = sym (first-end _ _ _ _ _ _ (c .loop-test .left)) ∙ c .before .loop .inv

@@ -10,18 +10,19 @@ returns c = simp (← c .before .before .before .before .before .before .before 
 
 returns-2 : tie.Need-returns-2
 unfolding fskRunStepOf
-returns-2 c = simp (← c .before .before .before .before .before .before .before .bit .ensures, c .before .before .before .before .before .if1 .left, c .before .before .before .if2 .taken, c .before .if3 .taken, ← c .rejoin .ensures)
+returns-2 c = simp (← c .before .before .before .before .before .before .before .before .before .bit .ensures, c .before .before .before .before .before .before .before .if1 .left, ← c .before .before .before .before .before .before .cross .ensures, ← c .before .before .before .before .before .edge .ensures, c .before .before .before .if2 .taken, c .before .if3 .taken, ← c .rejoin .ensures)
 
 returns-3 : tie.Need-returns-3
 unfolding fskRunStepOf
-returns-3 c = simp (← c .before .before .before .before .before .before .before .before .before .before .before .bit .ensures, c .before .before .before .before .before .before .before .before .before .if1 .left, c .before .before .before .before .before .before .before .if2 .taken, c .before .before .before .before .before .if3 .left, ← c .before .before .before .before .begin-run .ensures, ← c .before .before .confirm-due2 .ensures)
+returns-3 c = simp (← c .before .before .before .before .before .before .before .before .before .before .before .before .before .bit .ensures, c .before .before .before .before .before .before .before .before .before .before .before .if1 .left, ← c .before .before .before .before .before .before .before .before .before .before .cross .ensures, ← c .before .before .before .before .before .before .before .before .before .edge .ensures, c .before .before .before .before .before .before .before .if2 .taken, c .before .before .before .before .before .if3 .left, ← c .before .before .before .before .begin-run .ensures, ← c .before .before .confirm-due2 .ensures)
 
 returns-4 : tie.Need-returns-4
 unfolding fskRunStepOf
-returns-4 c = simp (← c .before .before .before .before .before .before .before .before .before .bit .ensures, c .before .before .before .before .before .before .before .if1 .left, c .before .before .before .before .before .if2 .left, ← c .before .before .before .before .begin-run2 .ensures, ← c .before .before .confirm-due3 .ensures)
+returns-4 c = simp (← c .before .before .before .before .before .before .before .before .before .before .before .bit .ensures, c .before .before .before .before .before .before .before .before .before .if1 .left, ← c .before .before .before .before .before .before .before .before .cross .ensures, ← c .before .before .before .before .before .before .before .edge .ensures, c .before .before .before .before .before .if2 .left, ← c .before .before .before .before .begin-run2 .ensures, ← c .before .before .confirm-due3 .ensures)
 
 pub fsk-run-step-spec : {M : Type 1} → statement M
 fsk-run-step-spec =
     tie.close
-    (tie.spec (search needs) (search needs) (search needs) (search needs) returns (search needs) returns-2 (search needs) (search needs)
-    (search needs) returns-3 (search needs) (search needs) (search needs) returns-4)
+    (tie.spec (search needs) (search needs) (search needs) (search needs) returns (search needs) (search needs)
+    (search needs) returns-2 (search needs) (search needs) (search needs) returns-3 (search needs) (search needs)
+    (search needs) returns-4)

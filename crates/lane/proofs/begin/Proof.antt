@@ -4,12 +4,6 @@ use borrow.Author.Needs.{needs}
 use Rattle.lane.proofs.begin.Statement.{statement}
 use Rattle.lane.proofs.begin.Tie as tie
 
-begin-refusal-requires : tie.Need-begin-refusal-requires
-begin-refusal-requires c κs = search needs
-
-lead-lane-requires : tie.Need-lead-lane-requires
-lead-lane-requires c κs = search needs
-
 returns : tie.Need-returns
 unfolding begun
 returns c = simp (← c .before .before .begin-refusal .ensures, c .before .if1 .taken, ← c .lead-lane .ensures)
@@ -19,4 +13,4 @@ unfolding begun
 returns-2 c = simp (← c .before .begin-refusal .ensures, c .if1 .left)
 
 pub begin-spec : {M : Type 1} → statement M
-begin-spec = tie.close (tie.spec begin-refusal-requires lead-lane-requires returns returns-2)
+begin-spec = tie.close (tie.spec (search needs) (search needs) returns returns-2)

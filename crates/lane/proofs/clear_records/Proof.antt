@@ -4,12 +4,9 @@ use borrow.Author.Needs.{needs}
 use Rattle.lane.proofs.clear_records.Statement.{statement}
 use Rattle.lane.proofs.clear_records.Tie as tie
 
-no-out-requires : tie.Need-no-out-requires
-no-out-requires c κs = search needs
-
 returns : tie.Need-returns
 unfolding clearedOf
 returns c = simp (← c .no-out .ensures)
 
 pub clear-records-spec : {M : Type 1} → statement M
-clear-records-spec = tie.close (tie.spec no-out-requires returns)
+clear-records-spec = tie.close (tie.spec (search needs) returns)

@@ -14,12 +14,9 @@ returns : tie.Need-returns
 unfolding front
 returns c = simp (le-leb _ _ (c .before .if1 .taken))
 
-slice-aggregate-result-2 : tie.Need-slice-aggregate-result-2
-slice-aggregate-result-2 c = search needs
-
 returns-2 : tie.Need-returns-2
 unfolding front
 returns-2 c = simp (lt-leb _ _ (c .before .if1 .left))
 
 pub first-spec : {M : Type 1} → statement M
-first-spec = tie.close (tie.spec slice-aggregate-result returns slice-aggregate-result-2 returns-2)
+first-spec = tie.close (tie.spec slice-aggregate-result returns (search needs) returns-2)

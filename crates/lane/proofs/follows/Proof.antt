@@ -7,11 +7,8 @@ use Rattle.lane.proofs.follows.Tie as tie
 returns : tie.Need-returns
 returns c = follows-none _ _ (c .if1 .taken)
 
-sub-result : tie.Need-sub-result
-sub-result c = search needs
-
 returns-2 : tie.Need-returns-2
 returns-2 c = follows-back _ _ (c .if1 .left)
 
 pub follows-spec : {M : Type 1} → statement M
-follows-spec = tie.close (tie.spec returns sub-result returns-2)
+follows-spec = tie.close (tie.spec returns (search needs) returns-2)

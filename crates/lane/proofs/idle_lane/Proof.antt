@@ -5,15 +5,9 @@ use borrow.Author.Needs.{needs}
 use Rattle.lane.proofs.idle_lane.Statement.{statement}
 use Rattle.lane.proofs.idle_lane.Tie as tie
 
-no-lead-requires : tie.Need-no-lead-requires
-no-lead-requires c κs = search needs
-
-no-burst-requires : tie.Need-no-burst-requires
-no-burst-requires c κs = search needs
-
 returns : tie.Need-returns
 unfolding idleLane opened
 returns c = simp (← c .before .no-lead .ensures, ← c .no-burst .ensures)
 
 pub idle-lane-spec : {M : Type 1} → statement M
-idle-lane-spec = tie.close (tie.spec no-lead-requires no-burst-requires returns)
+idle-lane-spec = tie.close (tie.spec (search needs) (search needs) returns)

@@ -4,21 +4,6 @@ use borrow.Author.Needs.{needs}
 use Rattle.lane.proofs.lane_ok.Statement.{statement}
 use Rattle.lane.proofs.lane_ok.Tie as tie
 
-opened-ok-requires : tie.Need-opened-ok-requires
-opened-ok-requires c κs = search needs
-
-burst-ok-requires : tie.Need-burst-ok-requires
-burst-ok-requires c κs = search needs
-
-lead-ok-requires : tie.Need-lead-ok-requires
-lead-ok-requires c κs = search needs
-
-cand-ok-requires : tie.Need-cand-ok-requires
-cand-ok-requires c κs = search needs
-
-index-ok-requires : tie.Need-index-ok-requires
-index-ok-requires c κs = search needs
-
 returns : tie.Need-returns
 unfolding laneOk
 returns c = simp (← c .before .before .before .before .before .opened-ok .ensures, ← c .before .before .before .burst-ok .ensures, ← c .before .before .lead-ok .ensures, ← c .before .cand-ok .ensures, ← c .index-ok .ensures)
@@ -26,10 +11,4 @@ returns c = simp (← c .before .before .before .before .before .opened-ok .ensu
 pub lane-ok-spec : {M : Type 1} → statement M
 lane-ok-spec =
     tie.close
-    (tie.spec
-    opened-ok-requires
-    burst-ok-requires
-    lead-ok-requires
-    cand-ok-requires
-    index-ok-requires
-    returns)
+    (tie.spec (search needs) (search needs) (search needs) (search needs) (search needs) returns)

@@ -4,28 +4,9 @@ use borrow.Author.Needs.{needs}
 use Rattle.lane.proofs.lead_lane.Statement.{statement}
 use Rattle.lane.proofs.lead_lane.Tie as tie
 
-ring-with-requires : tie.Need-ring-with-requires
-ring-with-requires c κs = search needs
-
-fill-history-requires : tie.Need-fill-history-requires
-fill-history-requires c κs = search needs
-
-begin-lead-requires : tie.Need-begin-lead-requires
-begin-lead-requires c κs = search needs
-
-clear-records-requires : tie.Need-clear-records-requires
-clear-records-requires c κs = search needs
-
 returns : tie.Need-returns
 unfolding leadLane
 returns c = simp (← c .before .before .before .before .before .ring-with .ensures, ← c .before .before .before .before .fill-history .ensures, ← c .before .before .before .begin-lead .ensures, ← c .before .clear-records .ensures)
 
 pub lead-lane-spec : {M : Type 1} → statement M
-lead-lane-spec =
-    tie.close
-    (tie.spec
-    ring-with-requires
-    fill-history-requires
-    begin-lead-requires
-    clear-records-requires
-    returns)
+lead-lane-spec = tie.close (tie.spec (search needs) (search needs) (search needs) (search needs) returns)

@@ -4,12 +4,9 @@ use borrow.Author.Needs.{needs}
 use Rattle.lane.proofs.new_lane.Statement.{statement}
 use Rattle.lane.proofs.new_lane.Tie as tie
 
-idle-lane-requires : tie.Need-idle-lane-requires
-idle-lane-requires c κs = search needs
-
 returns : tie.Need-returns
 unfolding newLane
 returns c = simp (← c .idle-lane .ensures)
 
 pub new-lane-spec : {M : Type 1} → statement M
-new-lane-spec = tie.close (tie.spec idle-lane-requires returns)
+new-lane-spec = tie.close (tie.spec (search needs) returns)

@@ -3,14 +3,8 @@ use borrow.Author.Needs.{needs}
 use Rattle.lane.proofs.no_frame.Statement.{statement}
 use Rattle.lane.proofs.no_frame.Tie as tie
 
-no-runs-requires : tie.Need-no-runs-requires
-no-runs-requires c κs = search needs
-
-none-done-requires : tie.Need-none-done-requires
-none-done-requires c κs = search needs
-
 returns : tie.Need-returns
 returns c = simp (← c .before .no-runs .ensures, ← c .none-done .ensures)
 
 pub no-frame-spec : {M : Type 1} → statement M
-no-frame-spec = tie.close (tie.spec no-runs-requires none-done-requires returns)
+no-frame-spec = tie.close (tie.spec (search needs) (search needs) returns)

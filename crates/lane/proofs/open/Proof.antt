@@ -4,12 +4,6 @@ use borrow.Author.Needs.{needs}
 use Rattle.lane.proofs.open.Statement.{statement}
 use Rattle.lane.proofs.open.Tie as tie
 
-settings-ok-requires : tie.Need-settings-ok-requires
-settings-ok-requires c κs = search needs
-
-idle-lane-requires : tie.Need-idle-lane-requires
-idle-lane-requires c κs = search needs
-
 returns : tie.Need-returns
 unfolding opened
 returns c = simp (← c .before .before .settings-ok .ensures, c .before .if1 .taken, ← c .idle-lane .ensures)
@@ -19,4 +13,4 @@ unfolding opened
 returns-2 c = simp (← c .before .settings-ok .ensures, c .if1 .left)
 
 pub open-spec : {M : Type 1} → statement M
-open-spec = tie.close (tie.spec settings-ok-requires idle-lane-requires returns returns-2)
+open-spec = tie.close (tie.spec (search needs) (search needs) returns returns-2)

@@ -1,18 +1,8 @@
 -- `lane::phase_of` meets its contract: by the cases of the answer. Assumes nothing.
-use mathlib.Core.Path.{refl}
 use Rattle.lane.specs.Answers.{phaseOf}
 use borrow.Author.Needs.{needs}
 use Rattle.lane.proofs.phase_of.Statement.{statement}
 use Rattle.lane.proofs.phase_of.Tie as tie
-
-enum-told : tie.Need-enum-told
-enum-told c = search needs
-
-enum-told-2 : tie.Need-enum-told-2
-enum-told-2 c = search needs
-
-enum-told-3 : tie.Need-enum-told-3
-enum-told-3 c = search needs
 
 returns : tie.Need-returns
 unfolding phaseOf
@@ -27,4 +17,4 @@ unfolding phaseOf
 returns-3 c = cc
 
 pub phase-of-spec : {M : Type 1} → statement M
-phase-of-spec = tie.close (tie.spec enum-told enum-told-2 enum-told-3 returns returns-2 returns-3)
+phase-of-spec = tie.close (tie.spec (search needs) (search needs) (search needs) returns returns-2 returns-3)

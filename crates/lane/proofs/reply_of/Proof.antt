@@ -4,15 +4,6 @@ use borrow.Author.Needs.{needs}
 use Rattle.lane.proofs.reply_of.Statement.{statement}
 use Rattle.lane.proofs.reply_of.Tie as tie
 
-enum-told : tie.Need-enum-told
-enum-told c = search needs
-
-enum-told-2 : tie.Need-enum-told-2
-enum-told-2 c = search needs
-
-enum-known-n : tie.Need-enum-known-n
-enum-known-n c = search needs
-
 returns : tie.Need-returns
 unfolding replyOf
 returns c = cc
@@ -26,4 +17,4 @@ unfolding replyOf
 returns-3 c = cc
 
 pub reply-of-spec : {M : Type 1} → statement M
-reply-of-spec = tie.close (tie.spec enum-told enum-told-2 enum-known-n returns returns-2 returns-3)
+reply-of-spec = tie.close (tie.spec (search needs) (search needs) (search needs) returns returns-2 returns-3)

@@ -4,19 +4,9 @@ use borrow.Author.Needs.{needs}
 use Rattle.lane.proofs.step_floats_ok.Statement.{statement}
 use Rattle.lane.proofs.step_floats_ok.Tie as tie
 
-envelope-ok-requires : tie.Need-envelope-ok-requires
-envelope-ok-requires c κs = search needs
-
-envelope-ok-requires-2 : tie.Need-envelope-ok-requires-2
-envelope-ok-requires-2 c κs = search needs
-
-sample-ok-requires : tie.Need-sample-ok-requires
-sample-ok-requires c κs = search needs
-
 returns : tie.Need-returns
 unfolding stepFloatsOk
 returns c = simp (← c .before .before .envelope-ok .ensures, ← c .before .envelope-ok2 .ensures, ← c .sample-ok .ensures)
 
 pub step-floats-ok-spec : {M : Type 1} → statement M
-step-floats-ok-spec =
-    tie.close (tie.spec envelope-ok-requires envelope-ok-requires-2 sample-ok-requires returns)
+step-floats-ok-spec = tie.close (tie.spec (search needs) (search needs) (search needs) returns)

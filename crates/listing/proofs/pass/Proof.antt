@@ -7,6 +7,9 @@ use borrow.Author.Needs.{needs}
 use Rattle.listing.proofs.pass.Statement.{statement}
 use Rattle.listing.proofs.pass.Tie as tie
 
+feed-requires : tie.Need-feed-requires
+feed-requires c κs = c .before .before .before .before .before .before .before .before .before .before .before .before .before .before .before .before .pre .1
+
 slice-aggregate-put : tie.Need-slice-aggregate-put
 slice-aggregate-put c = simp length-take (omega (arith, c .before .before .before .before .before .before .before .before .before .feed .ensures .at-is, c .before .before .before .before .before .before .before .before .before .feed .ensures .block .room))
 
@@ -22,5 +25,5 @@ returns c =
 pub pass-spec : {M : Type 1} → statement M
 pass-spec =
     tie.close
-    (tie.spec (search needs) (search needs) (search needs) (search needs) slice-aggregate-put (search needs) same-length (search needs)
+    (tie.spec (search needs) (search needs) feed-requires (search needs) slice-aggregate-put (search needs) same-length (search needs)
     (search needs) (search needs) returns)

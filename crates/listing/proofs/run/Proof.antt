@@ -25,7 +25,7 @@ loop-holds c =
     (refl, refl, refl, refl, subst (λ (p : Passed). Standing (newLane, a .ook .now, a .fsk .now) p (a .buf .now) (a .ook .now) (a .fsk .now)) (sym (c .start .ensures)) (starts (a .buf .now) (a .ook .now) (a .fsk .now)))
 
 pass-requires : tie.Need-pass-requires Inv-loop μ-loop
-pass-requires c κs = c .before .before .before .before .before .loop .inv .4 .inside
+pass-requires c κs = let s = c .before .before .before .before .before .loop .inv .4 in (s .inside, s .sound)
 
 same-length : tie.Need-same-length Inv-loop μ-loop
 same-length c = omega (arith, c .before .before .before .before .before .before .before .before .before .before .before .before .pass .kept .1 .0, c .before .before .before .before .before .before .before .before .before .before .before .before .before .before .before .before .before .before .loop .inv .0)

@@ -4,9 +4,6 @@ use borrow.Author.Needs.{needs}
 use Rattle.presence.proofs.end_of.Statement.{statement}
 use Rattle.presence.proofs.end_of.Tie as tie
 
-in-window-requires : tie.Need-in-window-requires
-in-window-requires c κs = search needs
-
 returns : tie.Need-returns
 unfolding endOf
 returns c = simp (c .before .before .if1 .taken, ← c .before .in-window .ensures, c .if2 .taken)
@@ -20,4 +17,4 @@ unfolding endOf
 returns-3 c = simp (c .if1 .left)
 
 pub end-of-spec : {M : Type 1} → statement M
-end-of-spec = tie.close (tie.spec in-window-requires returns returns-2 returns-3)
+end-of-spec = tie.close (tie.spec (search needs) returns returns-2 returns-3)

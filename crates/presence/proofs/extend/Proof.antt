@@ -4,12 +4,9 @@ use borrow.Author.Needs.{needs}
 use Rattle.presence.proofs.extend.Statement.{statement}
 use Rattle.presence.proofs.extend.Tie as tie
 
-sat-add-requires : tie.Need-sat-add-requires
-sat-add-requires c κs = search needs
-
 returns : tie.Need-returns
 unfolding extendOf
-returns c = simp (← c .before .sat-add .ensures)
+returns c = λ cs. simp (← c .before .sat-add .ensures)
 
 pub extend-spec : {M : Type 1} → statement M
-extend-spec = tie.close (tie.spec sat-add-requires returns)
+extend-spec = tie.close (tie.spec (search needs) returns)

@@ -4,12 +4,9 @@ use borrow.Author.Needs.{needs}
 use Rattle.presence.proofs.lengthen.Statement.{statement}
 use Rattle.presence.proofs.lengthen.Tie as tie
 
-sat-add-requires : tie.Need-sat-add-requires
-sat-add-requires c κs = search needs
-
 returns : tie.Need-returns
 unfolding lengthenOf
 returns c = simp (← c .sat-add .ensures)
 
 pub lengthen-spec : {M : Type 1} → statement M
-lengthen-spec = tie.close (tie.spec sat-add-requires returns)
+lengthen-spec = tie.close (tie.spec (search needs) returns)

@@ -4,9 +4,6 @@ use borrow.Author.Needs.{needs}
 use Rattle.presence.proofs.near_start.Statement.{statement}
 use Rattle.presence.proofs.near_start.Tie as tie
 
-in-window-requires : tie.Need-in-window-requires
-in-window-requires c κs = search needs
-
 returns : tie.Need-returns
 unfolding nearStartOf
 returns c = simp (c .before .before .before .if1 .taken, c .before .before .if2 .taken, c .before .if3 .taken, ← c .in-window .ensures)
@@ -24,4 +21,4 @@ unfolding nearStartOf
 returns-4 c = simp (c .if1 .left)
 
 pub near-start-spec : {M : Type 1} → statement M
-near-start-spec = tie.close (tie.spec in-window-requires returns returns-2 returns-3 returns-4)
+near-start-spec = tie.close (tie.spec (search needs) returns returns-2 returns-3 returns-4)

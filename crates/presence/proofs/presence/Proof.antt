@@ -1,48 +1,40 @@
 -- `presence::presence` meets its contract: the definition over what the calls ensure. Assumes nothing.
+use Prim.Native.Nat.{ℕ}
+use mathlib.Core.Bool.{Bool}
+use mathlib.Core.Path.{_≡_}
+use mathlib.Core.List.{List}
 use native.Mathlib.Omega.{arith}
+use Rattle.ook.specs.declared.Settings.{Settings}
+use Rattle.frame.specs.Done.{withFrame}
+use Rattle.frame.specs.declared.Body.{Body}
+use Rattle.presence.specs.Presence.{advanceOf, dueOf, endsOf, sureIfOf, endIfOf, carrierIfOf}
+use Rattle.presence.specs.declared.Pres.{Pres}
+use Rattle.presence.specs.declared.Inputs.{Inputs}
+use Rattle.presence.specs.declared.Advanced.{Advanced}
+use Rattle.presence.specs.declared.Present.{Present}
 use Rattle.presence.specs.Presence.{presenceOf}
 use borrow.Author.Needs.{needs}
 use Rattle.presence.proofs.presence.Statement.{statement}
 use Rattle.presence.proofs.presence.Tie as tie
 
-advance-requires : tie.Need-advance-requires
-advance-requires c κs = search needs
-
-due-of-requires : tie.Need-due-of-requires
-due-of-requires c κs = search needs
-
-ends-of-requires : tie.Need-ends-of-requires
-ends-of-requires c κs = search needs
-
-sure-if-requires : tie.Need-sure-if-requires
-sure-if-requires c κs = search needs
-
-end-if-requires : tie.Need-end-if-requires
-end-if-requires c κs = search needs
-
-carrier-if-requires : tie.Need-carrier-if-requires
-carrier-if-requires c κs = search needs
-
-same-length : tie.Need-same-length
-same-length c = search needs
+-- the definition, from what each part gives
+goes : (p : Settings) (a : Inputs) (s : Pres) (b : Body) (ook fsk : List ℕ) (l : Advanced) (fsk₁ : List ℕ) (due ends : Bool) (s₂ : Pres) (b₂ : Body) (ook₂ fsk₂ : List ℕ) (r : Present) (ook₃ fsk₃ : List ℕ)
+    → (l, fsk₁) ≡ advanceOf p a s (b .frame) fsk → due ≡ dueOf (l .pres) (p .«min_steps») → ends ≡ endsOf due (l .on) (l .pres .«p_prev») (p .«min_steps»)
+    → s₂ ≡ sureIfOf due (l .pres) → (b₂, ook₂, fsk₂) ≡ endIfOf ends p a (l .pres) (withFrame (l .frame) b) ook fsk₁
+    → (r, ook₃, fsk₃) ≡ carrierIfOf p a (l .on) s₂ b₂ ook₂ fsk₂
+    → (r, ook₃, fsk₃) ≡ presenceOf p a s b ook fsk
+unfolding presenceOf
+goes p a s b ook fsk l fsk₁ due ends s₂ b₂ ook₂ fsk₂ r ook₃ fsk₃ e₁ e₂ e₃ e₄ e₅ e₆ = simp (← e₁, ← e₂, ← e₃, ← e₄, ← e₅) e₆
 
 same-length-2 : tie.Need-same-length-2
-same-length-2 c = omega (arith, c .before .before .before .before .carrier-if .kept .1 .1 .1 .1 .1 .1 .0, c .before .before .before .before .before .before .before .before .before .before .before .end-if .kept .1 .1 .1 .1 .1 .1 .0, c .before .before .before .before .before .before .before .before .before .before .before .before .before .before .before .before .before .before .before .before .before .advance .kept .1 .1 .1 .1 .0)
+same-length-2 c = omega (arith, c .before .before .before .before .carrier-if .kept .1 .1 .1 .1 .1 .1 .0, c .before .before .before .before .before .before .before .before .before .before .before .end-if .kept .1 .1 .1 .1 .1 .1 .0, c .before .before .before .before .before .before .before .before .before .before .before .before .before .before .before .before .before .before .before .before .before .advance .kept .1 .1 .1 .1 .1 .0)
 
 returns : tie.Need-returns
-unfolding presenceOf
-returns c = simp (← c .before .before .before .before .before .before .before .before .before .before .before .before .before .before .before .before .before .before .before .before .before .advance .ensures, ← c .before .before .before .before .before .before .before .before .before .before .before .before .before .before .before .before .due-of .ensures, ← c .before .before .before .before .before .before .before .before .before .before .before .before .before .before .before .ends-of .ensures, ← c .before .before .before .before .before .before .before .before .before .before .before .before .before .before .sure-if .ensures, ← c .before .before .before .before .before .before .before .before .before .before .before .end-if .ensures, ← c .before .before .before .before .carrier-if .ensures)
+returns c =
+    goes _ _ _ _ _ _ _ _ _ _ _ _ _ _ _ _ _ (c .before .before .before .before .before .before .before .before .before .before .before .before .before .before .before .before .before .before .before .before .before .advance .ensures) (c .before .before .before .before .before .before .before .before .before .before .before .before .before .before .before .before .due-of .ensures) (c .before .before .before .before .before .before .before .before .before .before .before .before .before .before .before .ends-of .ensures) (c .before .before .before .before .before .before .before .before .before .before .before .before .before .before .sure-if .ensures) (c .before .before .before .before .before .before .before .before .before .before .before .end-if .ensures _) (c .before .before .before .before .carrier-if .ensures _)
 
 pub presence-spec : {M : Type 1} → statement M
 presence-spec =
     tie.close
-    (tie.spec
-    advance-requires
-    due-of-requires
-    ends-of-requires
-    sure-if-requires
-    end-if-requires
-    carrier-if-requires
-    same-length
-    same-length-2
-    returns)
+    (tie.spec (search needs) (search needs) (search needs) (search needs) (search needs) (search needs) (search needs)
+    same-length-2 returns)

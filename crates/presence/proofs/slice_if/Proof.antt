@@ -4,19 +4,13 @@ use borrow.Author.Needs.{needs}
 use Rattle.presence.proofs.slice_if.Statement.{statement}
 use Rattle.presence.proofs.slice_if.Tie as tie
 
-fsk-sample-requires : tie.Need-fsk-sample-requires
-fsk-sample-requires c κs = search needs
-
-same-length : tie.Need-same-length
-same-length c = search needs
-
 returns : tie.Need-returns
 unfolding sliceIfOf
-returns c = simp (c .before .before .before .before .before .if1 .taken, ← c .before .before .fsk-sample .ensures)
+returns c = simp (c .before .before .before .before .before .before .if1 .taken, ← c .before .before .fsk-sample .ensures)
 
 returns-2 : tie.Need-returns-2
 unfolding sliceIfOf
 returns-2 c = simp (c .if1 .left)
 
 pub slice-if-spec : {M : Type 1} → statement M
-slice-if-spec = tie.close (tie.spec fsk-sample-requires same-length returns returns-2)
+slice-if-spec = tie.close (tie.spec (search needs) (search needs) returns returns-2)

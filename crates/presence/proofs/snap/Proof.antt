@@ -4,16 +4,13 @@ use borrow.Author.Needs.{needs}
 use Rattle.presence.proofs.snap.Statement.{statement}
 use Rattle.presence.proofs.snap.Tie as tie
 
-near-start-requires : tie.Need-near-start-requires
-near-start-requires c κs = search needs
-
 returns : tie.Need-returns
 unfolding snapOf
-returns c = simp (← c .before .before .near-start .ensures, c .before .if1 .taken)
+returns c = λ cs. simp (← c .before .before .near-start .ensures, c .before .if1 .taken)
 
 returns-2 : tie.Need-returns-2
 unfolding snapOf
-returns-2 c = simp (← c .before .near-start .ensures, c .if1 .left)
+returns-2 c = λ cs. simp (← c .before .near-start .ensures, c .if1 .left)
 
 pub snap-spec : {M : Type 1} → statement M
-snap-spec = tie.close (tie.spec near-start-requires returns returns-2)
+snap-spec = tie.close (tie.spec (search needs) returns returns-2)

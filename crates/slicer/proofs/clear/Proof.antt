@@ -4,6 +4,9 @@ use Rattle.slicer.specs.Seek.{clearOf}
 use Rattle.slicer.proofs.clear.Statement.{statement}
 use Rattle.slicer.proofs.clear.Tie as tie
 
-pub clear-spec : {M : Type 1} → statement M
+returns : tie.Need-returns
 unfolding clearOf
-clear-spec = tie.close (tie.spec (λ c. refl))
+returns c = λ cs. refl
+
+pub clear-spec : {M : Type 1} → statement M
+clear-spec = tie.close (tie.spec returns)

@@ -6,7 +6,7 @@ use Rattle.slicer.proofs.fsk_sample.Tie as tie
 
 returns : tie.Need-returns
 unfolding fskSampleOf
-returns c = simp (← c .before .before .before .before .before .before .before .before .fsk-min .ensures, ← c .before .before .before .before .before .before .tone-of .ensures, c .before .before .before .before .if1 .taken, ← c .before .before .seek .ensures)
+returns c = simp (← c .before .before .before .before .before .before .before .before .before .fsk-min .ensures, ← c .before .before .before .before .before .before .before .tone-of .ensures, c .before .before .before .before .before .if1 .taken, ← c .before .before .seek .ensures)
 
 returns-2 : tie.Need-returns-2
 unfolding fskSampleOf
@@ -14,4 +14,5 @@ returns-2 c = simp (← c .before .before .before .before .before .before .befor
 
 pub fsk-sample-spec : {M : Type 1} → statement M
 fsk-sample-spec =
-    tie.close (tie.spec (search needs) (search needs) (search needs) (search needs) returns (search needs) (search needs) returns-2)
+    tie.close
+    (tie.spec (search needs) (search needs) (search needs) (search needs) returns (search needs) (search needs) returns-2)

@@ -6,8 +6,9 @@ use Rattle.slicer.proofs.push_cand.Tie as tie
 
 returns : tie.Need-returns
 unfolding pushCandOf
-returns c = simp (← c .before .before .before .start-of .ensures, ← c .before .before .before-if .ensures, ← c .before .store .ensures, ← c .inc .ensures)
+returns c = simp (← c .before .before .before .before .start-of .ensures, ← c .before .before .before .before-if .ensures, ← c .before .store .ensures, ← c .inc .ensures)
 
 pub push-cand-spec : {M : Type 1} → statement M
 push-cand-spec =
-    tie.close (tie.spec (search needs) (search needs) (search needs) (search needs) (search needs) (search needs) returns)
+    tie.close
+    (tie.spec (search needs) (search needs) (search needs) (search needs) (search needs) (search needs) returns)

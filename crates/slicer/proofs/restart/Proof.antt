@@ -6,8 +6,7 @@ use Rattle.slicer.proofs.restart.Tie as tie
 
 returns : tie.Need-returns
 unfolding restartOf
-returns c = simp (← c .before .before .restart-early .ensures, ← c .before .clear .ensures, ← c .seek-frame .ensures)
+returns c = λ old. simp (← c .before .before .restart-early .ensures, ← c .before .clear .ensures, ← c .seek-frame .ensures)
 
 pub restart-spec : {M : Type 1} → statement M
-restart-spec =
-    tie.close (tie.spec (search needs) (search needs) (search needs) returns)
+restart-spec = tie.close (tie.spec (search needs) (search needs) (search needs) returns)

@@ -6,12 +6,11 @@ use Rattle.slicer.proofs.restart_early.Tie as tie
 
 returns : tie.Need-returns
 unfolding restartEarlyOf
-returns c = simp (c .before .before .before .if1 .taken, ← c .before .midpoint .ensures, ← c .restart-at .ensures)
+returns c = simp (c .before .before .before .if1 .taken, ← c .before .before .midpoint .ensures, ← c .restart-at .ensures)
 
 returns-2 : tie.Need-returns-2
 unfolding restartEarlyOf
 returns-2 c = simp (c .if1 .left)
 
 pub restart-early-spec : {M : Type 1} → statement M
-restart-early-spec =
-    tie.close (tie.spec (search needs) (search needs) (search needs) returns returns-2)
+restart-early-spec = tie.close (tie.spec (search needs) (search needs) (search needs) returns returns-2)

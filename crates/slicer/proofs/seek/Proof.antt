@@ -6,7 +6,7 @@ use Rattle.slicer.proofs.seek.Tie as tie
 
 returns : tie.Need-returns
 unfolding seekOf
-returns c = simp (← c .before .before .before .before .before .before .before .seed .ensures, ← c .before .before .before .before .before .before .far-from .ensures, c .before .before .before .before .before .if1 .taken, ← c .before .before .before .before .push-cand .ensures, ← c .before .before .away .ensures)
+returns c = simp (← c .before .before .before .before .before .before .before .before .before .seed .ensures, ← c .before .before .before .before .before .before .before .before .far-from .ensures, c .before .before .before .before .before .before .before .if1 .taken, ← c .before .before .before .before .before .push-cand .ensures, ← c .before .before .away .ensures)
 
 returns-2 : tie.Need-returns-2
 unfolding seekOf
@@ -15,5 +15,5 @@ returns-2 c = simp (← c .before .before .before .before .before .before .seed 
 pub seek-spec : {M : Type 1} → statement M
 seek-spec =
     tie.close
-    (tie.spec (search needs) (search needs) (search needs) (search needs) (search needs) returns (search needs) (search needs)
-    (search needs) returns-2)
+    (tie.spec (search needs) (search needs) (search needs) (search needs) (search needs) returns (search needs)
+    (search needs) (search needs) returns-2)

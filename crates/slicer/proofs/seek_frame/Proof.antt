@@ -4,6 +4,9 @@ use borrow.Author.Needs.{needs}
 use Rattle.slicer.proofs.seek_frame.Statement.{statement}
 use Rattle.slicer.proofs.seek_frame.Tie as tie
 
-pub seek-frame-spec : {M : Type 1} → statement M
+returns : tie.Need-returns
 unfolding seekFrameOf
-seek-frame-spec = tie.close (tie.spec (search needs) (λ c. simp (← c .lengthen .ensures)))
+returns c = λ old cs. simp (← c .lengthen .ensures)
+
+pub seek-frame-spec : {M : Type 1} → statement M
+seek-frame-spec = tie.close (tie.spec (search needs) returns)

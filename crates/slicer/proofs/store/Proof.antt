@@ -1,9 +1,11 @@
--- `slicer::store` meets its contract: past the end nothing is stored. Assumes nothing.
-use lib.Seq.{set-out}
-use mathlib.Core.Path.{sym}
+-- `slicer::store` meets its contract: by its test. Assumes nothing.
 use borrow.Author.Needs.{needs}
+use borrow.Author.Tests.{lt-ltb, le-ltb}
+use Rattle.slicer.specs.Seek.{storeOf}
 use Rattle.slicer.proofs.store.Statement.{statement}
 use Rattle.slicer.proofs.store.Tie as tie
 
 pub store-spec : {M : Type 1} → statement M
-store-spec = tie.close (tie.spec (search needs) (search needs) (search needs) (λ c. sym (set-out _ _ _ (search needs))))
+unfolding storeOf
+store-spec =
+    tie.close (tie.spec (search needs) (search needs) (λ c. simp (lt-ltb _ _ (c .if1 .taken))) (λ c. simp (le-ltb _ _ (c .if1 .left))))

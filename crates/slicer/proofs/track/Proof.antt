@@ -6,8 +6,9 @@ use Rattle.slicer.proofs.track.Tie as tie
 
 returns : tie.Need-returns
 unfolding trackOf
-returns c = simp (← c .before .before .before .before .before .before .before .before .before .before .slice-thr .ensures, ← c .before .before .before .before .before .before .before .before .before .upper-of .ensures, ← c .before .before .before .before .before .before .before .before .follow .ensures, ← c .before .before .before .before .before .before .before .cross .ensures, ← c .before .before .before .before .before .before .edge .ensures, ← c .before .before .before .before .fsk-run-step .ensures)
+returns c = λ cs. simp (← c .before .before .before .before .before .before .before .before .slice-thr .ensures, ← c .before .before .before .before .before .before .before .upper-of .ensures, ← c .before .before .before .before .before .before .follow .ensures, ← c .before .before .before .before .fsk-run-step .ensures)
 
 pub track-spec : {M : Type 1} → statement M
 track-spec =
-    tie.close (tie.spec (search needs) (search needs) (search needs) (search needs) (search needs) (search needs) (search needs) returns)
+    tie.close
+    (tie.spec (search needs) (search needs) (search needs) (search needs) (search needs) returns)

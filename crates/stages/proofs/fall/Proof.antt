@@ -4,15 +4,6 @@ use borrow.Author.Needs.{needs}
 use Rattle.stages.proofs.fall.Statement.{statement}
 use Rattle.stages.proofs.fall.Tie as tie
 
-width-requires : tie.Need-width-requires
-width-requires c κs = search needs
-
-pulse-done-requires : tie.Need-pulse-done-requires
-pulse-done-requires c κs = search needs
-
-same-length : tie.Need-same-length
-same-length c = search needs
-
 returns : tie.Need-returns
 unfolding fallOf
 returns c = simp (c .before .before .before .before .before .if1 .taken, ← c .before .before .before .before .width .ensures, ← c .before .before .pulse-done .ensures)
@@ -22,4 +13,4 @@ unfolding fallOf
 returns-2 c = simp (c .if1 .left)
 
 pub fall-spec : {M : Type 1} → statement M
-fall-spec = tie.close (tie.spec width-requires pulse-done-requires same-length returns returns-2)
+fall-spec = tie.close (tie.spec (search needs) (search needs) (search needs) returns returns-2)

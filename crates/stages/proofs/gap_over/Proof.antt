@@ -8,12 +8,9 @@ returns : tie.Need-returns
 unfolding gapOverOf
 returns c = simp (c .if1 .taken)
 
-gap-ratio-exceeded-requires : tie.Need-gap-ratio-exceeded-requires
-gap-ratio-exceeded-requires c κs = search needs
-
 returns-2 : tie.Need-returns-2
 unfolding gapOverOf
 returns-2 c = simp (c .before .before .if1 .left, ← c .gap-ratio-exceeded .ensures)
 
 pub gap-over-spec : {M : Type 1} → statement M
-gap-over-spec = tie.close (tie.spec returns gap-ratio-exceeded-requires returns-2)
+gap-over-spec = tie.close (tie.spec returns (search needs) returns-2)

@@ -4,15 +4,6 @@ use borrow.Author.Needs.{needs}
 use Rattle.stages.proofs.has_pulses.Statement.{statement}
 use Rattle.stages.proofs.has_pulses.Tie as tie
 
-cast-result : tie.Need-cast-result
-cast-result c = search needs
-
-cast-result-2 : tie.Need-cast-result-2
-cast-result-2 c = search needs
-
-add-result : tie.Need-add-result
-add-result c = search needs
-
 returns : tie.Need-returns
 unfolding hasPulsesOf
 returns c = simp (c .before .before .if1 .taken)
@@ -22,4 +13,4 @@ unfolding hasPulsesOf
 returns-2 c = simp (c .if1 .left)
 
 pub has-pulses-spec : {M : Type 1} → statement M
-has-pulses-spec = tie.close (tie.spec cast-result cast-result-2 add-result returns returns-2)
+has-pulses-spec = tie.close (tie.spec (search needs) (search needs) (search needs) returns returns-2)

@@ -4,9 +4,6 @@ use borrow.Author.Needs.{needs}
 use Rattle.stages.proofs.high_of.Statement.{statement}
 use Rattle.stages.proofs.high_of.Tie as tie
 
-flush-denormal-requires : tie.Need-flush-denormal-requires
-flush-denormal-requires c κs = search needs
-
 returns : tie.Need-returns
 unfolding highOf
 returns c = simp (c .before .before .if1 .taken, c .before .if2 .taken, ← c .flush-denormal .ensures)
@@ -20,4 +17,4 @@ unfolding highOf
 returns-3 c = simp (c .if1 .left)
 
 pub high-of-spec : {M : Type 1} → statement M
-high-of-spec = tie.close (tie.spec flush-denormal-requires returns returns-2 returns-3)
+high-of-spec = tie.close (tie.spec (search needs) returns returns-2 returns-3)

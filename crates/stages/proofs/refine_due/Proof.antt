@@ -4,12 +4,6 @@ use borrow.Author.Needs.{needs}
 use Rattle.stages.proofs.refine_due.Statement.{statement}
 use Rattle.stages.proofs.refine_due.Tie as tie
 
-refine-at-requires : tie.Need-refine-at-requires
-refine-at-requires c κs = search needs
-
-refine-requires : tie.Need-refine-requires
-refine-requires c κs = search needs
-
 returns : tie.Need-returns
 unfolding refineDueOf
 returns c = simp (c .before .before .before .before .before .if1 .taken, ← c .before .before .before .before .refine-at .ensures, c .before .before .if2 .taken, ← c .before .refine .ensures)
@@ -23,5 +17,4 @@ unfolding refineDueOf
 returns-3 c = simp (c .if1 .left)
 
 pub refine-due-spec : {M : Type 1} → statement M
-refine-due-spec =
-    tie.close (tie.spec refine-at-requires refine-requires returns returns-2 returns-3)
+refine-due-spec = tie.close (tie.spec (search needs) (search needs) returns returns-2 returns-3)

@@ -4,27 +4,13 @@ use borrow.Author.Needs.{needs}
 use Rattle.stages.proofs.rise.Statement.{statement}
 use Rattle.stages.proofs.rise.Tie as tie
 
-width-requires : tie.Need-width-requires
-width-requires c κs = search needs
-
-close-gap-requires : tie.Need-close-gap-requires
-close-gap-requires c κs = search needs
-
-same-length : tie.Need-same-length
-same-length c = search needs
-
 returns : tie.Need-returns
 unfolding riseOf
 returns c = simp (c .before .before .before .before .before .if1 .taken, ← c .before .before .before .before .width .ensures, ← c .before .before .close-gap .ensures)
-
-step-of-requires : tie.Need-step-of-requires
-step-of-requires c κs = search needs
 
 returns-2 : tie.Need-returns-2
 unfolding riseOf
 returns-2 c = simp (c .before .if1 .left, ← c .step-of .ensures)
 
 pub rise-spec : {M : Type 1} → statement M
-rise-spec =
-    tie.close
-    (tie.spec width-requires close-gap-requires same-length returns step-of-requires returns-2)
+rise-spec = tie.close (tie.spec (search needs) (search needs) (search needs) returns (search needs) returns-2)

@@ -4,27 +4,9 @@ use borrow.Author.Needs.{needs}
 use Rattle.stages.proofs.tail.Statement.{statement}
 use Rattle.stages.proofs.tail.Tie as tie
 
-carrier-of-requires : tie.Need-carrier-of-requires
-carrier-of-requires c κs = search needs
-
-end-train-requires : tie.Need-end-train-requires
-end-train-requires c κs = search needs
-
-same-length : tie.Need-same-length
-same-length c = search needs
-
 returns : tie.Need-returns
 unfolding tailOf
 returns c = simp (← c .before .before .before .before .before .before .before .carrier-of .ensures, c .before .before .before .before .before .before .if1 .taken, ← c .before .before .before .before .end-train .ensures)
-
-gone-of-requires : tie.Need-gone-of-requires
-gone-of-requires c κs = search needs
-
-wait-requires : tie.Need-wait-requires
-wait-requires c κs = search needs
-
-same-length-2 : tie.Need-same-length-2
-same-length-2 c = search needs
 
 returns-2 : tie.Need-returns-2
 unfolding tailOf
@@ -37,13 +19,5 @@ returns-3 c = simp (← c .before .before .before .carrier-of .ensures, c .befor
 pub tail-spec : {M : Type 1} → statement M
 tail-spec =
     tie.close
-    (tie.spec
-    carrier-of-requires
-    end-train-requires
-    same-length
-    returns
-    gone-of-requires
-    wait-requires
-    same-length-2
-    returns-2
+    (tie.spec (search needs) (search needs) (search needs) returns (search needs) (search needs) (search needs) returns-2
     returns-3)

@@ -4,18 +4,6 @@ use borrow.Author.Needs.{needs}
 use Rattle.stages.proofs.wait.Statement.{statement}
 use Rattle.stages.proofs.wait.Tie as tie
 
-has-pulses-requires : tie.Need-has-pulses-requires
-has-pulses-requires c κs = search needs
-
-gap-over-requires : tie.Need-gap-over-requires
-gap-over-requires c κs = search needs
-
-end-train-requires : tie.Need-end-train-requires
-end-train-requires c κs = search needs
-
-same-length : tie.Need-same-length
-same-length c = search needs
-
 returns : tie.Need-returns
 unfolding waitOf
 returns c = simp (← c .before .before .before .before .before .before .before .before .before .has-pulses .ensures, c .before .before .before .before .before .before .before .before .if1 .taken, ← c .before .before .before .before .before .before .before .gap-over .ensures, c .before .before .before .before .before .before .if2 .taken, ← c .before .before .before .before .end-train .ensures)
@@ -23,9 +11,6 @@ returns c = simp (← c .before .before .before .before .before .before .before 
 returns-2 : tie.Need-returns-2
 unfolding waitOf
 returns-2 c = simp (← c .before .before .before .has-pulses .ensures, c .before .before .if1 .taken, ← c .before .gap-over .ensures, c .if2 .left)
-
-limit-requires : tie.Need-limit-requires
-limit-requires c κs = search needs
 
 returns-3 : tie.Need-returns-3
 unfolding waitOf
@@ -38,13 +23,5 @@ returns-4 c = simp (← c .before .before .before .has-pulses .ensures, c .befor
 pub wait-spec : {M : Type 1} → statement M
 wait-spec =
     tie.close
-    (tie.spec
-    has-pulses-requires
-    gap-over-requires
-    end-train-requires
-    same-length
-    returns
-    returns-2
-    limit-requires
-    returns-3
+    (tie.spec (search needs) (search needs) (search needs) (search needs) returns returns-2 (search needs) returns-3
     returns-4)

@@ -1,24 +1,17 @@
--- `turns::turn` meets its contract: the text has room for the parts of whatever call is made. Assumes nothing.
-use native.Mathlib.Omega.{arith}
-use Rattle.turns.specs.Laws.{turn-room, turn-made}
+use Rattle.turns.specs.Laws.{room-shown}
+use Rattle.turns.proofs.Taken.{turn-made}
 use borrow.Author.Needs.{needs}
 use Rattle.turns.proofs.turn.Statement.{statement}
 use Rattle.turns.proofs.turn.Tie as tie
 
+pass-requires : tie.Need-pass-requires
+pass-requires c κs = let start = c .before .before .before .before .before .before in (start .pre .0, start .pre .1, start .pre .2)
+
 put-answer-requires : tie.Need-put-answer-requires
-put-answer-requires c κs =
-    let s = c .before .before .before .before .before .before .before .before .before .before .before .before .before .before .before .before .before .before in
-    let call = c .before .before .before .before .before .before .before .before .before .before .call in
-    turn-room _ (s .args .k) _ _ _ (s .pre .0) (s .pre .1) (call .ensures) (omega (arith, call .kept .1 .1 .0)) (omega (arith, call .kept .1 .1 .1 .0))
+put-answer-requires c κs = room-shown _ _ _ _ (c .before .before .before .before .before .before .before .before .before .before .pass .ensures .shown) (c .before .before .before .before .before .before .before .before .before .before .before .before .before .before .before .before .before .pre .3)
 
 returns : tie.Need-returns
-returns c =
-    let s = c .before .before .before .before .before .before .before .before .before .before .before .before .before .before .before .before .before .before .before .before .before in
-    let call = c .before .before .before .before .before .before .before .before .before .before .before .before .before .call in
-    turn-made _ (s .args .k) _ _ _ _ _ _ _ (s .pre .0) (s .pre .1) (omega (arith, call .kept .1 .1 .0)) (omega (arith, call .kept .1 .1 .1 .0))
-    (c .before .before .before .before .before .before .before .before .before .before .before .before .before .before .before .before .before .size-of .ensures) (c .before .before .before .before .before .before .before .before .before .before .before .before .before .before .before .before .index-of .ensures) (call .ensures) (c .before .before .put-answer .ensures)
+returns c = turn-made _ _ _ _ _ _ _ _ _ (c .before .before .before .before .before .before .before .before .before .before .before .before .before .pass .ensures) (c .before .before .before .before .before .before .before .before .before .before .before .before .before .before .before .before .before .before .before .before .pre .3) (c .before .before .put-answer .ensures)
 
 pub turn-spec : {M : Type 1} → statement M
-turn-spec =
-    tie.close
-    (tie.spec (search needs) (search needs) (search needs) put-answer-requires (search needs) (search needs) (search needs) returns)
+turn-spec = tie.close (tie.spec pass-requires put-answer-requires (search needs) (search needs) (search needs) returns)

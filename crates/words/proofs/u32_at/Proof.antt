@@ -1,16 +1,14 @@
--- `words::u32_at` meets its contract, whichever way the four bytes are read. Assumes nothing.
+-- `words::u32_at` meets its contract: the word of four bytes. Assumes nothing.
+use mathlib.Core.Path.{refl}
+use Rattle.words.proofs.Places.{four-at}
 use borrow.Author.Needs.{needs}
 use Rattle.words.proofs.u32_at.Statement.{statement}
 use Rattle.words.proofs.u32_at.Tie as tie
 
 returns : tie.Need-returns
-returns c = c .part-at .ensures
-
-returns-2 : tie.Need-returns-2
-returns-2 c = c .part-at2 .ensures
-
-returns-3 : tie.Need-returns-3
-returns-3 c = c .word-at .ensures
+returns c = four-at _ _ _ _ _ _ refl refl refl refl refl refl refl refl (c .join .ensures)
 
 pub u32-at-spec : {M : Type 1} → statement M
-u32-at-spec = tie.close (tie.spec (search needs) returns (search needs) (search needs) returns-2 (search needs) returns-3)
+u32-at-spec =
+    tie.close
+    (tie.spec (search needs) (search needs) (search needs) (search needs) (search needs) (search needs) (search needs) (search needs) returns)

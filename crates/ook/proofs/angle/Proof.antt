@@ -1,0 +1,12 @@
+-- `ook::angle` meets its contract: the definition, field by field. Assumes nothing.
+use mathlib.Core.Path.{refl}
+use Rattle.ook.specs.Core.{carrierIn}
+use Rattle.ook.proofs.angle.Statement.{statement}
+use Rattle.ook.proofs.angle.Tie as tie
+
+returns : tie.Need-returns
+unfolding carrierIn
+returns c = refl
+
+pub angle-spec : {M : Type 1} → statement M
+angle-spec = tie.close (tie.spec returns)

@@ -1,0 +1,12 @@
+-- `ook::vector` meets its contract: the definition, field by field. Assumes nothing.
+use mathlib.Core.Path.{refl}
+use Rattle.ook.specs.Core.{carrierIn}
+use Rattle.ook.proofs.vector.Statement.{statement}
+use Rattle.ook.proofs.vector.Tie as tie
+
+returns : tie.Need-returns
+unfolding carrierIn
+returns c = refl
+
+pub vector-spec : {M : Type 1} → statement M
+vector-spec = tie.close (tie.spec returns)

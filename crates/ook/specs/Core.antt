@@ -1,0 +1,38 @@
+-- The records of the core. A caller's record has an enum, the angle or the two sums; in the core a carrier is a number and two
+-- floats, so that a burst is copied without an enum, and it becomes the enum where a record leaves the core.
+use mathlib.Core.Bool.{cond}
+use lib.Dec.{eqb}
+use Rattle.ook.specs.declared.Carrier.{Carrier}
+use Rattle.ook.specs.declared.Carrier.the-variants.{Angle, Vector}
+use Rattle.ook.specs.declared.Flat.{Flat}
+use Rattle.ook.specs.declared.Out.{Out}
+use Rattle.ook.specs.declared.OutCore.{OutCore}
+use Rattle.ook.specs.declared.Ended.{Ended}
+use Rattle.ook.specs.declared.EndedCore.{EndedCore}
+use Rattle.ook.specs.declared.Done.{Done}
+use Rattle.ook.specs.declared.DoneCore.{DoneCore}
+
+-- the enum: 1 an angle, any other number the two sums
+unfoldable pub carrierIn : Flat → Carrier
+carrierIn f = cond (eqb (f .kind) 1) (Angle (f .first)) (Vector (f .first) (f .second))
+
+-- the record that a caller sees
+abbrev pub wholeOut : OutCore → Out
+wholeOut o =
+    record {
+      index = o .index;
+      end = o .end;
+      state = o .state;
+      cut = o .cut;
+      pairs = o .pairs;
+      level = o .level;
+      fsk = o .fsk;
+      carrier = carrierIn (o .carrier);
+    }
+
+-- the same of a train's end, and of a stage that may end it
+abbrev pub wholeEnded : EndedCore → Ended
+wholeEnded e = record { train = e .train; out = wholeOut (e .out) }
+
+abbrev pub wholeDone : DoneCore → Done
+wholeDone d = record { next = d .next; train = d .train; out = wholeOut (d .out) }

@@ -1,0 +1,3 @@
+-- What the proofs of this crate cite.
+mod Taken
+mod Cores
