@@ -31,7 +31,7 @@ const SHRINKING: Duration = Duration::from_secs(20);
 const SHOWN: usize = 60;
 
 /// What a run of streams of every kind must have seen, at the least; one of a single kind sees fewer.
-const LEAST: [(&str, u64); 18] = [
+const LEAST: [(&str, u64); 19] = [
     ("opening", 4000),
     ("begin", 15_000),
     ("step", 2_500_000),
@@ -39,6 +39,7 @@ const LEAST: [(&str, u64); 18] = [
     ("fsk angle", 2000),
     ("fsk vector", 4000),
     ("cut train", 2000),
+    ("end before the index", 20),
     ("NaN in a record", 3),
     ("infinity in a record", 20),
     ("idle", 10_000),

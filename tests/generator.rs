@@ -87,9 +87,9 @@ impl Stream {
             match words[0] {
                 "refused" => self.count(line),
                 "ook" | "fsk" => {
+                    let number = |at: usize| words[at].parse::<u64>().unwrap();
                     let cut = if words[3] == "1" { ", cut" } else { "" };
-                    let pairs = words[words.len().min(if words[6] == "angle" { 8 } else { 9 })];
-                    let pairs = pairs.parse().unwrap();
+                    let pairs = number(if words[6] == "angle" { 8 } else { 9 });
                     let size = match pairs {
                         0 => "no pair",
                         1 => "1 pair",
@@ -101,6 +101,7 @@ impl Stream {
                     let floats = &words[5..words.len().min(9)];
                     for (what, found) in [
                         ("cut train", words[3] == "1"),
+                        ("end before the index", number(2) < number(1)),
                         ("NaN in a record", floats.contains(&"7fc00000")),
                         ("infinity in a record", floats.contains(&"7f800000") || floats.contains(&"ff800000")),
                     ] {

@@ -20,7 +20,7 @@ const FRONT: &str = "ook 11 15 0 4 41000000 vector 40800000 00000000 1 4 0\nidle
 
 /// What the stream and its listing must have, with the least number of each. No list of calls meets refusal 4, refusals 1 and 2
 /// end a stream, and refusal 9 is not a command's.
-const LEAST: [(&str, u64); 24] = [
+const LEAST: [(&str, u64); 27] = [
     ("opening, mode 0", 2),
     ("opening, mode 1", 2),
     ("opening, mode 2", 2),
@@ -35,6 +35,9 @@ const LEAST: [(&str, u64); 24] = [
     ("train of 300 pairs or more", 6),
     ("train of 2,048 pairs", 1),
     ("frame of no pair", 1),
+    ("end before the index", 1),
+    ("span below the sum of the widths", 20),
+    ("span above the sum of the widths", 20),
     ("NaN in a record", 1),
     ("infinity in a record", 1),
     ("idle", 100),
@@ -50,14 +53,19 @@ const LEAST: [(&str, u64); 24] = [
 /// The kinds of a train line, by its words: kind, index, end, cut mark, span, level, carrier, pairs, widths.
 fn train(words: &[&str]) -> Vec<String> {
     let pairs_at = if words[6] == "angle" { 8 } else { 9 };
-    let pairs: u64 = words[pairs_at].parse().unwrap();
+    let number = |at: usize| words[at].parse::<u64>().unwrap();
+    let pairs = number(pairs_at);
     let floats = &words[5..pairs_at];
+    let sum: u64 = (pairs_at + 1..words.len()).map(number).sum();
     let named = [
         ("train", true),
         ("train of 10 pairs or more", pairs >= 10),
         ("train of 300 pairs or more", pairs >= 300),
         ("train of 2,048 pairs", pairs == 2048),
         ("frame of no pair", pairs == 0),
+        ("end before the index", number(2) < number(1)),
+        ("span below the sum of the widths", number(4) < sum),
+        ("span above the sum of the widths", number(4) > sum),
         ("NaN in a record", floats.contains(&"7fc00000")),
         ("infinity in a record", floats.contains(&"7f800000") || floats.contains(&"ff800000")),
     ];

@@ -365,7 +365,7 @@ fn train(out: &mut impl Write, kind: &str, r: &Out, buffer: &[u32]) -> io::Resul
         return Ok(());
     }
     let widths = buffer.get(..2 * r.pairs as usize).unwrap_or_default();
-    let span: u64 = widths.iter().map(|&w| u64::from(w)).sum();
+    let span = r.end.saturating_sub(r.index);
     write!(out, "{kind} {} {} {} {span} {:08x} ", r.index, r.end, r.flags, bits(r.level))?;
     match r.freq {
         Carrier::Angle(a) => write!(out, "angle {:08x}", bits(a))?,

@@ -1,4 +1,5 @@
-//! Document 01's worked bursts M6 to M8 as commands: samples (1, 0), noise 0, factor 1, history 0.
+//! Document 01's worked bursts M6 to M8 as commands: samples (1, 0), noise 0, factor 1, history 0. Beside them bursts of R-2
+//! (document 02), most of whose spans are not the sum of their widths.
 
 #![allow(dead_code)]
 
@@ -9,6 +10,11 @@ pub const M6: [f32; 10] = [0.0, 8.0, 8.0, 8.0, 8.0, 0.0, 0.0, 0.0, 0.0, 0.0];
 pub const M7: [f32; 14] = [0.0, 8.0, 8.0, 8.0, 8.0, 0.0, 8.0, 8.0, 8.0, 0.0, 0.0, 0.0, 0.0, 0.0];
 pub const M8: [f32; 7] = [0.0; 7];
 
+/// a pulse and a carrier after it; two pulses; a frame that ends before its index, in FSK mode with noise 1.
+pub const CARRIED: [f32; 14] = [0.0, 8.0, 8.0, 8.0, 0.0, 0.0, 0.0, 8.0, 8.0, 8.0, 8.0, 8.0, 8.0, 8.0];
+pub const TWO: [f32; 12] = [0.0, 8.0, 8.0, 8.0, 0.0, 0.0, 0.0, 8.0, 8.0, 8.0, 0.0, 0.0];
+pub const BACKWARD: [f32; 7] = [0.0, 0.0, 8.0, 2.0, 0.0, 0.0, 0.0];
+
 /// Their max_pulses.
 pub const MOST: u32 = WORKED.max_pulses;
 
@@ -17,25 +23,34 @@ pub fn opening(max_pulses: u32) -> Vec<u8> {
     Settings { max_pulses, ..WORKED }.command()
 }
 
-fn tick(envelope: f32) -> Tick {
-    Tick { noise: 0.0, envelope, sample: [1.0, 0.0] }
+fn tick(noise: f32, envelope: f32) -> Tick {
+    Tick { noise, envelope, sample: [1.0, 0.0] }
 }
 
 pub fn begin(index: u64, envelope: f32) -> Vec<u8> {
-    begin_command(index, 1.0, &tick(envelope), [1.0, 0.0], &[0.0; 7])
+    begin_command(index, 1.0, &tick(0.0, envelope), [1.0, 0.0], &[0.0; 7])
 }
 
 pub fn step(index: u64, envelope: f32) -> Vec<u8> {
-    step_command(index, &tick(envelope))
+    step_command(index, &tick(0.0, envelope))
 }
 
 /// Begin at the index, and a step for each further envelope.
 pub fn calls(index: u64, envelopes: &[f32]) -> Vec<Vec<u8>> {
-    let steps = (index + 1..).zip(&envelopes[1..]).map(|(i, e)| step(i, *e));
+    noisy_calls(index, 0.0, envelopes)
+}
+
+fn noisy_calls(index: u64, noise: f32, envelopes: &[f32]) -> Vec<Vec<u8>> {
+    let steps = (index + 1..).zip(&envelopes[1..]).map(|(i, e)| step_command(i, &tick(noise, *e)));
     std::iter::once(begin(index, envelopes[0])).chain(steps).collect()
 }
 
 /// The settings, then the envelopes from index 10 on.
 pub fn burst(envelopes: &[f32]) -> Vec<u8> {
-    [opening(MOST), calls(10, envelopes).concat()].concat()
+    burst_by(WORKED, 0.0, envelopes)
+}
+
+/// The same with other settings and noise.
+pub fn burst_by(settings: Settings, noise: f32, envelopes: &[f32]) -> Vec<u8> {
+    [settings.command(), noisy_calls(10, noise, envelopes).concat()].concat()
 }

@@ -1,4 +1,4 @@
-//! Document 01's worked bursts M6 to M8, M10 and the replies that it names, through a listing program.
+//! Document 01's worked bursts M6 to M8, M10 and the replies that it names, and R-2's spans, through a listing program.
 //!
 //!     worked_bursts PROGRAM      compare
 //!     worked_bursts --write      print M6, M7 and M8 as one command stream
@@ -14,7 +14,21 @@ mod verdict;
 mod worked;
 
 use program::printed;
-use worked::{M6, M7, M8, MOST, begin, burst, opening, step};
+use signal::{Settings, WORKED};
+use worked::{BACKWARD, CARRIED, M6, M7, M8, MOST, TWO, begin, burst, burst_by, opening, step};
+
+/// span is end minus index, or 0 if end is smaller, whatever the widths add up to. A cut train ends with the pulse that did
+/// not fit.
+fn spans() -> Vec<(&'static str, Vec<u8>, &'static str)> {
+    let carried = burst_by(Settings { long_steps: 6, ..WORKED }, 0.0, &CARRIED);
+    let cut = burst_by(Settings { max_pulses: 1, ..WORKED }, 0.0, &TWO);
+    let backward = burst_by(Settings { mode: 1, ..WORKED }, 1.0, &BACKWARD);
+    vec![
+        ("a carrier", carried, "ook 11 14 0 3 41000000 vector 40400000 00000000 1 3 3\ncarrier 23 41000000\n"),
+        ("a cut train", cut, "ook 11 20 1 9 41000000 vector 40400000 00000000 1 3 3\nidle 21\n"),
+        ("an end before the index", backward, "fsk 11 10 0 0 41000000 vector 00000000 00000000 0\nidle 16\n"),
+    ]
+}
 
 /// Each name with its commands and what the program must print.
 fn table() -> Vec<(&'static str, Vec<u8>, &'static str)> {
@@ -43,7 +57,7 @@ fn table() -> Vec<(&'static str, Vec<u8>, &'static str)> {
 }
 
 fn run(program: &str) -> Result<String, String> {
-    let rows = table();
+    let rows = [table(), spans()].concat();
     for (name, input, expected) in &rows {
         let got = printed(program, input).map_err(|e| format!("{name}: {e}"))?;
         if got != expected.as_bytes() {
@@ -51,7 +65,7 @@ fn run(program: &str) -> Result<String, String> {
             return Err(format!("{name}: {program} prints\n{got}expected\n{expected}"));
         }
     }
-    Ok(format!("{} inputs print document 01's lines", rows.len()))
+    Ok(format!("{} inputs print the documents' lines", rows.len()))
 }
 
 fn main() -> ExitCode {

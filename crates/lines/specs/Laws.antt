@@ -12,7 +12,7 @@ use lib.Dec.{ltb}
 use borrow.Author.Tests.{lt-ltb}
 use Rattle.lines.specs.declared.Written.{Written}
 use Rattle.lines.specs.declared.Written.the-variants.{At, NoRoom}
-use Rattle.lines.specs.Line.{Spelled, leading, decimal, number, widths, span, put, Put}
+use Rattle.lines.specs.Line.{Spelled, leading, decimal, number, widths, put, Put}
 
 -- ---- put
 
@@ -111,15 +111,7 @@ pub written-in : {w s t : List ℕ} {m at e : ℕ} (b : Bool) → b ≡ true →
 unfolding put
 written-in b q p = simp q (ap (λ (x : ℕ × List ℕ). (At (x .0), x .1)) (p .text))
 
--- ---- the widths and their sum
-
-pub span-turn : (ws : List ℕ) (i sum w : ℕ) → i < length ws → w ≡ getD ws i 0 → sum + w + span (drop (i + 1) ws) ≡ sum + span (drop i ws)
-unfolding span
-span-turn ws i sum w h e = simp (e, add-one, drop-cons ws i 0 h, add-assoc)
-
-pub span-end : (ws : List ℕ) (i sum : ℕ) → length ws ≤ i → sum ≡ sum + span (drop i ws)
-unfolding span
-span-end ws i sum h = simp (drop-of-length-le ws h, add-zero)
+-- ---- the widths
 
 pub widths-turn : (ws t u : List ℕ) (i a b w m : ℕ) → i < length ws → w ≡ getD ws i 0 → Put (number w) m a t b u
     → put (widths (drop (i + 1) ws)) (b, u) ≡ put (widths (drop i ws)) (a, t)

@@ -68,24 +68,23 @@ unfoldable pub widths : List ℕ → List ℕ
 widths [] = []
 widths (w ∷ ws) = number w ++ widths ws
 
--- the sum of the printed widths
-unfoldable pub span : List ℕ → ℕ
-span [] = 0
-span (w ∷ ws) = w + span ws
+-- the span of a train by its index and end (document 02, R-2): end minus index, or 0 if end is smaller
+abbrev pub spanOf : ℕ → ℕ → ℕ
+spanOf index end = cond (ltb end index) 0 (end - index)
 
 -- ---- lines
 
 -- kind, index, end, cut mark, span
 abbrev pub trainHead : Out → ℕ → List ℕ
-trainHead o sum = kind (o .fsk) ++ (number (o .index) ++ (number (o .end) ++ (number (o .cut) ++ number sum)))
+trainHead o span = kind (o .fsk) ++ (number (o .index) ++ (number (o .end) ++ (number (o .cut) ++ number span)))
 
 -- level bits, carrier, pairs, then all widths
 abbrev pub trainTail : Out → List ℕ → List ℕ
 trainTail o ws = float (o .level) ++ (carrier (o .carrier) ++ (number (o .pairs) ++ (widths ws ++ (10 ∷ []))))
 
 unfoldable pub trainLine : Out → List ℕ → List ℕ
-unfolding widths span
-trainLine o ws = trainHead o (span ws) ++ trainTail o ws
+unfolding widths
+trainLine o ws = trainHead o (spanOf (o .index) (o .end)) ++ trainTail o ws
 
 -- a record has a line where it decides a train
 unfoldable pub recordLine : Out → List ℕ → List ℕ

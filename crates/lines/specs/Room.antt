@@ -13,7 +13,7 @@ use Rattle.ook.specs.declared.Carrier.{Carrier}
 use Rattle.ook.specs.declared.Carrier.the-variants.{Angle, Vector}
 use Rattle.lane.specs.declared.Reply.{Reply}
 use Rattle.lane.specs.declared.Reply.the-variants.{Refused, Stay, Idle, IdleAt}
-use Rattle.lines.specs.Line.{hex8, number, float, carrier, widths, span, trainHead, trainTail, trainLine, recordLine, idleLine, carrierLine, refusedLine, callText, maxSlots, trainRoom, callRoom, largerOf, hasRoom}
+use Rattle.lines.specs.Line.{hex8, number, float, carrier, widths, trainHead, trainTail, trainLine, recordLine, idleLine, carrierLine, refusedLine, callText, maxSlots, trainRoom, callRoom, largerOf, hasRoom}
 use Rattle.lines.specs.Laws.{length-decimal}
 
 -- ---- lengths
@@ -35,20 +35,23 @@ unfolding widths
 length-widths [] = omega arith
 length-widths (w ∷ ws) = omega (arith, length-append (number w) (widths ws), length-decimal w, length-widths ws)
 
-length-head : (o : Out) (sum : ℕ) → length (trainHead o sum) ≤ 87
-length-head o sum =
+length-head : (o : Out) (span : ℕ) → length (trainHead o span) ≤ 87
+length-head o span =
     simp length-append
-    (omega (arith, length-kind (eqb (o .fsk) 1), length-decimal (o .index), length-decimal (o .end), length-decimal (o .cut), length-decimal sum))
+    (omega (arith, length-kind (eqb (o .fsk) 1), length-decimal (o .index), length-decimal (o .end), length-decimal (o .cut), length-decimal span))
 
 length-tail : (o : Out) (ws : List ℕ) → length (trainTail o ws) ≤ 73 + 21 * length ws
 length-tail o ws =
     simp length-append
     (omega (arith, length-float (o .level), length-carrier (o .carrier), length-decimal (o .pairs), length-widths ws))
 
+length-joined : (o : Out) (span : ℕ) (ws : List ℕ) → length (trainHead o span ++ trainTail o ws) ≤ trainRoom (length ws)
+length-joined o span ws =
+    omega (arith, length-append (trainHead o span) (trainTail o ws), length-head o span, length-tail o ws)
+
 length-train : (o : Out) (ws : List ℕ) → length (trainLine o ws) ≤ trainRoom (length ws)
 unfolding trainLine
-length-train o ws =
-    omega (arith, length-append (trainHead o (span ws)) (trainTail o ws), length-head o (span ws), length-tail o ws)
+length-train o ws = length-joined o _ ws
 
 length-record : (o : Out) (ws : List ℕ) → length (recordLine o ws) ≤ trainRoom (length ws)
 unfolding recordLine
@@ -107,11 +110,5 @@ larger-right n m = go (ltb n m) refl
     go false q = ltb-false n m q
 
 -- what call_lines needs of its text
-pub parts-fit : (n m len at : ℕ) → hasRoom (largerOf n m) len at ≡ true
-    → (n ≤ maxSlots) × (m ≤ maxSlots) × (at + (trainRoom n + trainRoom m + 48) ≤ len)
-parts-fit n m len at e =
-    let h = room-there (largerOf n m) len at e in (
-      omega (arith, h .0, larger-left n m),
-      omega (arith, h .0, larger-right n m),
-      omega (arith, h .1, larger-left n m, larger-right n m),
-    )
+pub parts-fit : (n m len at : ℕ) → hasRoom (largerOf n m) len at ≡ true → at + (trainRoom n + trainRoom m + 48) ≤ len
+parts-fit n m len at e = omega (arith, room-there (largerOf n m) len at e .1, larger-left n m, larger-right n m)

@@ -3,7 +3,7 @@ ghost use mathlib.Core.Path.{_≡_};
 ghost use mathlib.Core.List.{List, [], _∷_, _++_};
 ghost use Prim.Native.Nat.{ℕ, _+_, _*_, _≤_, _<_};
 ghost use lib.ListN.{length};
-ghost use Rattle.lines.specs.Line.{decimal, number, float, kind, carrier, widths, span, trainHead, trainTail, trainLine, recordLine, idleLine, carrierLine, refusedLine, callText, maxSlots, trainRoom, largerOf, hasRoom, writtenCall, Put, Spelled};
+ghost use Rattle.lines.specs.Line.{decimal, number, float, kind, carrier, widths, spanOf, trainHead, trainTail, trainLine, recordLine, idleLine, carrierLine, refusedLine, callText, trainRoom, largerOf, hasRoom, writtenCall, Put, Spelled};
 ghost use Rattle.lines.specs.Line.{glyph as Line·glyph};
 ghost use Rattle.ook.specs.declared.Carrier.the-variants as Carrier;
 use lane::Reply;
@@ -107,23 +107,19 @@ fn put_float(x: f32, text: &mut [u8], at: usize) -> usize
 // ---- a train line
 
 fn wide(x: u32) -> u64
-    ensures { λ r. ⌜ (r ≡ x) × (r < 0x1_0000_0000) ⌝ }
+    ensures { λ r. ⌜ r ≡ x ⌝ }
 {
     x as u64
 }
 
-// The sum of the widths, which a part's slots cannot take past 2^49.
-fn span_of(part: &[u32]) -> u64
-    requires { ⌜ length (now part) ≤ maxSlots ⌝ }
-    ensures { λ r. ⌜ r ≡ span (now (part .entry)) ⌝ }
+// The time from a train's index to its end: 0 where the end is the smaller one.
+fn span(index: u64, end: u64) -> u64
+    ensures { λ r. ⌜ r ≡ spanOf index end ⌝ }
 {
-    let mut sum: u64 = 0;
-    let mut i = 0;
-    while i < part.len() {
-        sum += wide(part[i]);
-        i += 1;
+    if end < index {
+        return 0;
     }
-    sum
+    end - index
 }
 
 // All widths, each after a space.
@@ -179,15 +175,15 @@ fn put_carrier(k: Carrier, text: &mut [u8], at: usize) -> usize
 }
 
 // Kind, index, end, cut mark, span.
-fn put_head(o: Out, sum: u64, text: &mut [u8], at: usize) -> usize
+fn put_head(o: Out, span: u64, text: &mut [u8], at: usize) -> usize
     requires { ⌜ at + 87 ≤ length (now text) ⌝ }
-    ensures { λ r. ⌜ Put (trainHead o sum) 87 at (now (text .entry)) r (now (text .exit)) ⌝ }
+    ensures { λ r. ⌜ Put (trainHead o span) 87 at (now (text .entry)) r (now (text .exit)) ⌝ }
 {
     let a = put_kind(o.fsk, text, at);
     let b = put_number(o.index, text, a);
     let c = put_number(o.end, text, b);
     let d = put_number(o.cut as u64, text, c);
-    put_number(sum, text, d)
+    put_number(span, text, d)
 }
 
 // Level bits, carrier, pairs, widths.
@@ -204,17 +200,17 @@ fn put_tail(o: Out, part: &[u32], text: &mut [u8], at: usize) -> usize
 }
 
 fn put_train(o: Out, part: &[u32], text: &mut [u8], at: usize) -> usize
-    requires { ⌜ (length (now part) ≤ maxSlots) × (at + trainRoom (length (now part)) ≤ length (now text)) ⌝ }
+    requires { ⌜ at + trainRoom (length (now part)) ≤ length (now text) ⌝ }
     ensures { λ r. ⌜ Put (trainLine o (now (part .entry))) (trainRoom (length (now (part .entry)))) at (now (text .entry)) r (now (text .exit)) ⌝ }
 {
-    let sum = span_of(part);
-    let a = put_head(o, sum, text, at);
+    let s = span(o.index, o.end);
+    let a = put_head(o, s, text, at);
     put_tail(o, part, text, a)
 }
 
 // A record's line, if it decides a train.
 fn put_record(o: Out, part: &[u32], text: &mut [u8], at: usize) -> usize
-    requires { ⌜ (length (now part) ≤ maxSlots) × (at + trainRoom (length (now part)) ≤ length (now text)) ⌝ }
+    requires { ⌜ at + trainRoom (length (now part)) ≤ length (now text) ⌝ }
     ensures { λ r. ⌜ Put (recordLine o (now (part .entry))) (trainRoom (length (now (part .entry)))) at (now (text .entry)) r (now (text .exit)) ⌝ }
 {
     let decides = o.state == 1;
@@ -226,7 +222,7 @@ fn put_record(o: Out, part: &[u32], text: &mut [u8], at: usize) -> usize
 
 // First `fsk`, then `ook`.
 fn put_records(f: Out, fs: &[u32], o: Out, os: &[u32], text: &mut [u8], at: usize) -> usize
-    requires { ⌜ (length (now fs) ≤ maxSlots) × (length (now os) ≤ maxSlots) × (at + (trainRoom (length (now fs)) + trainRoom (length (now os))) ≤ length (now text)) ⌝ }
+    requires { ⌜ at + (trainRoom (length (now fs)) + trainRoom (length (now os))) ≤ length (now text) ⌝ }
     ensures { λ r. ⌜ Put (recordLine f (now (fs .entry)) ++ recordLine o (now (os .entry))) (trainRoom (length (now (fs .entry))) + trainRoom (length (now (os .entry)))) at (now (text .entry)) r (now (text .exit)) ⌝ }
 {
     let a = put_record(f, fs, text, at);
@@ -274,7 +270,7 @@ fn put_call(
     text: &mut [u8],
     at: usize,
 ) -> usize
-    requires { ⌜ (length (now fs) ≤ maxSlots) × (length (now os) ≤ maxSlots) × (at + (trainRoom (length (now fs)) + trainRoom (length (now os)) + 48) ≤ length (now text)) ⌝ }
+    requires { ⌜ at + (trainRoom (length (now fs)) + trainRoom (length (now os)) + 48) ≤ length (now text) ⌝ }
     ensures { λ e. ⌜ Put (callText r (recordLine f (now (fs .entry)) ++ recordLine o (now (os .entry))) index) (trainRoom (length (now (fs .entry))) + trainRoom (length (now (os .entry))) + 48) at (now (text .entry)) e (now (text .exit)) ⌝ }
 {
     match r {

@@ -1,4 +1,4 @@
--- Document 01, "Worked bursts", M6 to M8 and M10: the commands go in as bytes, and the answer is what the listing program prints of them, from the lane
+-- Document 01, "Worked bursts", M6 to M8 and M10, and bursts of document 02's R-2: the commands go in as bytes, and the answer is what the listing program prints of them, from the lane
 -- that never had settings on. The settings are OOK, 2, 4, 4, 1000, 4, alpha 0.5, gap_ratio 100, others 0; index from 10, noise 0, factor 1, history 0,
 -- samples (1, 0).
 use Prim.Native.Nat.{ℕ, _+_}
@@ -30,16 +30,20 @@ use Rattle.lane.specs.Refusals.{openedOk, laneOk, historyOk, beginFloatsOk, ste
 use Rattle.lane.specs.Step.{newLane, opened, begun, stepped}
 use Rattle.words.specs.Words.{u32At, u64At, encode}
 use Rattle.commands.specs.Command.{settingsOf, historyOf as historyBytes, beginArgsOf, stepArgsOf, decoded}
-use Rattle.lines.specs.Line.{leading, decimal, hex8, widths, span, trainLine, recordLine, idleLine, carrierLine, refusedLine, callText}
+use Rattle.lines.specs.Line.{leading, decimal, hex8, widths, trainLine, recordLine, idleLine, carrierLine, refusedLine, callText}
 use Rattle.turns.specs.Turn.{called, answerText}
 use Rattle.turns.specs.Stream.{listed, listing}
 
 abbrev float1 : ℕ
 float1 = 0x3f80_0000
 
--- command 01 with this max_pulses: numbers of four bytes each, a float by its bit pattern
+-- command 01 with this long_steps and max_pulses: numbers of four bytes each, a float by its bit pattern
+abbrev openBy : ℕ → ℕ → List ℕ
+openBy long max = 1 ∷ 0 ∷ encode (2 ∷ 4 ∷ 4 ∷ long ∷ max ∷ 0x3f00_0000 ∷ 0x42c8_0000 ∷ 0 ∷ 0 ∷ [])
+
+-- with this max_pulses
 abbrev pub openWith : ℕ → List ℕ
-openWith max = 1 ∷ 0 ∷ encode (2 ∷ 4 ∷ 4 ∷ 1000 ∷ max ∷ 0x3f00_0000 ∷ 0x42c8_0000 ∷ 0 ∷ 0 ∷ [])
+openWith max = openBy 1000 max
 
 -- command 02 at index 10
 abbrev beginWith : ℕ → List ℕ
@@ -51,10 +55,14 @@ stepsWith i [] = []
 stepsWith i (e ∷ es) = 3 ∷ (encode (i ∷ 0 ∷ 0 ∷ e ∷ float1 ∷ 0 ∷ []) ++ stepsWith (i + 1) es)
 
 -- an opening, begin with the first envelope, and a step for each of the others
+abbrev pub burstBy : ℕ → ℕ → ℕ → List ℕ → List ℕ
+burstBy long max e es = openBy long max ++ (beginWith e ++ stepsWith 11 es)
+
+-- with the settings of M6 to M8
 abbrev pub burstWith : ℕ → List ℕ → List ℕ
-burstWith e es = openWith 4 ++ (beginWith e ++ stepsWith 11 es)
+burstWith e es = burstBy 1000 4 e es
 
 -- what is printed of commands, with the program's buffers
 unfoldable pub printed : List ℕ → List ℕ
-unfolding listed listing called answerText decoded settingsOf beginArgsOf stepArgsOf historyBytes u32At u64At encode callText recordLine trainLine widths span idleLine carrierLine refusedLine decimal leading hex8 snapOf nearStartOf roundOf narrowOf wholeRoot roundExact exactOf sqrtOf absOf midpointOf flushOf crossOf nearestIn satAddOf inc refineLevelOf refineLoOf excessOf splitFrom refineInOf refineOf lengthenOf rejoinOf beginRunOf beginsOf advanceRunOf zeroIf pacRunOf beginEnvOf pushPulseOf closeGapOf emptyTrainOf finishOf endTrainOf pulseDoneOf gapRatioExceededOf dueOf confirmIf riseOf fallOf confirmOf actOf thresholdOf onOf refineDueOf highOf pacOf seeOf carrierOf goneOf hasPulsesOf gapOverOf waitOf tailOf leadAddOf largestFrom beginBurstOf leadAtOf replayFrom replayOf leadFullOf snapIfOf lastOf restOf sampleOf settingsOk unsetOk firstFailed frameOk burstOk leadOk candOk settleOf fillOf replayStep leadStep burstStep advanceOf replyOf phaseOf historyOf beginLeadOf clearedOf leadLane noBurst idleLane front partOf openedOk laneOk historyOk beginFloatsOk stepFloatsOk followsOf beginRefusal stepRefusal newLane opened begun stepped add sub mul div neg lt le eq ofBits toBits ofInt toUnsigned isNan
+unfolding listed listing called answerText decoded settingsOf beginArgsOf stepArgsOf historyBytes u32At u64At encode callText recordLine trainLine widths idleLine carrierLine refusedLine decimal leading hex8 snapOf nearStartOf roundOf narrowOf wholeRoot roundExact exactOf sqrtOf absOf midpointOf flushOf crossOf nearestIn satAddOf inc refineLevelOf refineLoOf excessOf splitFrom refineInOf refineOf lengthenOf rejoinOf beginRunOf beginsOf advanceRunOf zeroIf pacRunOf beginEnvOf pushPulseOf closeGapOf emptyTrainOf finishOf endTrainOf pulseDoneOf gapRatioExceededOf dueOf confirmIf riseOf fallOf confirmOf actOf thresholdOf onOf refineDueOf highOf pacOf seeOf carrierOf goneOf hasPulsesOf gapOverOf waitOf tailOf leadAddOf largestFrom beginBurstOf leadAtOf replayFrom replayOf leadFullOf snapIfOf lastOf restOf sampleOf settingsOk unsetOk firstFailed frameOk burstOk leadOk candOk settleOf fillOf replayStep leadStep burstStep advanceOf replyOf phaseOf historyOf beginLeadOf clearedOf leadLane noBurst idleLane front partOf openedOk laneOk historyOk beginFloatsOk stepFloatsOk followsOf beginRefusal stepRefusal newLane opened begun stepped add sub mul div neg lt le eq ofBits toBits ofInt toUnsigned isNan
 printed commands = listing (newLane, replicate 4096 0, replicate 4096 0) commands

@@ -1,4 +1,4 @@
--- Document 01, "Worked bursts": the examples M1 to M10 as one table. A row has a question and the numbers that the paper gives for it.
+-- Document 01, "Worked bursts": the examples M1 to M10 as one table, with bursts of document 02's R-2. A row has a question and the numbers that the paper gives for it.
 -- A question of a further kind is a constructor of `Asked` and a clause of `answer`.
 use Prim.Native.Nat.{ℕ}
 use mathlib.Core.Path.{_≡_}
@@ -9,7 +9,7 @@ use Rattle.arith.specs.Root.{sqrtOf}
 use Rattle.arith.specs.Leaves.{crossOf, gainOf, leadLenOf, nearestIn}
 use Rattle.grid.specs.Slots.{timeOf, lastRiseBelow, lastRise, times, upTo, transitionsOf, fold}
 use Rattle.grid.specs.Widths.{shorterOf, runsStep, runsOf, addedOf, meanAfter, meanStep, meanOf, gridOf, measuredOf, widthsOn, fskWidthsOf}
-use Rattle.worked.specs.Bursts.{openWith, burstWith, printed}
+use Rattle.worked.specs.Bursts.{openWith, burstWith, burstBy, printed}
 
 -- a float is its bit pattern
 pub data Asked : Type 0 where
@@ -19,7 +19,7 @@ pub data Asked : Type 0 where
   a-gain : ℕ → Asked
   lead-len : ℕ → Asked
   fsk-widths : List ℕ → Asked
-  -- the bytes of commands (M6 to M8, M10): the answer is the text that the listing program prints
+  -- the bytes of commands (M6 to M8, M10, R-2): the answer is the text that the listing program prints
   commands : List ℕ → Asked
 
 abbrev one : ℕ → List ℕ
@@ -93,6 +93,21 @@ table =
     -- M8: all 0: only `idle 16`
     ∷ row (commands (burstWith 0 (0 ∷ 0 ∷ 0 ∷ 0 ∷ 0 ∷ 0 ∷ [])))
     (105 ∷ 100 ∷ 108 ∷ 101 ∷ 32 ∷ 49 ∷ 54 ∷ 10 ∷ [])
+    -- R-2, a train ended by a carrier: M6's settings but long_steps 6; 0, three 8s, three 0s, seven 8s:
+    --   ook 11 14 0 3 41000000 vector 40400000 00000000 1 3 3
+    --   carrier 23 41000000
+    ∷ row (commands (burstBy 6 4 0 (eight ∷ eight ∷ eight ∷ 0 ∷ 0 ∷ 0 ∷ eight ∷ eight ∷ eight ∷ eight ∷ eight ∷ eight ∷ eight ∷ [])))
+    (111 ∷ 111 ∷ 107 ∷ 32 ∷ 49 ∷ 49 ∷ 32 ∷ 49 ∷ 52 ∷ 32 ∷ 48 ∷ 32 ∷ 51 ∷ 32 ∷ 52 ∷ 49 ∷ 48 ∷ 48 ∷ 48 ∷ 48 ∷ 48
+    ∷ 48 ∷ 32 ∷ 118 ∷ 101 ∷ 99 ∷ 116 ∷ 111 ∷ 114 ∷ 32 ∷ 52 ∷ 48 ∷ 52 ∷ 48 ∷ 48 ∷ 48 ∷ 48 ∷ 48 ∷ 32 ∷ 48 ∷ 48 ∷ 48
+    ∷ 48 ∷ 48 ∷ 48 ∷ 48 ∷ 48 ∷ 32 ∷ 49 ∷ 32 ∷ 51 ∷ 32 ∷ 51 ∷ 10 ∷ 99 ∷ 97 ∷ 114 ∷ 114 ∷ 105 ∷ 101 ∷ 114 ∷ 32 ∷ 50
+    ∷ 51 ∷ 32 ∷ 52 ∷ 49 ∷ 48 ∷ 48 ∷ 48 ∷ 48 ∷ 48 ∷ 48 ∷ 10 ∷ [])
+    -- R-2, a cut train: M6's settings but max_pulses 1; 0, three 8s, three 0s, three 8s, two 0s:
+    --   ook 11 20 1 9 41000000 vector 40400000 00000000 1 3 3
+    --   idle 21
+    ∷ row (commands (burstBy 1000 1 0 (eight ∷ eight ∷ eight ∷ 0 ∷ 0 ∷ 0 ∷ eight ∷ eight ∷ eight ∷ 0 ∷ 0 ∷ [])))
+    (111 ∷ 111 ∷ 107 ∷ 32 ∷ 49 ∷ 49 ∷ 32 ∷ 50 ∷ 48 ∷ 32 ∷ 49 ∷ 32 ∷ 57 ∷ 32 ∷ 52 ∷ 49 ∷ 48 ∷ 48 ∷ 48 ∷ 48 ∷ 48
+    ∷ 48 ∷ 32 ∷ 118 ∷ 101 ∷ 99 ∷ 116 ∷ 111 ∷ 114 ∷ 32 ∷ 52 ∷ 48 ∷ 52 ∷ 48 ∷ 48 ∷ 48 ∷ 48 ∷ 48 ∷ 32 ∷ 48 ∷ 48 ∷ 48
+    ∷ 48 ∷ 48 ∷ 48 ∷ 48 ∷ 48 ∷ 32 ∷ 49 ∷ 32 ∷ 51 ∷ 32 ∷ 51 ∷ 10 ∷ 105 ∷ 100 ∷ 108 ∷ 101 ∷ 32 ∷ 50 ∷ 49 ∷ 10 ∷ [])
     -- M9: slots 64, 0 give 1, 0; slots 128, 192 give 2, 1; the empty list stays empty
     ∷ row (fsk-widths (64 ∷ 0 ∷ [])) (1 ∷ 0 ∷ [])
     ∷ row (fsk-widths (128 ∷ 192 ∷ [])) (2 ∷ 1 ∷ [])

@@ -14,7 +14,7 @@ unfolding trainLine
 returns c =
     let a = c .before .before .before .before .before .before .before .before .before .before .before .args in
     within (160 + 21 * length (a .part .now)) (omega arith)
-    (same (ap (λ (s : ℕ). trainHead (a .o) s ++ trainTail (a .o) (a .part .now)) (c .before .before .before .before .before .before .before .before .span-of .ensures))
+    (same (ap (λ (s : ℕ). trainHead (a .o) s ++ trainTail (a .o) (a .part .now)) (c .before .before .before .before .before .before .before .before .span .ensures))
     (then (c .before .before .before .before .before .before .put-head .ensures)
     (c .before .before .put-tail .ensures)))
 

@@ -22,7 +22,7 @@ loop-again : tie.Need-loop-again Inv-loop μ-loop
 loop-again c =
     let l = c .before .before .before .before .before .before .before .loop in
     let a = c .before .before .before .before .before .before .before .before .before .before .args in
-    (widths-turn (a .part .now) (l .text) _ (l .i) (l .a) _ _ 21 (omega arith) (c .before .before .before .before .wide .ensures .0) (c .before .before .put-number .ensures) ∙ l .inv .0, search needs, search needs, search needs)
+    (widths-turn (a .part .now) (l .text) _ (l .i) (l .a) _ _ 21 (omega arith) (c .before .before .before .before .wide .ensures) (c .before .before .put-number .ensures) ∙ l .inv .0, search needs, search needs, search needs)
 
 returns : tie.Need-returns Inv-loop μ-loop
 returns c =
