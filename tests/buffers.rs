@@ -1,7 +1,8 @@
 //! The two pulse buffers, whole, after every call of seeded command streams: as `lane_buffers` and `lane_buffers_lent` of
 //! target/staticlib/libbuffers.a leave them, which make the calls of a list of commands from the lane that never had settings,
 //! a step by value or on the lane lent for change, and as the reference does.
-//! The buffers hold any numbers before the first call; some are too short for the settings, and longer than they need.
+//! The buffers hold any numbers before the first call; some are too short for the settings, and longer than they need. The openings
+//! of every second stream are commands 01 and 04, those of the others 01 alone.
 //!
 //!     buffers [--streams N] [--calls N] [--first SEED]
 //!     buffers --long SLOTS [--first SEED]      bursts that fill 65,536 pairs and that pass them, in buffers of so many slots, instead;
@@ -17,7 +18,7 @@ mod receiver;
 mod signal;
 mod verdict;
 
-use generator::stream;
+use generator::{carried, stream};
 use long::Long;
 use random::Random;
 use receiver::{Receiver, Reply};
@@ -29,9 +30,11 @@ const TEXT: usize = 1 << 24;
 /// The most pairs of a train.
 const PAIRS_MOST: u64 = 65_536;
 
-/// What a run must have compared, at the least: after how many calls, and after how many that left a slot other than it was.
-const LEAST: [(&str, u64); 2] = [("calls", 100_000), ("calls that write", 3000)];
-const LEAST_LONG: [(&str, u64); 2] = [("calls", 10), ("calls that write", 10)];
+/// What a run must have compared, at the least: after how many calls, and after how many that left a slot other than it was; and
+/// trains in carry mode.
+const LEAST: [(&str, u64); 4] =
+    [("calls", 100_000), ("calls that write", 3000), ("carry train", 60), ("carry train with other widths", 10)];
+const LEAST_LONG: [(&str, u64); 3] = [("calls", 10), ("calls that write", 10), ("carry train with other widths", 1)];
 
 unsafe extern "C" {
     fn lane_buffers(
@@ -135,6 +138,7 @@ impl Case {
             if stops(n, &reply) {
                 let front = if reply.ends() { &self.commands[..] } else { &self.commands[..taken] };
                 self.compared(front, taken, &receiver, run)?;
+                run.carried(&receiver, &reply);
             }
             if reply.ends() {
                 break;
@@ -161,6 +165,13 @@ impl Run {
         *self.census.entry(what.to_string()).or_default() += n;
     }
 
+    /// Counts the trains of a call in carry mode.
+    fn carried(&mut self, receiver: &Receiver, reply: &Reply) {
+        if !matches!(reply, Reply::Refused(_)) {
+            receiver.carried().into_iter().for_each(|kind| self.count(kind, 1));
+        }
+    }
+
     fn ended(&self, least: &[(&str, u64)]) -> Result<String, String> {
         let figures = format!("both buffers equal, by value and by lending, after {}", verdict::words(&self.census));
         at_least(&self.census, least).map_err(|e| format!("{figures}\n{e}"))?;
@@ -173,7 +184,8 @@ fn seeded(streams: u64, calls: u64, first: u64) -> Result<String, String> {
     for seed in first..first + streams {
         let mut r = Random::new(!seed);
         let start = [any_buffer(&mut r), any_buffer(&mut r)];
-        let case = Case { commands: stream(seed, calls, None).bytes, start };
+        let s = if seed % 2 == 0 { carried(seed, calls, None) } else { stream(seed, calls, None) };
+        let case = Case { commands: s.bytes, start };
         case.followed(calls, |_, _| true, &mut run).map_err(|e| format!("seed {seed}, {e}"))?;
         run.count("streams", 1);
     }
@@ -196,10 +208,11 @@ fn long_burst(burst: &Long, slots: usize, seed: u64, run: &mut Run) -> Result<()
 /// The bursts that are tried: fewer where the buffers are longer than any train.
 fn bursts(slots: usize) -> Vec<Long> {
     let [_, full, over, frame, frame_over, _, auto_over, auto_frame_over, both] = long::filling(PAIRS_MOST);
+    let [carry_full, carry_over, ..] = long::carrying(PAIRS_MOST);
     if slots as u64 > 2 * PAIRS_MOST {
-        return vec![over, frame];
+        return vec![over, frame, carry_full];
     }
-    vec![full, over, frame, frame_over, auto_over, auto_frame_over, both]
+    vec![full, over, frame, frame_over, auto_over, auto_frame_over, both, carry_over]
 }
 
 fn long_bursts(slots: usize, seed: u64) -> Result<String, String> {

@@ -1,4 +1,5 @@
-//! Runs a listing program on seeded command streams and compares what it prints with the reference receiver.
+//! Runs a listing program on seeded command streams and compares what it prints with the reference receiver. The openings of every
+//! second stream are commands 01 and 04, those of the others 01 alone.
 //!
 //!     compare PROGRAM [--streams N] [--calls N] [--first SEED] [--kind KIND]
 //!     compare PROGRAM --long [--first SEED]      long bursts instead: trains that fill the program's buffers, and that pass them
@@ -18,7 +19,7 @@ mod receiver;
 mod signal;
 mod verdict;
 
-use generator::{Stream, stream};
+use generator::{Stream, carried, stream};
 use program::{printed, shortened};
 use receiver::{Receiver, Reply};
 use signal::{KINDS, Kind};
@@ -31,7 +32,7 @@ const SHRINKING: Duration = Duration::from_secs(20);
 const SHOWN: usize = 60;
 
 /// What a run of streams of every kind must have seen, at the least; one of a single kind sees fewer.
-const LEAST: [(&str, u64); 19] = [
+const LEAST: [(&str, u64); 23] = [
     ("opening", 4000),
     ("begin", 15_000),
     ("step", 2_500_000),
@@ -51,7 +52,14 @@ const LEAST: [(&str, u64); 19] = [
     ("refused 6", 8000),
     ("refused 7", 2500),
     ("refused 8", 100),
+    ("carry train", 2000),
+    ("carry train with other widths", 350),
+    ("carry train held back", 25),
+    ("refused by carry alone", 800),
 ];
+
+/// What a run of long bursts must have seen, at the least.
+const LEAST_LONG: [(&str, u64); 2] = [("carry train", 18), ("carry train with other widths", 5)];
 
 /// What the reference prints.
 fn reference(mut input: &[u8]) -> Vec<u8> {
@@ -137,21 +145,22 @@ fn shrunken(program: &str, mut kept: Vec<Call>) -> Vec<Call> {
 
 /// A command in words: its byte, then numbers and the bits of floats.
 fn words(bytes: &[u8]) -> String {
-    let whole = matches!((bytes[0], bytes.len()), (1, 38) | (2, 61) | (3, 25));
+    let whole = matches!((bytes[0], bytes.len()), (1, 38) | (2, 61) | (3, 25) | (4, 39));
     if !whole {
         return format!("{bytes:02x?}");
     }
     let u32_at = |i: usize| u32::from_le_bytes(bytes[i..i + 4].try_into().unwrap());
-    let floats = |from: usize| {
-        let each = (from..bytes.len()).step_by(4).map(|i| f32::from_bits(u32_at(i)));
+    let floats = |from: usize, end: usize| {
+        let each = (from..end).step_by(4).map(|i| f32::from_bits(u32_at(i)));
         each.map(|x| format!(" {x:?}")).collect::<String>()
     };
-    if bytes[0] == 1 {
+    if bytes[0] == 1 || bytes[0] == 4 {
         let counts: String = (2..22).step_by(4).map(|i| format!(" {}", u32_at(i))).collect();
-        return format!("01 {}{counts}{}", bytes[1], floats(22));
+        let carry = bytes.get(38).map_or(String::new(), |c| format!(" carry {c}"));
+        return format!("{:02x} {}{counts}{}{carry}", bytes[0], bytes[1], floats(22, 38));
     }
     let index = u64::from_le_bytes(bytes[1..9].try_into().unwrap());
-    format!("{:02x} {index}{}", bytes[0], floats(9))
+    format!("{:02x} {index}{}", bytes[0], floats(9, bytes.len()))
 }
 
 fn reported(program: &str, seed: u64, input: &[u8]) -> String {
@@ -208,7 +217,7 @@ fn agrees(o: &Options, seed: u64, s: &Stream) -> Result<(), String> {
 fn seeded(o: &Options) -> Result<String, String> {
     let (mut calls, mut census) = (0, Census::new());
     for seed in o.first..o.first + o.streams {
-        let s = stream(seed, o.calls, o.kind);
+        let s = if seed % 2 == 0 { carried(seed, o.calls, o.kind) } else { stream(seed, o.calls, o.kind) };
         agrees(o, seed, &s)?;
         calls += s.calls;
         for (what, n) in s.census {
@@ -225,14 +234,18 @@ fn seeded(o: &Options) -> Result<String, String> {
 
 fn long_bursts(o: &Options) -> Result<String, String> {
     let bursts = long::listed();
-    let (mut calls, mut longest) = (0, 0);
+    let (mut calls, mut longest, mut census) = (0, 0, Census::new());
     for burst in &bursts {
         let s = burst.stream(o.first, Receiver::new())?;
         agrees(o, o.first, &s).map_err(|e| format!("{}: {e}", burst.name()))?;
         calls += s.calls;
         longest = s.decided.iter().map(|d| d.1).fold(longest, u64::max);
+        s.census.into_iter().for_each(|(what, n)| *census.entry(what).or_default() += n);
     }
-    Ok(format!("{} long bursts of {calls} calls agree, the longest train of {longest} pairs", bursts.len()))
+    at_least(&census, &LEAST_LONG)?;
+    census.retain(|what, _| what.starts_with("carry"));
+    let (count, carry) = (bursts.len(), verdict::words(&census));
+    Ok(format!("{count} long bursts of {calls} calls agree, the longest train of {longest} pairs; {carry}"))
 }
 
 fn main() -> ExitCode {

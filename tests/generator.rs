@@ -1,8 +1,9 @@
 //! Command streams from a seed: openings, bursts of every kind of signal, refused commands in between, damaged ones. A reference
-//! receiver follows the stream, so that a burst is begun where the lane is idle and stepped until it is idle again.
+//! receiver follows the stream, so that a burst is begun where the lane is idle and stepped until it is idle again. The openings of
+//! `stream` are commands 01; those of `carried` are 01 and 04, with carry on and off in turn.
 
 use crate::random::Random;
-use crate::receiver::{Receiver, Reply};
+use crate::receiver::{Receiver, Reply, refused_by_carry};
 use crate::signal::{
     AT_EDGES, Generator, KINDS, Kind, OUTSIDE, Tick, WORKED, begin_command, part, step_command, value,
 };
@@ -16,6 +17,7 @@ fn size(command: Option<&u8>) -> usize {
         Some(1) => 38,
         Some(2) => 61,
         Some(3) => 25,
+        Some(4) => 39,
         Some(_) => 1,
         None => usize::MAX,
     }
@@ -58,14 +60,24 @@ impl Stream {
 
     fn call(&mut self) -> bool {
         self.calls += 1;
-        let mut rest = &self.bytes[self.taken..];
+        let (before, mut rest) = (self.taken, &self.bytes[self.taken..]);
         let reply = self.receiver.call(&mut rest);
         self.taken = self.bytes.len() - rest.len();
         self.ended = reply.ends();
         let mut lines = Vec::new();
         self.receiver.lines(&reply, &mut lines).unwrap();
         self.counted(&String::from_utf8(lines).unwrap(), &reply);
+        self.counted_carry(before, &reply);
         !matches!(reply, Reply::Refused(_))
+    }
+
+    /// What the call that starts at this byte has to do with carry.
+    fn counted_carry(&mut self, at: usize, reply: &Reply) {
+        match reply {
+            Reply::Refused(3) if refused_by_carry(&self.bytes[at..self.taken]) => self.count("refused by carry alone"),
+            Reply::Refused(_) => {}
+            _ => self.receiver.carried().into_iter().for_each(|kind| self.count(kind)),
+        }
     }
 
     /// Bytes of a command that is not whole end the stream by refusal 2.
@@ -195,6 +207,9 @@ fn disturbance(g: &mut Generator, s: &mut Stream, command: &[u8]) -> Vec<u8> {
     let index = s.receiver.last();
     match g.r.below(8) {
         0 => {
+            if let Some(outside) = g.carry_outside() {
+                return outside.command();
+            }
             let mut bad = g.edge_settings();
             if g.kind != Kind::Damaged {
                 bad.mode = 3;
@@ -246,12 +261,21 @@ fn damaged(r: &mut Random, command: &[u8], how: u64) -> Vec<u8> {
     other
 }
 
-/// The stream of a seed, of about `calls` calls; its kind by the seed where none is given.
+/// The stream of a seed, of about `calls` calls; its kind by the seed where none is given. Its openings are commands 01.
 pub fn stream(seed: u64, calls: u64, kind: Option<Kind>) -> Stream {
+    made(seed, calls, kind, None)
+}
+
+/// Such a stream with openings 01 and 04.
+pub fn carried(seed: u64, calls: u64, kind: Option<Kind>) -> Stream {
+    made(seed, calls, kind, Some(Random::new(seed ^ (1 << 63))))
+}
+
+fn made(seed: u64, calls: u64, kind: Option<Kind>, carry: Option<Random>) -> Stream {
     let mut r = Random::new(seed);
     let by_seed = KINDS[r.below(KINDS.len() as u64) as usize].1;
     let kind = kind.unwrap_or(by_seed);
-    let mut g = Generator { r, kind, settings: WORKED };
+    let mut g = Generator { r, kind, settings: WORKED, carry };
     let mut s = Stream::new(Receiver::new());
     if g.r.once_in(4) {
         // Before any settings.
@@ -267,12 +291,15 @@ pub fn stream(seed: u64, calls: u64, kind: Option<Kind>) -> Stream {
             if s.ended || !s.receiver.idle() {
                 break;
             }
+            if let Some(again) = g.carry_changed() {
+                s.send(&again.command());
+            }
             burst(&mut g, &mut s);
         }
     }
     if !s.ended && g.r.once_in(3) {
         let command = g.settings.command();
-        s.send(&command[..g.r.from_to(1, 37) as usize]);
+        s.send(&command[..g.r.from_to(1, command.len() as u64 - 1) as usize]);
     }
     s.finish();
     s

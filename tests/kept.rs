@@ -14,16 +14,27 @@ use verdict::{Census, at_least};
 const STREAM: &str = "crates/listing/stdin";
 const LISTING: &str = "crates/listing/stdout";
 
-/// M6, M7 and M8 come first (document 01, "Worked bursts").
+/// M6, M7 and M8 come first (document 01, "Worked bursts"), then bursts of R-1 (document 02): the same two pulses twice in carry
+/// mode, with a refused carry in between, a train with an edge before the one before, and the two pulses without carry.
 const FRONT: &str = "ook 11 15 0 4 41000000 vector 40800000 00000000 1 4 0\nidle 19\n\
-                     ook 11 19 0 8 41000000 vector 40e00000 00000000 1 8 0\nidle 23\nidle 16\n";
+                     ook 11 19 0 8 41000000 vector 40e00000 00000000 1 8 0\nidle 23\nidle 16\n\
+                     ook 11 16 0 5 41000000 vector 40800000 00000000 2 2 2 2 0\nidle 21\nrefused 3\n\
+                     ook 31 36 0 5 41000000 vector 40800000 00000000 2 2 2 2 0\nidle 41\n\
+                     ook 11 23 0 12 41fe7965 vector 41000000 00000000 2 0 3 6 0\nidle 27\n\
+                     ook 11 16 0 5 41000000 vector 40800000 00000000 2 2 3 2 0\nidle 21\n";
 
 /// What the stream and its listing must have, with the least number of each. No list of calls meets refusal 4, refusals 1 and 2
 /// end a stream, and refusal 9 is not a command's.
-const LEAST: [(&str, u64); 27] = [
+const LEAST: [(&str, u64); 33] = [
     ("opening, mode 0", 2),
     ("opening, mode 1", 2),
     ("opening, mode 2", 2),
+    ("opening, mode 0, carry 0", 2),
+    ("opening, mode 0, carry 1", 10),
+    ("opening, mode 1, carry 1", 2),
+    ("opening, mode 2, carry 0", 1),
+    ("opening, mode 2, carry 1", 5),
+    ("opening, carry above 1", 10),
     ("begin", 300),
     ("train", 300),
     ("ook vector", 50),
@@ -94,6 +105,7 @@ fn commands(mut rest: &[u8]) -> (Vec<String>, usize) {
             Some(1) => 38,
             Some(2) => 61,
             Some(3) => 25,
+            Some(4) => 39,
             _ => return (kinds, rest.len()),
         };
         if rest.len() < size {
@@ -101,6 +113,8 @@ fn commands(mut rest: &[u8]) -> (Vec<String>, usize) {
         }
         kinds.push(match rest[0] {
             1 => format!("opening, mode {}", rest[1]),
+            4 if rest[38] > 1 => "opening, carry above 1".to_string(),
+            4 => format!("opening, mode {}, carry {}", rest[1], rest[38]),
             2 => "begin".to_string(),
             _ => "step".to_string(),
         });
@@ -114,7 +128,7 @@ fn counted(stream: &[u8], listing: &str) -> Result<Census, String> {
         return Err(format!("{STREAM}: {left} bytes after the last command"));
     }
     if !listing.starts_with(FRONT) {
-        return Err(format!("{LISTING}: M6, M7 and M8 are not first"));
+        return Err(format!("{LISTING}: M6, M7, M8 and R-1's bursts are not first"));
     }
     let mut census = Census::new();
     for kind in kinds.into_iter().chain(listing.lines().flat_map(line)) {

@@ -16,7 +16,7 @@ mod worked;
 
 use program::{Live, complaint, printed};
 use signal::{Settings, Tick, WORKED, begin_command, step_command};
-use worked::{M6, M7, M8, MOST, begin, calls, opening, step};
+use worked::{HALVES, M6, M7, M8, MOST, begin, calls, carrying, opening, step};
 
 /// A command and what it prints.
 type Call = (Vec<u8>, &'static str);
@@ -28,7 +28,7 @@ fn burst(index: u64, envelopes: &[f32], lines: &'static str) -> Vec<Call> {
     calls
 }
 
-/// Three bursts, and refused calls before, in and after them.
+/// Three bursts, and refused calls before, in and after them; then a burst in carry mode.
 fn script() -> Vec<Call> {
     let mut script = vec![
         (begin(0, 0.0), "refused 3\n"),
@@ -44,7 +44,9 @@ fn script() -> Vec<Call> {
         [(begin(51, 0.0), "refused 5\n"), (step(52, 0.0), "refused 6\n"), (step(51, f32::NAN), "refused 7\n")];
     last.splice(1..1, refused);
     script.extend(last);
-    script.extend([(opening(2049), ""), (begin(60, 0.0), "refused 8\n"), (step(61, 0.0), "refused 5\n")]);
+    script.extend([(carrying(1).command(), ""), (carrying(2).command(), "refused 3\n")]);
+    script.extend(burst(60, &HALVES, "ook 61 66 0 5 41000000 vector 40800000 00000000 2 2 2 2 0\nidle 71\n"));
+    script.extend([(opening(2049), ""), (begin(80, 0.0), "refused 8\n"), (step(81, 0.0), "refused 5\n")]);
     script
 }
 

@@ -1,11 +1,12 @@
-//! Long bursts, from a seed: the 300 pulses that a transmitter sends, and trains and frames that fill max_pulses and that pass it.
+//! Long bursts, from a seed: the 300 pulses that a transmitter sends, and trains and frames that fill max_pulses and that pass it,
+//! without carry and in carry mode.
 
 #![allow(dead_code)]
 
 use crate::generator::{Decided, Stream, whole_burst};
 use crate::random::Random;
 use crate::receiver::Receiver;
-use crate::signal::{Generator, Kind, Settings, Stretch, WORKED};
+use crate::signal::{Generator, Kind, Settings, Stretch, Tick};
 
 /// A part of a burst.
 #[derive(Clone, Copy, Debug)]
@@ -23,6 +24,8 @@ pub struct Long {
     max_pulses: u64,
     parts: Vec<Part>,
     gives: Vec<Decided>,
+    /// As in `Settings`.
+    carry: Option<u8>,
 }
 
 /// Bursts of every mode that just do not fill `most` pairs, fill them, and pass them. In Auto mode the train before a frame
@@ -34,6 +37,7 @@ pub fn filling(most: u64) -> [Long; 9] {
         max_pulses: most,
         parts: parts.to_vec(),
         gives: gives.to_vec(),
+        carry: None,
     };
     [
         burst(0, &[Pulses(less)], &[("ook", less, false)]),
@@ -50,12 +54,23 @@ pub fn filling(most: u64) -> [Long; 9] {
 
 /// The 300 pulses, and room for more.
 fn usual() -> Long {
-    Long { mode: 0, max_pulses: 2048, parts: vec![Pulses(300)], gives: vec![("ook", 300, false)] }
+    Long { mode: 0, max_pulses: 2048, parts: vec![Pulses(300)], gives: vec![("ook", 300, false)], carry: None }
+}
+
+fn carried(burst: Long) -> Long {
+    Long { carry: Some(1), ..burst }
+}
+
+/// Bursts in carry mode that fill `most` pairs and that pass them, in OOK mode and in Auto, and with a frame after the train.
+pub fn carrying(most: u64) -> [Long; 4] {
+    let [_, full, over, _, _, _, auto_over, _, both] = filling(most);
+    [full, over, auto_over, both].map(carried)
 }
 
 /// Those that the listing program's buffers hold, and that pass them.
 pub fn listed() -> Vec<Long> {
-    std::iter::once(usual()).chain(filling(300)).chain(filling(2048)).collect()
+    let plain = std::iter::once(usual()).chain(filling(300)).chain(filling(2048));
+    plain.chain([carried(usual())]).chain(carrying(300)).chain(carrying(2048)).collect()
 }
 
 /// Those of the kept stream: the 300 pulses, trains and frames that fill 300 pairs or pass them, and a train that passes the
@@ -68,7 +83,8 @@ pub fn kept() -> [Long; 6] {
 
 impl Long {
     pub fn name(&self) -> String {
-        format!("mode {}, max_pulses {}, {:?}", self.mode, self.max_pulses, self.parts)
+        let carry = if self.carry == Some(1) { ", carry" } else { "" };
+        format!("mode {}, max_pulses {}, {:?}{carry}", self.mode, self.max_pulses, self.parts)
     }
 
     fn settings(&self, r: &mut Random) -> Settings {
@@ -81,7 +97,7 @@ impl Long {
             max_pulses: self.max_pulses as u32,
             // 0.03 and 0.06 of a turn.
             floats: [1.0, 100.0, 0.188_495_56, 0.376_991_12],
-            ..WORKED
+            carry: self.carry,
         }
     }
 
@@ -89,21 +105,37 @@ impl Long {
     pub fn stream(&self, seed: u64, receiver: Receiver) -> Result<Stream, String> {
         let mut r = Random::new(seed);
         let settings = self.settings(&mut r);
-        let mut g = Generator { r, kind: Kind::Ook, settings };
+        let mut g = Generator { r, kind: Kind::Ook, settings, carry: None };
         let mut s = Stream::new(receiver);
         s.send(&g.settings.command());
-        // Without a ripple each width is whole, and so is their sum, by which a train is cut before a frame.
-        let ripple = if self.parts.len() > 1 { 0.0 } else { 0.1 };
+        // A train is cut before a frame by the sum of its widths, which is near the true one where each of them is whole, without a
+        // ripple, or in carry mode.
+        let ripple = if self.parts.len() > 1 && self.carry.is_none() { 0.0 } else { 0.1 };
         let index = g.r.below(1 << 39);
         let short = if self.mode == 1 { Tones(3) } else { Pulses(3) };
         for (index, parts) in [(index, &self.parts[..]), (index + (1 << 30), &[short])] {
             let plan = plan(&mut g.r, parts, u64::from(settings.min_steps));
-            let (factor, ticks) = g.clear_samples(&plan, ripple);
+            let (factor, mut ticks) = g.clear_samples(&plan, ripple);
+            if self.carry.is_some() {
+                halve_ends(&plan, &mut ticks);
+            }
             whole_burst(&mut s, index, factor, &ticks);
         }
         let kind = if self.mode == 1 { "fsk" } else { "ook" };
         let gives = [&self.gives[..], &[(kind, 3, false)]].concat();
         if s.decided == gives { Ok(s) } else { Err(format!("{}: gives {:?}, not {gives:?}", self.name(), s.decided)) }
+    }
+}
+
+/// Brings the last of several samples of a pulse to the middle of the levels: then one of its edges is half way between two samples,
+/// and the widths without carry do not add up.
+fn halve_ends(plan: &[Stretch], ticks: &mut [Tick]) {
+    let mut end = 0;
+    for s in plan.windows(2) {
+        end += s[0].len as usize;
+        if s[0].len > 1 && s[0].on && !s[1].on {
+            ticks[end - 1].envelope = 4.0;
+        }
     }
 }
 

@@ -1,5 +1,7 @@
 //! Tests the reference, and nothing of Rattle: demand 3 holds of the published lane. For every OOK burst that ends in a seeded stream,
-//! the pulses of its record, taken as document 01 defines them, are those of its train. Long bursts come last.
+//! the pulses of its record, taken as document 01 defines them, are those of its train. In carry mode the slots up to the last pulse
+//! are the differences of R-1's boundaries, taken from the record's edges, and add up to the last pulse's rounded end. Long bursts
+//! come then, and last the widths of single rows of edges, some of which no list of calls has.
 //!
 //!     pulses [--streams N] [--calls N]
 
@@ -13,8 +15,8 @@ mod receiver;
 mod signal;
 mod verdict;
 
-use generator::stream;
-use receiver::{Receiver, Reply, Sample, Train, width_between};
+use generator::{Stream, carried, stream};
+use receiver::{Limits, Receiver, Reply, Sample, Train, carried_widths, width_between};
 use signal::Kind;
 use verdict::{Census, at_least};
 
@@ -30,28 +32,80 @@ fn counted_runs(record: &[Sample], min_steps: usize) -> Vec<Run> {
     counted.map(|s| Run { high: s[0].high, edge: s[min_steps - 1].edge }).collect()
 }
 
-/// The width of each row of high runs that a low run closes.
-fn pulses(record: &[Sample], min_steps: usize) -> Vec<u32> {
+/// The edges of each row of high runs that a low run closes: the first high run's and the low run's.
+fn pulses(record: &[Sample], min_steps: usize) -> Vec<[f64; 2]> {
     let mut first = None;
-    let mut widths = Vec::new();
+    let mut pulses = Vec::new();
     for run in counted_runs(record, min_steps) {
         if run.high {
             first = first.or(Some(run.edge));
         } else if let Some(edge) = first.take() {
-            widths.push(width_between(edge, run.edge));
+            pulses.push([edge, run.edge]);
         }
     }
-    widths
+    pulses
+}
+
+/// R-1's boundaries of these pulses, the first edge's among them, in 64ths of a step; and how many edges lie below the boundary
+/// before.
+fn boundaries(pulses: &[[f64; 2]]) -> (Vec<u64>, usize) {
+    let (mut boundaries, mut held) = (Vec::new(), 0);
+    for edge in pulses.as_flattened() {
+        // Ties go away from zero. No list reaches 2^47, and its edges are numbers.
+        let here = ((edge - pulses[0][0]) * 64.0).round();
+        let before = boundaries.last().copied().unwrap_or(0);
+        held += usize::from(here < before as f64);
+        boundaries.push(before.max(here as u64));
+    }
+    (boundaries, held)
+}
+
+/// Whole steps, ties up.
+fn rounded(boundary: u64) -> u64 {
+    boundary / 64 + u64::from(boundary % 64 >= 32)
 }
 
 /// What a run must have seen, at the least.
-const LEAST: [(&str, u64); 5] =
-    [("bursts", 8000), ("trains", 5000), ("cut trains", 400), ("pulses", 20_000), ("trains of 300 pairs or more", 6)];
+const LEAST: [(&str, u64); 9] = [
+    ("bursts", 16_000),
+    ("trains", 10_000),
+    ("cut trains", 800),
+    ("pulses", 35_000),
+    ("trains of 300 pairs or more", 11),
+    ("carry trains", 3500),
+    ("carry trains of 300 pairs or more", 5),
+    ("carry trains with other widths", 600),
+    ("carry trains held back", 40),
+];
+
+/// R-1 for a train in carry mode and the pulses of the record that it has.
+fn check_carried(c: &mut Census, kept: &[[f64; 2]], train: &Train) -> Result<(), String> {
+    let slots = &train.slots[..2 * kept.len() - 1];
+    let (boundaries, held) = boundaries(kept);
+    let widths: Vec<u64> = boundaries.windows(2).map(|b| rounded(b[1]) - rounded(b[0])).collect();
+    let most = u64::from(u32::MAX);
+    if !slots.iter().map(|&w| u64::from(w)).eq(widths.iter().map(|&w| w.min(most))) {
+        return Err(format!("boundaries {boundaries:?}, train {slots:?}"));
+    }
+    let sum: u64 = slots.iter().map(|&w| u64::from(w)).sum();
+    let end = rounded(boundaries[boundaries.len() - 1]);
+    if widths.iter().all(|&w| w <= most) && sum != end {
+        return Err(format!("train {slots:?} adds up to {sum}, not {end}"));
+    }
+    let plain = kept.as_flattened().windows(2).map(|e| width_between(e[0], e[1]));
+    let other = !slots.iter().copied().eq(plain);
+    let long = kept.len() >= 300;
+    let mut count = |what: &str, n: bool| *c.entry(what.to_string()).or_default() += u64::from(n);
+    count("carry trains", true);
+    count("carry trains of 300 pairs or more", long);
+    count("carry trains with other widths", other);
+    count("carry trains held back", held > 0);
+    Ok(())
+}
 
 /// Demand 3 for an ended burst and the trains that its calls gave.
-fn check(c: &mut Census, record: &[Sample], limits: (usize, usize), trains: &[Train]) -> Result<(), String> {
-    let (min_steps, max_pulses) = limits;
-    let pulses = pulses(record, min_steps);
+fn check(c: &mut Census, record: &[Sample], limits: Limits, trains: &[Train]) -> Result<(), String> {
+    let pulses = pulses(record, limits.min_steps);
     let mut count = |what: &str, n: usize| *c.entry(what.to_string()).or_default() += n as u64;
     count("bursts", 1);
     if pulses.is_empty() && trains.is_empty() {
@@ -60,13 +114,21 @@ fn check(c: &mut Census, record: &[Sample], limits: (usize, usize), trains: &[Tr
     let [train] = trains else {
         return Err(format!("{} pulses, {} trains", pulses.len(), trains.len()));
     };
+    let pairs = train.slots.len() / 2;
     count("trains", 1);
-    count("trains of 300 pairs or more", usize::from(train.widths.len() >= 300));
+    count("trains of 300 pairs or more", usize::from(pairs >= 300));
     count("cut trains", usize::from(train.cut));
-    count("pulses", train.widths.len());
-    let kept = &pulses[..pulses.len().min(max_pulses)];
-    if kept.is_empty() || train.widths != kept || train.cut != (pulses.len() > max_pulses) {
-        return Err(format!("pulses {pulses:?}, train {:?}, cut {}", train.widths, train.cut));
+    count("pulses", pairs);
+    let kept = &pulses[..pulses.len().min(limits.max_pulses)];
+    if kept.is_empty() || pairs != kept.len() || train.cut != (pulses.len() > limits.max_pulses) {
+        return Err(format!("pulses {pulses:?}, train {:?}, cut {}", train.slots, train.cut));
+    }
+    if limits.carry {
+        return check_carried(c, kept, train);
+    }
+    let widths = kept.iter().map(|&[rise, fall]| width_between(rise, fall));
+    if !train.slots.iter().step_by(2).copied().eq(widths) {
+        return Err(format!("pulses {kept:?}, train {:?}", train.slots));
     }
     Ok(())
 }
@@ -91,6 +153,47 @@ fn follow(c: &mut Census, mut input: &[u8]) -> Result<(), String> {
     Ok(())
 }
 
+/// R-1's widths of rows of edges, each worked by hand.
+fn worked() -> Result<usize, String> {
+    let (nan, far, most) = (f64::NAN, f64::INFINITY, u32::MAX);
+    let power = |n: u32| (1u64 << n) as f64;
+    let table: [(&[f64], &[u32]); 14] = [
+        // Halves: rounded to whole steps the boundaries are 0, 2, 4 and 6.
+        (&[10.5, 12.0, 14.5, 16.0], &[2, 2, 2]),
+        // 31.5 64ths are 32, and these a step; 31.25 are 31, and these none. 95.25 are one step, 95.5 two.
+        (&[0.0, 31.5 / 64.0], &[1]),
+        (&[0.0, 31.25 / 64.0, 95.25 / 64.0, 95.5 / 64.0], &[0, 1, 1]),
+        // Never below the boundary before, that of the first edge among them.
+        (&[14.0, 13.0, 17.0, 22.5], &[0, 3, 6]),
+        (&[0.0, 4.0, 3.0, 3.5, 6.0], &[4, 0, 0, 2]),
+        (&[0.0, -far, 2.0], &[0, 2]),
+        // The difference is the f64 one: 2^53 has no neighbour a step above it.
+        (&[power(53), power(53) + 1.0, power(53) + 2.0], &[0, 2]),
+        // NaN counts as 0.
+        (&[0.0, 2.0, nan, 5.0], &[2, 0, 3]),
+        (&[nan, 2.0, 3.0], &[0, 0]),
+        // A width stops at 2^32 - 1, and the boundary does not.
+        (&[0.0, power(32) - 1.0, power(33)], &[most, most]),
+        (&[0.0, power(32), power(32) + 5.0], &[most, 5]),
+        // A difference counts as 2^47 64ths at the most.
+        (&[0.0, power(41) - 5.0, power(41) + 5.0, far], &[most, 5, 0]),
+        (&[0.0, power(42), power(41)], &[most, 0]),
+        (&[0.0, 1.0, far, power(41)], &[1, most, 0]),
+    ];
+    for (edges, widths) in table {
+        let got = carried_widths(edges);
+        if got != widths {
+            return Err(format!("edges {edges:?}: widths {got:?}, not {widths:?}"));
+        }
+    }
+    Ok(table.len())
+}
+
+/// Makes a stream.
+type Made = fn(u64, u64, Option<Kind>) -> Stream;
+
+const WAYS: [(&str, Made); 2] = [("01 alone", stream), ("01 and 04", carried)];
+
 fn run() -> Result<String, String> {
     let (mut streams, mut calls) = (40, 20_000);
     let mut args = std::env::args().skip(1);
@@ -105,15 +208,19 @@ fn run() -> Result<String, String> {
     let mut c = Census::new();
     for seed in 1..=streams {
         for kind in [Kind::Ook, Kind::Exact, Kind::Edges, Kind::Damaged] {
-            let s = stream(seed, calls, Some(kind));
-            follow(&mut c, &s.bytes).map_err(|e| format!("seed {seed}, {kind:?}: {e}"))?;
+            for (name, made) in WAYS {
+                let s = made(seed, calls, Some(kind));
+                follow(&mut c, &s.bytes).map_err(|e| format!("seed {seed}, {kind:?}, {name}: {e}"))?;
+            }
         }
     }
     for burst in long::listed() {
         let s = burst.stream(1, Receiver::new())?;
         follow(&mut c, &s.bytes).map_err(|e| format!("{}: {e}", burst.name()))?;
     }
-    let figures = format!("OOK bursts that ended, with each train as in its record: {}", verdict::words(&c));
+    let rows = worked()?;
+    let words = verdict::words(&c);
+    let figures = format!("OOK bursts that ended, with each train as in its record: {words}; {rows} rows of edges");
     at_least(&c, &LEAST).map_err(|e| format!("{figures}\n{e}"))?;
     Ok(figures)
 }

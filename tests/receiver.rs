@@ -1,6 +1,6 @@
 //! The reference receiver: the published lane, as tests/cut gives it, with what document 01 adds around it ("Added around
-//! the lane", "Commands", "Replies other than an answer"). The latter is written here from that text alone and reads no
-//! Rattle source.
+//! the lane", "Commands", "Replies other than an answer") and R-1's carry mode (document 02; its widths are in carry.rs). All that
+//! is not the lane is written from these texts alone and reads no Rattle source.
 
 include!("../target/tests/published.rs");
 
@@ -16,7 +16,7 @@ const RATIO_MOST: f32 = 1e6;
 const VALUE_MOST: f32 = 1e18;
 const INDEX_MOST: u64 = 1 << 40;
 
-// Operand bytes of commands 01, 02 and 03.
+// Operand bytes of commands 01, 02 and 03; 04 has those of 01 and carry.
 const OPENING_BYTES: usize = 37;
 const BEGIN_BYTES: usize = 60;
 const STEP_BYTES: usize = 24;
@@ -35,6 +35,7 @@ struct Opening {
     gap_ratio: f32,
     fsk_delta: f32,
     fsk_split: f32,
+    carry: u8,
 }
 
 struct Begin {
@@ -84,6 +85,7 @@ impl Operands<'_> {
         C32 { re: self.f32(), im: self.f32() }
     }
 
+    /// The operands of 01 leave carry off; those of 04 end with it.
     fn opening(mut self) -> Opening {
         Opening {
             mode: self.u8(),
@@ -96,6 +98,7 @@ impl Operands<'_> {
             gap_ratio: self.f32(),
             fsk_delta: self.f32(),
             fsk_split: self.f32(),
+            carry: if self.0.is_empty() { 0 } else { self.u8() },
         }
     }
 
@@ -141,7 +144,8 @@ fn settings(o: &Opening) -> Option<Params> {
         && within(o.alpha, 1.0)
         && within(o.gap_ratio, RATIO_MOST)
         && within(o.fsk_delta, RATIO_MOST)
-        && within(o.fsk_split, RATIO_MOST);
+        && within(o.fsk_split, RATIO_MOST)
+        && o.carry <= 1;
     let Derived { fsk_min, lead_len, refine_at } = derived(o.min_steps);
     good.then_some(Params {
         modulation,
@@ -156,8 +160,16 @@ fn settings(o: &Opening) -> Option<Params> {
         fsk_delta: o.fsk_delta,
         fsk_split: o.fsk_split,
         lead_len,
+        carry: o.carry == 1,
         refine_at,
     })
+}
+
+/// True for a whole command 04 that only its carry byte lets meet refusal 3.
+pub fn refused_by_carry(command: &[u8]) -> bool {
+    let [4, operands @ ..] = command else { return false };
+    let o = Operands(operands).opening();
+    o.carry > 1 && settings(&Opening { carry: 0, ..o }).is_some()
 }
 
 /// The lane with what document 01 adds around it, and its two buffers.
@@ -320,18 +332,25 @@ fn replayed(mut lane: Lane, p: &Params, s: &Step) -> Vec<Sample> {
     samples
 }
 
-/// A decided OOK train: its cut mark and its pulses' widths.
+/// A decided OOK train: its cut mark and its slots, a pulse's width and a gap's in turn.
 pub struct Train {
     pub cut: bool,
-    pub widths: Vec<u32>,
+    pub slots: Vec<u32>,
+}
+
+/// What demand 3 asks of the settings of a lane in OOK mode.
+#[derive(Clone, Copy)]
+pub struct Limits {
+    pub min_steps: usize,
+    pub max_pulses: usize,
+    pub carry: bool,
 }
 
 /// What demand 3 speaks of.
 impl Receiver {
-    /// min_steps and max_pulses of a lane in OOK mode.
-    pub fn in_ook_mode(&self) -> Option<(usize, usize)> {
+    pub fn in_ook_mode(&self) -> Option<Limits> {
         let p = self.settings.filter(|p| p.modulation == PulseModulation::Ook)?;
-        Some((p.min_steps as usize, p.max_pulses as usize))
+        Some(Limits { min_steps: p.min_steps as usize, max_pulses: p.max_pulses as usize, carry: p.carry })
     }
 
     /// The samples of the burst so far; none before its lead is full.
@@ -342,16 +361,33 @@ impl Receiver {
     /// The OOK train that the last accepted call decided.
     pub fn decided(&self) -> Option<Train> {
         let r = &self.lane.out[0];
-        (r.state == OUT_DECIDE).then(|| Train {
-            cut: r.flags == 1,
-            widths: self.ook[..2 * r.pairs as usize].iter().step_by(2).copied().collect(),
-        })
+        (r.state == OUT_DECIDE).then(|| Train { cut: r.flags == 1, slots: self.ook[..2 * r.pairs as usize].to_vec() })
+    }
+
+    /// Kinds of the OOK train that the last accepted call decided in carry mode, by its slots up to the last pulse: one has a width
+    /// that is another without carry; in one a boundary was held back by the boundary before.
+    pub fn carried(&self) -> Vec<&'static str> {
+        let r = &self.lane.out[0];
+        if r.state != OUT_DECIDE || !self.settings.is_some_and(|p| p.carry) {
+            return Vec::new();
+        }
+        let Boundaries { other_at, held_at, .. } = self.lane.boundaries;
+        let last = 2 * r.pairs - 2;
+        let kinds =
+            [("carry train", 0), ("carry train with other widths", other_at), ("carry train held back", held_at)];
+        kinds.into_iter().filter(|k| k.1 <= last).map(|k| k.0).collect()
     }
 }
 
 /// The width between two edges.
 pub fn width_between(a: f64, b: f64) -> u32 {
     width(a, b)
+}
+
+/// The widths in carry mode between each edge and the next, of which the first is the first pulse's.
+pub fn carried_widths(edges: &[f64]) -> Vec<u32> {
+    let mut boundaries = Boundaries::from(edges[0]);
+    edges.windows(2).map(|e| boundaries.width(e[1], width(e[0], e[1]))).collect()
 }
 
 /// The bits of a float; every NaN as one.
@@ -402,6 +438,7 @@ impl Receiver {
             n @ 1 => (n, OPENING_BYTES),
             n @ 2 => (n, BEGIN_BYTES),
             n @ 3 => (n, STEP_BYTES),
+            n @ 4 => (n, OPENING_BYTES + 1),
             _ => return Reply::Refused(1),
         };
         let Some((operands, rest)) = input[1..].split_at_checked(size) else {
@@ -410,7 +447,7 @@ impl Receiver {
         *input = rest;
         let operands = Operands(operands);
         let reply = match command {
-            1 => self.open(&operands.opening()).map(|()| Reply::Opened),
+            1 | 4 => self.open(&operands.opening()).map(|()| Reply::Opened),
             2 => self.begin(&operands.begin()).map(|()| Reply::Begun),
             _ => self.stepped(&operands.step()),
         };

@@ -27,7 +27,7 @@ pub const KINDS: [(&str, Kind); 6] = [
     ("damaged", Kind::Damaged),
 ];
 
-/// The operands of command 01.
+/// The operands of command 01, or of 04.
 #[derive(Clone, Copy)]
 pub struct Settings {
     pub mode: u8,
@@ -38,6 +38,8 @@ pub struct Settings {
     pub max_pulses: u32,
     /// alpha, gap_ratio, fsk_delta, fsk_split.
     pub floats: [f32; 4],
+    /// The last operand of 04; none for 01.
+    pub carry: Option<u8>,
 }
 
 /// The settings of M6 to M8.
@@ -49,15 +51,17 @@ pub const WORKED: Settings = Settings {
     long_steps: 1000,
     max_pulses: 4,
     floats: [0.5, 100.0, 0.0, 0.0],
+    carry: None,
 };
 
 impl Settings {
     pub fn command(&self) -> Vec<u8> {
-        let mut c = vec![1, self.mode];
+        let mut c = vec![if self.carry.is_some() { 4 } else { 1 }, self.mode];
         for n in [self.min_steps, self.gap_steps, self.pre_timeout, self.long_steps, self.max_pulses] {
             c.extend(n.to_le_bytes());
         }
         put_floats(&mut c, &self.floats);
+        c.extend(self.carry);
         c
     }
 }
@@ -127,6 +131,9 @@ pub struct Generator {
     pub r: Random,
     pub kind: Kind,
     pub settings: Settings,
+    /// What decides on carry; none where every opening is a command 01. It is a sequence of its own, so that the bytes of a stream
+    /// without carry do not depend on it.
+    pub carry: Option<Random>,
 }
 
 impl Generator {
@@ -137,6 +144,31 @@ impl Generator {
             Kind::Auto => 2,
             _ => self.r.below(3) as u8,
         }
+    }
+
+    /// The carry of an opening: mostly on, also off by 04 or by 01, and now and then outside the domain.
+    fn carry_byte(&mut self) -> Option<u8> {
+        let r = self.carry.as_mut()?;
+        match r.below(24) {
+            0..3 => None,
+            3..7 => Some(0),
+            7 => Some(r.pick(&[2, 255])),
+            _ => Some(1),
+        }
+    }
+
+    /// The settings under way with another carry, between two bursts.
+    pub fn carry_changed(&mut self) -> Option<Settings> {
+        let again = self.carry.as_mut()?.once_in(6);
+        let carry = if again { self.carry_byte() } else { None };
+        again.then_some(Settings { carry, ..self.settings })
+    }
+
+    /// The settings under way with a carry outside the domain, in a burst; none in a stream without carry.
+    pub fn carry_outside(&mut self) -> Option<Settings> {
+        let r = self.carry.as_mut()?;
+        let carry = Some(r.pick(&[2, 3, 128, 255]));
+        r.once_in(2).then_some(Settings { carry, ..self.settings })
     }
 
     /// alpha, gap_ratio, fsk_delta, fsk_split.
@@ -165,8 +197,7 @@ impl Generator {
     }
 
     fn usual_settings(&mut self) -> Settings {
-        let mode = self.mode();
-        let floats = self.usual_floats();
+        let (mode, floats, carry) = (self.mode(), self.usual_floats(), self.carry_byte());
         let r = &mut self.r;
         let min_steps = match r.below(8) {
             0 => r.from_to(1, 40),
@@ -202,6 +233,7 @@ impl Generator {
             long_steps: long_steps as u32,
             max_pulses: max_pulses as u32,
             floats,
+            carry,
         }
     }
 
@@ -479,8 +511,39 @@ impl Generator {
         (shape.factor, self.ticks(&shape, plan))
     }
 
+    /// Brings some stretches of a burst, the last not among them, near the middle of its levels, and cuts them to about the shortest
+    /// run: they pass a threshold by their first sample and lie on the other side of the middle after it. Then an edge is refined
+    /// late and the next one early, and it may come out before the other. Streams without carry have no such burst.
+    fn sagged(&mut self, plan: &[Stretch], ticks: Vec<Tick>) -> Vec<Tick> {
+        let min = self.settings.min_steps.min(60) as usize;
+        let Some(r) = self.carry.as_mut().filter(|_| min > 3) else { return ticks };
+        if !r.once_in(3) {
+            return ticks;
+        }
+        let level = ticks.iter().map(|t| f64::from(t.envelope)).fold(0.0, f64::max);
+        let mut rest = &ticks[..];
+        let mut sagged = Vec::with_capacity(ticks.len());
+        for s in &plan[..plan.len() - 1] {
+            let (here, after) = rest.split_at(s.len as usize);
+            rest = after;
+            if r.once_in(2) {
+                let len = min + r.below(2) as usize;
+                sagged.extend(here.iter().take(len).enumerate().map(|(i, t)| near_middle(r, level, s.on, i, t)));
+            } else {
+                sagged.extend(here);
+            }
+        }
+        sagged.extend(rest);
+        sagged
+    }
+
     /// The factor and the samples of a burst.
     pub fn samples(&mut self, plan: &[Stretch]) -> (f32, Vec<Tick>) {
+        let (factor, ticks) = self.unsagged(plan);
+        (factor, self.sagged(plan, ticks))
+    }
+
+    fn unsagged(&mut self, plan: &[Stretch]) -> (f32, Vec<Tick>) {
         let mut shape = self.shape();
         if self.kind == Kind::Edges && self.r.once_in(10) {
             shape.factor = self.r.pick(&[-0.0, 999_999.94, 1e6, 1_000_000.06]);
@@ -493,6 +556,20 @@ impl Generator {
         shape.factor = self.r.pick(&[0.5, 1.0, 2.0, 2.0, 4.0]);
         (shape.factor, self.exact_ticks(&shape, plan))
     }
+}
+
+/// Sample number `i` of a stretch that starts beyond its threshold and goes on between that for its end and the level of refinement.
+fn near_middle(r: &mut Random, level: f64, on: bool, i: usize, t: &Tick) -> Tick {
+    let noise = f64::from(t.noise);
+    let middle = (level + noise) / 2.0;
+    let refined = (level * level / 4.0 + 0.955 * noise * noise).sqrt();
+    let envelope = match (i, on) {
+        (0, true) => middle * 1.14,
+        (0, false) => middle * 0.86,
+        (_, true) => r.between(middle * 0.88, refined),
+        _ => r.between(refined, middle * 1.12),
+    };
+    Tick { envelope: value(envelope), ..*t }
 }
 
 /// How the samples of a burst look.

@@ -1,11 +1,12 @@
 //! Writes a command stream for the listing program (document 01, "Commands") to standard output.
 //!
-//!     streams [--seed N] [--calls N] [--kind KIND] [--census]
+//!     streams [--seed N] [--calls N] [--kind KIND] [--carry] [--census]
 //!     streams --long [--seed N]      the long bursts of the kept stream instead, a seed each
 //!
 //! Kinds: ook, fsk, auto (settings of that mode), exact (values that meet thresholds and ties exactly), edges (values and
 //! settings at and past the ends of the domain), damaged (commands with changed, lost or repeated bytes; such a stream may end
-//! early) and any (one of them, by the seed). With --census the kinds of calls and replies are counted on standard error.
+//! early) and any (one of them, by the seed). With --carry openings are commands 01 and 04, elsewhere 01 alone. With --census the
+//! kinds of calls and replies are counted on standard error.
 
 use std::io::{self, Write};
 
@@ -17,12 +18,13 @@ mod receiver;
 mod signal;
 mod verdict;
 
-use generator::stream;
+use generator::{carried, stream};
 use receiver::Receiver;
 use signal::KINDS;
 
 fn main() -> io::Result<()> {
-    let (mut seed, mut calls, mut kind, mut census, mut long) = (1u64, 10_000u64, None, false, false);
+    let (mut seed, mut calls, mut kind) = (1u64, 10_000u64, None);
+    let (mut carry, mut census, mut long) = (false, false, false);
     let mut args = std::env::args().skip(1);
     while let Some(a) = args.next() {
         let mut value = || args.next().unwrap_or_else(|| usage());
@@ -30,6 +32,7 @@ fn main() -> io::Result<()> {
             "--seed" => seed = value().parse().unwrap_or_else(|_| usage()),
             "--calls" => calls = value().parse().unwrap_or_else(|_| usage()),
             "--kind" => kind = Some(value()),
+            "--carry" => carry = true,
             "--census" => census = true,
             "--long" => long = true,
             _ => usage(),
@@ -44,7 +47,7 @@ fn main() -> io::Result<()> {
         let found = KINDS.iter().find(|(n, _)| *n == name);
         found.unwrap_or_else(|| usage()).1
     });
-    let s = stream(seed, calls, kind);
+    let s = if carry { carried(seed, calls, kind) } else { stream(seed, calls, kind) };
     if census {
         for (what, n) in &s.census {
             eprintln!("{n:9} {what}");
@@ -54,6 +57,8 @@ fn main() -> io::Result<()> {
 }
 
 fn usage() -> ! {
-    eprintln!("streams [--seed N] [--calls N] [--kind ook|fsk|auto|exact|edges|damaged|any] [--census] [--long]");
+    eprintln!(
+        "streams [--seed N] [--calls N] [--kind ook|fsk|auto|exact|edges|damaged|any] [--carry] [--census] [--long]"
+    );
     std::process::exit(2)
 }

@@ -1,5 +1,5 @@
-//! Document 01's worked bursts M6 to M8 as commands: samples (1, 0), noise 0, factor 1, history 0. Beside them bursts of R-2
-//! (document 02), most of whose spans are not the sum of their widths.
+//! Document 01's worked bursts M6 to M8 as commands: samples (1, 0), noise 0, factor 1, history 0. Beside them bursts of document 02:
+//! of R-1, whose widths are others with carry, and of R-2, most of whose spans are not the sum of their widths.
 
 #![allow(dead_code)]
 
@@ -14,6 +14,26 @@ pub const M8: [f32; 7] = [0.0; 7];
 pub const CARRIED: [f32; 14] = [0.0, 8.0, 8.0, 8.0, 0.0, 0.0, 0.0, 8.0, 8.0, 8.0, 8.0, 8.0, 8.0, 8.0];
 pub const TWO: [f32; 12] = [0.0, 8.0, 8.0, 8.0, 0.0, 0.0, 0.0, 8.0, 8.0, 8.0, 0.0, 0.0];
 pub const BACKWARD: [f32; 7] = [0.0, 0.0, 8.0, 2.0, 0.0, 0.0, 0.0];
+
+/// two pulses with an edge half way between two samples each; and a train, with min_steps 4, whose first pulse ends before it
+/// starts. There the level is refined at about 15.9: the rise, at a sample of 19 with three of 14 after it, lies at 14, the fall at
+/// 13, the next rise at 17 and its fall at 22.5. And a pulse that rises a 128th after a sample and falls half way between two: its
+/// length is 159.5 64ths.
+pub const HALVES: [f32; 12] = [0.0, 8.0, 4.0, 0.0, 0.0, 8.0, 4.0, 0.0, 0.0, 0.0, 0.0, 0.0];
+pub const BACK: [f32; 18] =
+    [0.0, 19.0, 14.0, 14.0, 14.0, 13.0, 17.0, 17.0, 17.0, 32.0, 32.0, 32.0, 32.0, 0.0, 0.0, 0.0, 0.0, 0.0];
+
+pub const TIE: [f32; 9] = [0.0, 126.0, 254.0, 254.0, 0.0, 0.0, 0.0, 0.0, 0.0];
+
+/// R-1's 300 pulses, each with the gap after it, and the samples that end the burst.
+pub fn three_hundred() -> Vec<f32> {
+    [vec![0.0], [8.0, 4.0, 0.0, 0.0].repeat(300), vec![0.0; 3]].concat()
+}
+
+/// The settings of M6 to M8 by command 04, with this carry.
+pub const fn carrying(carry: u8) -> Settings {
+    Settings { carry: Some(carry), ..WORKED }
+}
 
 /// Their max_pulses.
 pub const MOST: u32 = WORKED.max_pulses;

@@ -1,7 +1,7 @@
-//! Document 01's worked bursts M6 to M8, M10 and the replies that it names, and R-2's spans, through a listing program.
+//! Document 01's worked bursts M6 to M8, M10 and the replies that it names, R-1's carry and R-2's spans, through a listing program.
 //!
 //!     worked_bursts PROGRAM      compare
-//!     worked_bursts --write      print M6, M7 and M8 as one command stream
+//!     worked_bursts --write      print M6, M7, M8 and bursts of R-1 as one command stream
 
 use std::io::Write;
 use std::process::ExitCode;
@@ -15,25 +15,120 @@ mod worked;
 
 use program::printed;
 use signal::{Settings, WORKED};
-use worked::{BACKWARD, CARRIED, M6, M7, M8, MOST, TWO, begin, burst, burst_by, opening, step};
+use worked::{
+    BACK, BACKWARD, CARRIED, HALVES, M6, M7, M8, MOST, TIE, TWO, begin, burst, burst_by, calls, carrying, opening,
+    step, three_hundred,
+};
 
-/// span is end minus index, or 0 if end is smaller, whatever the widths add up to. A cut train ends with the pulse that did
-/// not fit.
-fn spans() -> Vec<(&'static str, Vec<u8>, &'static str)> {
-    let carried = burst_by(Settings { long_steps: 6, ..WORKED }, 0.0, &CARRIED);
-    let cut = burst_by(Settings { max_pulses: 1, ..WORKED }, 0.0, &TWO);
-    let backward = burst_by(Settings { mode: 1, ..WORKED }, 1.0, &BACKWARD);
+/// A name, its commands, and what the program must print.
+type Row = (&'static str, Vec<u8>, String);
+
+/// What R-1's burst of two pulses prints, by its widths.
+fn halves(widths: &str) -> String {
+    format!("ook 11 16 0 5 41000000 vector 40800000 00000000 2 {widths}\nidle 21\n")
+}
+
+const PLAIN: &str = "2 3 2 0";
+const CARRY: &str = "2 2 2 0";
+
+/// the widths without carry and with it. From the first pulse to the last the 300 pulses add up to 1,497 and to 1,198, of which
+/// the latter is their true length, 1,197.5 steps, with the tie up.
+fn widths() -> Vec<Row> {
+    let by = |carry| Settings { carry, ..WORKED };
+    let long = |carry| burst_by(Settings { max_pulses: 300, ..by(carry) }, 0.0, &three_hundred());
+    let line = |pair: &str| {
+        let widths = pair.repeat(299);
+        format!("ook 11 1208 0 1197 41000000 vector 44160000 00000000 300{widths} 2 0\nidle 1213\n")
+    };
+    let back = |carry| burst_by(Settings { min_steps: 4, ..by(carry) }, 0.0, &BACK);
+    let tie = |widths: &str| format!("ook 11 14 0 3 437e0000 vector 40000000 00000000 1 {widths}\nidle 18\n");
+    let held = |widths: &str| format!("ook 11 23 0 12 41fe7965 vector 41000000 00000000 2 {widths}\nidle 27\n");
     vec![
-        ("a carrier", carried, "ook 11 14 0 3 41000000 vector 40400000 00000000 1 3 3\ncarrier 23 41000000\n"),
-        ("a cut train", cut, "ook 11 20 1 9 41000000 vector 40400000 00000000 1 3 3\nidle 21\n"),
-        ("an end before the index", backward, "fsk 11 10 0 0 41000000 vector 00000000 00000000 0\nidle 16\n"),
+        ("half steps by 01", burst(&HALVES), halves(PLAIN)),
+        ("half steps by 04, carry 0", burst_by(by(Some(0)), 0.0, &HALVES), halves(PLAIN)),
+        ("half steps by 04, carry 1", burst_by(by(Some(1)), 0.0, &HALVES), halves(CARRY)),
+        ("300 pulses by 01", long(None), line(" 2 3")),
+        ("300 pulses by 04, carry 1", long(Some(1)), line(" 2 2")),
+        // The fall's boundary is the rise's, 0, and not -64: the gap after it has 3 steps and not 4.
+        ("an edge before the one before, by 01", back(None), held("0 4 6 0")),
+        ("an edge before the one before, by 04, carry 1", back(Some(1)), held("0 3 6 0")),
+        // 159.5 64ths are 160, and these 3 steps.
+        ("a tie of 64ths by 01", burst(&TIE), tie("2 0")),
+        ("a tie of 64ths by 04, carry 1", burst_by(by(Some(1)), 0.0, &TIE), tie("3 0")),
     ]
 }
 
-/// Each name with its commands and what the program must print.
-fn table() -> Vec<(&'static str, Vec<u8>, &'static str)> {
-    let twice = [burst(&M6), begin(30, 0.0), step(31, 0.0)].concat();
+/// where every width is whole, carry changes none; and each burst has boundaries of its own.
+fn same() -> Vec<Row> {
+    let on = carrying(1);
+    let again = halves(CARRY).replace("11 16", "31 36").replace("idle 21", "idle 41");
+    let mut rows = vec![(
+        "two bursts by 04, carry 1",
+        [burst_by(on, 0.0, &HALVES), calls(30, &HALVES).concat()].concat(),
+        halves(CARRY) + &again,
+    )];
+    let bursts: [(&str, &[f32]); 3] =
+        [("M6 by 04, carry 1", &M6), ("M7 by 04, carry 1", &M7), ("M8 by 04, carry 1", &M8)];
+    rows.extend(bursts.iter().zip(table()).map(|(b, row)| (b.0, burst_by(on, 0.0, b.1), row.2)));
+    rows
+}
+
+/// with noise 0.25 each pulse has a little less than 1.5 steps, of which 96 whole 64ths are made first. Carry holds in Auto mode
+/// too, and the longest pulse, by which a gap ends the burst, has the width that the mode gives.
+fn modes() -> Vec<Row> {
+    let auto = |carry| burst_by(Settings { mode: 2, carry, ..WORKED }, 0.25, &HALVES);
+    let ratio = Settings { gap_steps: 8, pre_timeout: 8, floats: [0.5, 2.0, 0.0, 0.0], ..WORKED };
+    let short = halves("1 3 1 0");
     vec![
+        ("Auto mode by 01", auto(None), short.clone()),
+        ("Auto mode by 04, carry 1", auto(Some(1)), halves(CARRY)),
+        ("the gap ratio by 01", burst_by(ratio, 0.25, &HALVES[..10]), short.replace("idle 21", "idle 19")),
+        ("the gap ratio by 04", burst_by(Settings { carry: Some(1), ..ratio }, 0.25, &HALVES), halves(CARRY)),
+    ]
+}
+
+/// a carry above 1 meets refusal 3, and settings and lane stay; 01 leaves carry off; without its last byte 04 meets refusal 2.
+fn openings() -> Vec<Row> {
+    let [plain, on, two, last] = [opening(MOST), carrying(1).command(), carrying(2).command(), carrying(255).command()];
+    let other = Settings { max_pulses: 1, ..carrying(2) }.command();
+    let calls = calls(10, &HALVES);
+    let within = |at: usize| [&on[..], &calls[..at].concat(), &two, &calls[at..].concat()].concat();
+    let all = calls.concat();
+    let refused = |lines: String| format!("refused 3\n{lines}");
+    vec![
+        ("carry 2 after carry 1", [&on[..], &other, &all].concat(), refused(halves(CARRY))),
+        ("carry 255 after 01", [&plain[..], &last, &all].concat(), refused(halves(PLAIN))),
+        ("carry 2 in the lead", within(3), refused(halves(CARRY))),
+        ("carry 2 in the burst", within(9), refused(halves(CARRY))),
+        ("carry 2 before any settings", [two, begin(10, 0.0)].concat(), refused("refused 3\n".to_string())),
+        ("01 after 04", [&on[..], &plain, &all].concat(), halves(PLAIN)),
+        ("04 after 01", [&plain[..], &on, &all].concat(), halves(CARRY)),
+        ("04 in a burst", [&on[..], &calls[..9].concat(), &on, &calls[9]].concat(), "refused 5\n".to_string()),
+        ("04 without its carry", on[..38].to_vec(), "refused 2\n".to_string()),
+        ("mode 3 by 04", Settings { mode: 3, ..carrying(1) }.command(), "refused 3\n".to_string()),
+    ]
+}
+
+/// span is end minus index, or 0 if end is smaller, whatever the widths add up to. A cut train ends with the pulse that did
+/// not fit.
+fn spans() -> Vec<Row> {
+    let carried = burst_by(Settings { long_steps: 6, ..WORKED }, 0.0, &CARRIED);
+    let cut = burst_by(Settings { max_pulses: 1, ..WORKED }, 0.0, &TWO);
+    let backward = burst_by(Settings { mode: 1, ..WORKED }, 1.0, &BACKWARD);
+    rows([
+        ("a carrier", carried, "ook 11 14 0 3 41000000 vector 40400000 00000000 1 3 3\ncarrier 23 41000000\n"),
+        ("a cut train", cut, "ook 11 20 1 9 41000000 vector 40400000 00000000 1 3 3\nidle 21\n"),
+        ("an end before the index", backward, "fsk 11 10 0 0 41000000 vector 00000000 00000000 0\nidle 16\n"),
+    ])
+}
+
+fn rows<const N: usize>(rows: [(&'static str, Vec<u8>, &str); N]) -> Vec<Row> {
+    rows.map(|(name, input, lines)| (name, input, lines.to_string())).into()
+}
+
+fn table() -> Vec<Row> {
+    let twice = [burst(&M6), begin(30, 0.0), step(31, 0.0)].concat();
+    rows([
         ("M6", burst(&M6), "ook 11 15 0 4 41000000 vector 40800000 00000000 1 4 0\nidle 19\n"),
         ("M7", burst(&M7), "ook 11 19 0 8 41000000 vector 40e00000 00000000 1 8 0\nidle 23\n"),
         ("M8", burst(&M8), "idle 16\n"),
@@ -53,11 +148,11 @@ fn table() -> Vec<(&'static str, Vec<u8>, &'static str)> {
         ("no number", [burst(&[0.0]), step(11, f32::NAN)].concat(), "refused 7\n"),
         ("no room for the pulses", [opening(2049), begin(0, 0.0)].concat(), "refused 8\n"),
         ("M6, then a burst under way", twice, "ook 11 15 0 4 41000000 vector 40800000 00000000 1 4 0\nidle 19\n"),
-    ]
+    ])
 }
 
 fn run(program: &str) -> Result<String, String> {
-    let rows = [table(), spans()].concat();
+    let rows = [table(), spans(), widths(), same(), modes(), openings()].concat();
     for (name, input, expected) in &rows {
         let got = printed(program, input).map_err(|e| format!("{name}: {e}"))?;
         if got != expected.as_bytes() {
@@ -68,10 +163,20 @@ fn run(program: &str) -> Result<String, String> {
     Ok(format!("{} inputs print the documents' lines", rows.len()))
 }
 
+/// M6 to M8; R-1's two pulses, and again after a refused carry; its train with an edge before the one before; the two pulses by 01;
+/// its 300 pulses.
+fn written() -> Vec<u8> {
+    let halves = calls(30, &HALVES).concat();
+    let back = burst_by(Settings { min_steps: 4, ..carrying(1) }, 0.0, &BACK);
+    let carried = [burst_by(carrying(1), 0.0, &HALVES), carrying(2).command(), halves, back].concat();
+    let long = burst_by(Settings { max_pulses: 300, ..carrying(1) }, 0.0, &three_hundred());
+    [burst(&M6), burst(&M7), burst(&M8), carried, burst(&HALVES), long].concat()
+}
+
 fn main() -> ExitCode {
     let program = std::env::args().nth(1).expect("worked_bursts PROGRAM");
     if program == "--write" {
-        let written = std::io::stdout().write_all(&[burst(&M6), burst(&M7), burst(&M8)].concat());
+        let written = std::io::stdout().write_all(&written());
         return if written.is_ok() { ExitCode::SUCCESS } else { ExitCode::FAILURE };
     }
     verdict::told(run(&program))

@@ -26,3 +26,4 @@ pub mod RootAssembled
 pub mod RootSteps
 pub mod RootSpecial
 pub mod RootNearest
+pub mod Signed

@@ -3,6 +3,8 @@ pub mod Rounding
 pub mod Root
 pub mod Leaves
 pub mod Angle
+pub mod Carry
+pub mod OwnEdge
 pub mod Units
 pub mod RoundingNearest
 pub mod RootNearest

@@ -2,7 +2,7 @@
 // leaves of the Rust, one rounding for each operation. The crates above see these contracts only.
 ghost use mathlib.Core.Path.{_≡_};
 ghost use mathlib.Core.Bool.{Bool, cond};
-ghost use Prim.Native.Nat.{_+_, _-_, _*_, _^_, _<_, _≤_};
+ghost use Prim.Native.Nat.{_+_, _-_, _*_, _^_, _<_, _≤_, min, max};
 ghost use lib.Ieee as Ieee;
 ghost use lib.Ieee.{binary32, binary64};
 ghost use lib.IntN.{pos};
@@ -11,6 +11,7 @@ ghost use Rattle.arith.specs.Root.{IsRoot, exactOf, roundExactOf, scaled
 ghost use Rattle.arith.specs.Rounding.{roundOf, narrowOf, widenOf};
 ghost use Rattle.arith.specs.Leaves.{absOf, midpointOf, flushOf, maxOf, minOf, cmulConjOf, crossOf, edgeOf, stepOf, wholeOf, widthOf, fskWidthOf, runFixOf, gainOf, leadLenOf};
 ghost use Rattle.arith.specs.Angle.{octant, atan2Of};
+ghost use Rattle.arith.specs.Carry.{boundOf, roundedOf, remainderOf, betweenOf, carriedAt, widthBy};
 
 // ---- bit patterns
 
@@ -498,6 +499,95 @@ pub fn width(a: f64, b: f64) -> Steps
     ensures { λ r. ⌜ r ≡ widthOf a b ⌝ }
 {
     Steps(whole(b - a))
+}
+
+// ---- carried widths (R-1): boundaries in 64ths of a step after the first pulse's edge
+
+// A width with its signed remainder in 64ths, and the boundary at its end.
+pub struct Carried {
+    pub width: Steps,
+    pub remainder: i32,
+    pub bound: u64,
+}
+
+fn smaller(x: u64, y: u64) -> u64
+    ensures { λ r. ⌜ r ≡ min x y ⌝ }
+{
+    if x < y {
+        return x;
+    }
+    y
+}
+
+fn larger(x: u64, y: u64) -> u64
+    ensures { λ r. ⌜ r ≡ max x y ⌝ }
+{
+    if x < y {
+        return y;
+    }
+    x
+}
+
+// The boundary of the edge t: nearest, at most 2^47, never below the one before.
+fn bound_of(origin: f64, before: u64, t: f64) -> u64
+    ensures { λ r. ⌜ r ≡ boundOf origin before t ⌝ }
+{
+    let nearest = step_of((t - origin) * 64.0);
+    larger(before, smaller(nearest, domain::MAX_BOUND))
+}
+
+// A boundary in whole steps, a tie up; no sum here can wrap.
+fn rounded(b: u64) -> u64
+    ensures { λ r. ⌜ r ≡ roundedOf b ⌝ }
+{
+    b / 64 + b % 64 / 32
+}
+
+// A boundary less 64 times its rounded value.
+fn remainder(b: u64) -> i32
+    ensures { λ r. ⌜ r ≡ remainderOf b ⌝ }
+{
+    let n = (b % 64 + 32) % 64;
+    (n as i32) - 32
+}
+
+// The width between two boundaries, at most the largest u32.
+fn between(before: u64, b: u64) -> Steps
+    requires { ⌜ before ≤ b ⌝ }
+    ensures { λ r. ⌜ r ≡ betweenOf before b ⌝ }
+{
+    let n = smaller(rounded(b) - rounded(before), 4294967295);
+    Steps(n as u32)
+}
+
+// The width that ends at the edge t.
+pub fn carried_at(origin: f64, before: u64, t: f64) -> Carried
+    ensures { λ r. ⌜ r ≡ carriedAt origin before t ⌝ }
+{
+    let bound = bound_of(origin, before, t);
+    let width = between(before, bound);
+    let rest = remainder(bound);
+    Carried {
+        width,
+        remainder: rest,
+        bound,
+    }
+}
+
+// The width of an envelope run from a to b, with carry (1) or without.
+pub fn width_by(carry: u32, origin: f64, before: u64, a: f64, b: f64) -> Carried
+    ensures { λ r. ⌜ r ≡ widthBy carry origin before a b ⌝ }
+{
+    let carries = carry == 1;
+    if carries {
+        return carried_at(origin, before, b);
+    }
+    let plain = width(a, b);
+    Carried {
+        width: plain,
+        remainder: 0,
+        bound: before,
+    }
 }
 
 // The width of a frequency run from a to b: the difference of the two rounded times.

@@ -45,7 +45,7 @@ pub record LeftWithin (s : List ℕ) (n : ℕ) (ook fsk x y text : List ℕ) : T
 
 waits-none : (k : Command) → waits true k ≡ true → sizeOf k ≡ 0
 waits-none End w = refl
-waits-none (Open s) w = let z : _≡_ {A = Bool} false true = w in cc
+waits-none (Open s carries) w = let z : _≡_ {A = Bool} false true = w in cc
 waits-none (Begin b) w = let z : _≡_ {A = Bool} false true = w in cc
 waits-none (Step s) w = let z : _≡_ {A = Bool} false true = w in cc
 waits-none Unknown w = refl

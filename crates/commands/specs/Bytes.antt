@@ -8,8 +8,8 @@ use Rattle.words.specs.Laws.{Bytes, Number, byte-at, word-at, word64-at, float-
 use Rattle.ook.specs.declared.Settings.{Settings}
 use Rattle.lane.specs.declared.BeginArgs.{BeginArgs}
 use Rattle.lane.specs.declared.StepArgs.{StepArgs}
-use Rattle.commands.specs.Command.{settingsOf, beginArgsOf, stepArgsOf, historyOf}
-use Rattle.commands.specs.Encode.{openBytes, beginBytes, stepBytes}
+use Rattle.commands.specs.Command.{settingsOf, carrySettingsOf, beginArgsOf, stepArgsOf, historyOf}
+use Rattle.commands.specs.Encode.{openBytes, carryBytes, beginBytes, stepBytes}
 
 abbrev pub OpenNumbers : Settings → Type 0
 OpenNumbers p = Number (p .alpha) × Number (p .«gap_ratio») × Number (p .«fsk_delta») × Number (p .«fsk_split»)
@@ -40,6 +40,21 @@ module _ (o : List ℕ) (all : Bytes o) where
       (float-at o all 29 33 refl (omega arith) (n .2)
       (float-at o all 33 37 refl (omega arith) (n .3) refl)))))))))
       ∙ ap (λ (l : List ℕ). 1 ∷ l) (sym (byte-at o 0 1 refl (omega arith)))
+
+  pub carry-bytes : 38 ≤ length o → OpenNumbers (carrySettingsOf o) → carryBytes (carrySettingsOf o) ++ drop 38 o ≡ 4 ∷ o
+  unfolding carrySettingsOf settingsOf
+  carry-bytes h n =
+      ap (λ (l : List ℕ). 4 ∷ getD o 0 0 ∷ l)
+      (word-at o all 1 5 refl (omega arith)
+      (word-at o all 5 9 refl (omega arith)
+      (word-at o all 9 13 refl (omega arith)
+      (word-at o all 13 17 refl (omega arith)
+      (word-at o all 17 21 refl (omega arith)
+      (float-at o all 21 25 refl (omega arith) (n .0)
+      (float-at o all 25 29 refl (omega arith) (n .1)
+      (float-at o all 29 33 refl (omega arith) (n .2)
+      (float-at o all 33 37 refl (omega arith) (n .3) (sym (byte-at o 37 38 refl (omega arith))))))))))))
+      ∙ ap (λ (l : List ℕ). 4 ∷ l) (sym (byte-at o 0 1 refl (omega arith)))
 
   pub begin-bytes : 60 ≤ length o → BeginNumbers (beginArgsOf o) → beginBytes (beginArgsOf o) ++ drop 60 o ≡ 2 ∷ o
   unfolding beginArgsOf historyOf

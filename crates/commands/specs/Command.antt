@@ -18,7 +18,7 @@ use Rattle.commands.specs.declared.Command.the-variants.{End, Open, Begi
 abbrev pub pairAt : List ℕ → ℕ → C32
 pairAt o i = record { re = f32At o i; im = f32At o (i + 4) }
 
--- 01: mode u8, then five u32, then four f32; 37 operand bytes
+-- 01: mode u8, then five u32, then four f32; 37 operand bytes. It leaves carry off.
 unfoldable pub settingsOf : List ℕ → Settings
 settingsOf o =
     record {
@@ -32,7 +32,29 @@ settingsOf o =
       «gap_ratio» = f32At o 25;
       «fsk_delta» = f32At o 29;
       «fsk_split» = f32At o 33;
+      carry = 0;
     }
+
+-- 04: the operands of 01 and then carry, u8; 38 operand bytes (R-1)
+abbrev pub withCarry : ℕ → Settings → Settings
+withCarry carry p =
+    record {
+      mode = p .mode;
+      «min_steps» = p .«min_steps»;
+      «gap_steps» = p .«gap_steps»;
+      «pre_timeout» = p .«pre_timeout»;
+      «long_steps» = p .«long_steps»;
+      «max_pulses» = p .«max_pulses»;
+      alpha = p .alpha;
+      «gap_ratio» = p .«gap_ratio»;
+      «fsk_delta» = p .«fsk_delta»;
+      «fsk_split» = p .«fsk_split»;
+      carry = carry;
+    }
+
+unfoldable pub carrySettingsOf : List ℕ → Settings
+unfolding settingsOf
+carrySettingsOf o = withCarry (getD o 37 0) (settingsOf o)
 
 -- the seven envelopes of 02, nearest first
 unfoldable pub historyOf : List ℕ → History
@@ -68,20 +90,30 @@ stepArgsOf o = record { index = u64At o 0; noise = f32At o 8; envelope = f32At o
 abbrev pub within : ℕ → List ℕ → Command → Command
 within n o k = cond (ltb (length o) n) Short k
 
+-- an opening: 04 "counts as 01 throughout", and only its operands are more
+unfoldable pub openingOf : Bool → List ℕ → Command
+unfolding settingsOf carrySettingsOf
+openingOf false o = within 37 o (Open (settingsOf o) false)
+openingOf true o = within 38 o (Open (carrySettingsOf o) true)
+
 -- what stands at the front of the bytes: refusal 1 where the command byte is none of the listed ones
 unfoldable pub decoded : List ℕ → Command
-unfolding settingsOf beginArgsOf stepArgsOf
+unfolding openingOf beginArgsOf stepArgsOf
 decoded s =
     cond (ltb (length s) 1) End
-    (cond (eqb (getD s 0 0) 1) (within 37 (drop 1 s) (Open (settingsOf (drop 1 s))))
+    (cond (eqb (getD s 0 0) 1) (openingOf false (drop 1 s))
     (cond (eqb (getD s 0 0) 2) (within 60 (drop 1 s) (Begin (beginArgsOf (drop 1 s))))
     (cond (eqb (getD s 0 0) 3) (within 24 (drop 1 s) (Step (stepArgsOf (drop 1 s))))
-    Unknown)))
+    (cond (eqb (getD s 0 0) 4) (openingOf true (drop 1 s))
+    Unknown))))
+
+abbrev pub openSize : Bool → ℕ
+openSize carries = cond carries 39 38
 
 -- how many bytes a command takes, its command byte counted; none where the stream ends
 abbrev pub sizeOf : Command → ℕ
 sizeOf End = 0
-sizeOf (Open p) = 38
+sizeOf (Open p carries) = openSize carries
 sizeOf (Begin b) = 61
 sizeOf (Step s) = 25
 sizeOf Unknown = 0
@@ -90,7 +122,7 @@ sizeOf Short = 0
 -- whether it is a step
 abbrev pub isStepOf : Command → Bool
 isStepOf End = false
-isStepOf (Open p) = false
+isStepOf (Open p carries) = false
 isStepOf (Begin b) = false
 isStepOf (Step s) = true
 isStepOf Unknown = false

@@ -1,6 +1,7 @@
 -- The commands as bytes, and the other direction of decoding: whatever values document 01's layout can carry, their
 -- bytes decode to these values and are not refused, whatever comes after them. Assumes nothing.
 use Prim.Native.Nat.{ℕ, _<_}
+use mathlib.Core.Bool.{true, false}
 use mathlib.Core.Path.{_≡_}
 use mathlib.Core.List.{List, [], _∷_, _++_}
 use native.Mathlib.Omega.{arith}
@@ -14,16 +15,23 @@ use Rattle.ook.specs.declared.Settings.{Settings}
 use Rattle.lane.specs.declared.BeginArgs.{BeginArgs}
 use Rattle.lane.specs.declared.StepArgs.{StepArgs}
 use Rattle.commands.specs.declared.Command.the-variants.{Open, Begin, Step}
-use Rattle.commands.specs.Command.{u32At, u64At, settingsOf, beginArgsOf, stepArgsOf, historyOf, decoded}
+use Rattle.commands.specs.Command.{u32At, u64At, withCarry, settingsOf, carrySettingsOf, openingOf, beginArgsOf, stepArgsOf, historyOf, decoded}
 
 -- ---- the layout
 
--- 01
-abbrev pub openBytes : Settings → List ℕ
-openBytes p =
-    1 ∷ p .mode
+-- the operands of 01, before other bytes
+abbrev pub settingsBytes : Settings → List ℕ → List ℕ
+settingsBytes p r =
+    p .mode
     ∷ (word (p .«min_steps») ++ (word (p .«gap_steps») ++ (word (p .«pre_timeout») ++ (word (p .«long_steps») ++ (word (p .«max_pulses»)
-    ++ (float (p .alpha) ++ (float (p .«gap_ratio») ++ (float (p .«fsk_delta») ++ (float (p .«fsk_split») ++ [])))))))))
+    ++ (float (p .alpha) ++ (float (p .«gap_ratio») ++ (float (p .«fsk_delta») ++ (float (p .«fsk_split») ++ r)))))))))
+
+-- 01, and 04 with carry
+abbrev pub openBytes : Settings → List ℕ
+openBytes p = 1 ∷ settingsBytes p []
+
+abbrev pub carryBytes : Settings → List ℕ
+carryBytes p = 4 ∷ settingsBytes p (p .carry ∷ [])
 
 -- 02
 abbrev pub beginBytes : BeginArgs → List ℕ
@@ -61,10 +69,15 @@ StepFits s =
 
 -- ---- bytes and back
 
-pub open-back : (p : Settings) (t : List ℕ) → OpenFits p → decoded (openBytes p ++ t) ≡ Open p
-unfolding decoded settingsOf u32At u64At
+pub open-back : (p : Settings) (t : List ℕ) → OpenFits p → decoded (openBytes p ++ t) ≡ Open (withCarry 0 p) false
+unfolding decoded openingOf settingsOf u32At u64At
 open-back p t (a, b, c, d, e, f, g, i, j) =
     simp (le-ltb (length (openBytes p ++ t)) 1 (omega arith), le-ltb (length (drop 1 (openBytes p ++ t))) 37 (omega arith), word-back, float-back)
+
+pub carry-back : (p : Settings) (t : List ℕ) → OpenFits p → decoded (carryBytes p ++ t) ≡ Open p true
+unfolding decoded openingOf settingsOf carrySettingsOf u32At u64At
+carry-back p t (a, b, c, d, e, f, g, i, j) =
+    simp (le-ltb (length (carryBytes p ++ t)) 1 (omega arith), le-ltb (length (drop 1 (carryBytes p ++ t))) 38 (omega arith), word-back, float-back)
 
 pub begin-back : (b : BeginArgs) (t : List ℕ) → BeginFits b → decoded (beginBytes b ++ t) ≡ Begin b
 unfolding decoded beginArgsOf historyOf u32At u64At

@@ -8,9 +8,10 @@ use lib.ListN.{length, getD, drop, length-append, length-drop, List·getD-append
 use lib.Dec.{eqb, ltb, leb}
 use borrow.Author.Tests.{eqb-true, ltb-true, ltb-false, leb-true, lt-ltb, le-ltb}
 use native.Mathlib.Nat.{not-suc-le-zero}
+use Rattle.ook.specs.declared.Settings.{Settings}
 use Rattle.commands.specs.declared.Command.{Command}
 use Rattle.commands.specs.declared.Command.the-variants.{End, Open, Begin, Step, Unknown, Short}
-use Rattle.commands.specs.Command.{u32At, u64At, settingsOf, beginArgsOf, stepArgsOf, historyOf, within, decoded, sizeOf, isStepOf}
+use Rattle.commands.specs.Command.{u32At, u64At, settingsOf, carrySettingsOf, openingOf, beginArgsOf, stepArgsOf, historyOf, within, decoded, sizeOf, isStepOf}
 
 -- ---- a command that lies in the bytes takes no more of them than there are
 
@@ -26,13 +27,14 @@ held o m n x e h = go (ltb (length o) m) refl
     go false q = omega (arith, ltb-false (length o) m q)
 
 pub size-fits : (s : List ℕ) → sizeOf (decoded s) ≤ length s
-unfolding decoded
+unfolding decoded openingOf
 size-fits [] = omega arith
 size-fits (b ∷ o) =
     pick (ltb (length (b ∷ o)) 1) _ _ _ (omega arith)
     (pick (eqb b 1) _ _ _ (held o 37 _ _ refl (omega arith))
     (pick (eqb b 2) _ _ _ (held o 60 _ _ refl (omega arith))
-    (pick (eqb b 3) _ _ _ (held o 24 _ _ refl (omega arith)) (omega arith))))
+    (pick (eqb b 3) _ _ _ (held o 24 _ _ refl (omega arith))
+    (pick (eqb b 4) _ _ _ (held o 38 _ _ refl (omega arith)) (omega arith)))))
 
 -- ---- bytes that come after a whole command change nothing
 
@@ -60,6 +62,10 @@ settings-more : (o t : List ℕ) → 37 ≤ length o → settingsOf (o ++ t) ≡
 unfolding settingsOf
 settings-more o t h = simp (byte-more o t 37 h, u32-more o t 37 h)
 
+carry-more : (o t : List ℕ) → 38 ≤ length o → carrySettingsOf (o ++ t) ≡ carrySettingsOf o
+unfolding carrySettingsOf settingsOf
+carry-more o t h = simp (byte-more o t 38 h, u32-more o t 38 h)
+
 begin-more : (o t : List ℕ) → 60 ≤ length o → beginArgsOf (o ++ t) ≡ beginArgsOf o
 unfolding beginArgsOf historyOf
 begin-more o t h = simp (u64-more o t 60 h, u32-more o t 60 h)
@@ -71,7 +77,7 @@ step-more o t h = simp (u64-more o t 24 h, u32-more o t 24 h)
 -- whether the bytes of a command are all there: a byte that no command begins with is refused by itself
 abbrev pub whole : Command → Bool
 whole End = false
-whole (Open p) = true
+whole (Open p carries) = true
 whole (Begin b) = true
 whole (Step s) = true
 whole Unknown = true
@@ -90,13 +96,14 @@ choose true x y u v f g w = f w
 choose false x y u v f g w = g w
 
 pub decoded-more : (s t : List ℕ) → whole (decoded s) ≡ true → decoded (s ++ t) ≡ decoded s
-unfolding decoded
+unfolding decoded openingOf
 decoded-more [] t w = let z : _≡_ {A = Bool} false true = w in cc
 decoded-more (b ∷ o) t w =
     simp (le-ltb (suc (length (o ++ t))) 1 (omega arith), le-ltb (suc (length o)) 1 (omega arith))
-    (choose (eqb b 1) _ _ _ _ (within-whole 37 o t _ _ (λ h. ap Open (settings-more o t h)))
+    (choose (eqb b 1) _ _ _ _ (within-whole 37 o t _ _ (λ h. ap (λ (p : Settings). Open p false) (settings-more o t h)))
     (choose (eqb b 2) _ _ _ _ (within-whole 60 o t _ _ (λ h. ap Begin (begin-more o t h)))
-    (choose (eqb b 3) _ _ _ _ (within-whole 24 o t _ _ (λ h. ap Step (step-more o t h))) (λ q. refl)))
+    (choose (eqb b 3) _ _ _ _ (within-whole 24 o t _ _ (λ h. ap Step (step-more o t h)))
+    (choose (eqb b 4) _ _ _ _ (within-whole 38 o t _ _ (λ h. ap (λ (p : Settings). Open p true) (carry-more o t h))) (λ q. refl))))
     (simp (le-ltb (suc (length o)) 1 (omega arith)) at w))
 
 -- ---- a step at the front of the bytes
@@ -107,30 +114,35 @@ neither false x y h k = k
 
 -- a command byte 3 with its 24 operand bytes
 step-front : (s : List ℕ) → 25 ≤ length s → eqb (getD s 0 0) 3 ≡ true → decoded s ≡ Step (stepArgsOf (drop 1 s))
-unfolding decoded
+unfolding decoded openingOf
 step-front s h e =
     let b : getD s 0 0 ≡ 3 = eqb-true (getD s 0 0) 3 e in
     simp (le-ltb (length s) 1 (omega arith), b, le-ltb (length (drop 1 s)) 24 (omega (arith, length-drop 1 s)))
 
--- no step, whatever the first three commands have
-no-step : (s : List ℕ) → isStepOf (cond (eqb (getD s 0 0) 3) (within 24 (drop 1 s) (Step (stepArgsOf (drop 1 s)))) Unknown) ≡ false → isStepOf (decoded s) ≡ false
-unfolding decoded
+-- a branch that is not taken does not matter
+unless : (b : Bool) (x y : Command) → (b ≡ true → isStepOf x ≡ false) → isStepOf y ≡ false → isStepOf (cond b x y) ≡ false
+unless true x y h k = h refl
+unless false x y h k = k
+
+-- no step, whatever the other commands have
+no-step : (s : List ℕ) → (eqb (getD s 0 0) 3 ≡ true → isStepOf (within 24 (drop 1 s) (Step (stepArgsOf (drop 1 s)))) ≡ false) → isStepOf (decoded s) ≡ false
+unfolding decoded openingOf
 no-step s h =
     neither (ltb (length s) 1) _ _ refl
     (neither (eqb (getD s 0 0) 1) _ _ (neither (ltb (length (drop 1 s)) 37) _ _ refl refl)
-    (neither (eqb (getD s 0 0) 2) _ _ (neither (ltb (length (drop 1 s)) 60) _ _ refl refl) h))
+    (neither (eqb (getD s 0 0) 2) _ _ (neither (ltb (length (drop 1 s)) 60) _ _ refl refl)
+    (unless (eqb (getD s 0 0) 3) _ _ h
+    (neither (eqb (getD s 0 0) 4) _ _ (neither (ltb (length (drop 1 s)) 38) _ _ refl refl) refl))))
 
 pub short-front : (s : List ℕ) → length s < 25 → isStepOf (decoded s) ≡ false
-short-front s h =
-    no-step s
-    (neither (eqb (getD s 0 0) 3) _ _ (ap (λ (b : Bool). isStepOf (cond b Short (Step (stepArgsOf (drop 1 s))))) (lt-ltb (length (drop 1 s)) 24 (omega (arith, length-drop 1 s, h)))) refl)
+short-front s h = no-step s (λ q. ap (λ (b : Bool). isStepOf (cond b Short (Step (stepArgsOf (drop 1 s))))) (lt-ltb (length (drop 1 s)) 24 (omega (arith, length-drop 1 s, h))))
 
 pub long-front : (s : List ℕ) → 25 ≤ length s → eqb (getD s 0 0) 3 ≡ isStepOf (decoded s)
 long-front s h = go (eqb (getD s 0 0) 3) refl
   where
     go : (b : Bool) → eqb (getD s 0 0) 3 ≡ b → b ≡ isStepOf (decoded s)
     go true q = sym (ap isStepOf (step-front s h q))
-    go false q = sym (no-step s (ap (λ (b : Bool). isStepOf (cond b (within 24 (drop 1 s) (Step (stepArgsOf (drop 1 s)))) Unknown)) q))
+    go false q = sym (no-step s (λ e. let z : _≡_ {A = Bool} false true = sym q ∙ e in cc))
 
 -- so a step has its operand bytes
 pub step-there : (s : List ℕ) → isStepOf (decoded s) ≡ true → (25 ≤ length s) × (Step (stepArgsOf (drop 1 s)) ≡ decoded s)

@@ -3,7 +3,7 @@
 ghost use mathlib.Core.Path.{_≡_};
 ghost use Prim.Native.Nat.{_+_, _≤_, _<_};
 ghost use lib.ListN.{length, drop};
-ghost use Rattle.commands.specs.Command.{pairAt, historyOf, settingsOf, beginArgsOf, stepArgsOf, decoded, sizeOf, isStepOf};
+ghost use Rattle.commands.specs.Command.{pairAt, historyOf, settingsOf, openingOf, beginArgsOf, stepArgsOf, decoded, openSize, sizeOf, isStepOf};
 ghost use mathlib.Core.Bool.{true};
 ghost use Rattle.commands.specs.declared.Command.the-variants.{Step};
 use arith::C32;
@@ -15,7 +15,8 @@ use ook::Settings;
 pub enum Command {
     // Nothing is left.
     End,
-    Open(Settings),
+    // 01, and 04 where the bool is true: with carry among the operands.
+    Open(Settings, bool),
     Begin(BeginArgs),
     Step(StepArgs),
     // Refusal 1: the command byte is none of the listed ones.
@@ -56,6 +57,7 @@ fn settings_of(o: &[u8]) -> Settings
         gap_ratio: words::f32_at(o, 25),
         fsk_delta: words::f32_at(o, 29),
         fsk_split: words::f32_at(o, 33),
+        carry: 0,
     }
 }
 
@@ -112,6 +114,26 @@ fn after(s: &[u8], a: usize) -> &[u8]
     &s[..0]
 }
 
+// An opening by its operands: 04 has carry after those of 01.
+fn decode_open(o: &[u8], carries: bool) -> Command
+    ensures { λ r. ⌜ r ≡ openingOf carries (now (o .entry)) ⌝ }
+{
+    if o.len() < 37 {
+        return Command::Short;
+    }
+    let p = settings_of(o);
+    if carries {
+        if o.len() < 38 {
+            return Command::Short;
+        }
+        let carry = wide(o[37]);
+        let mut n = p;
+        n.carry = carry;
+        return Command::Open(n, true);
+    }
+    Command::Open(p, false)
+}
+
 // What stands at the front of the bytes.
 fn decode(s: &[u8]) -> Command
     ensures { λ r. ⌜ r ≡ decoded (now (s .entry)) ⌝ }
@@ -123,11 +145,7 @@ fn decode(s: &[u8]) -> Command
     let o = after(s, 1);
     let opens = b == 1;
     if opens {
-        if o.len() < 37 {
-            return Command::Short;
-        }
-        let p = settings_of(o);
-        return Command::Open(p);
+        return decode_open(o, false);
     }
     let begins = b == 2;
     if begins {
@@ -144,6 +162,10 @@ fn decode(s: &[u8]) -> Command
         }
         let p = step_args(o);
         return Command::Step(p);
+    }
+    let carries = b == 4;
+    if carries {
+        return decode_open(o, true);
     }
     Command::Unknown
 }
@@ -177,13 +199,22 @@ pub fn step_at(s: &[u8], at: usize) -> StepArgs
     step_args(o)
 }
 
+fn open_size(carries: bool) -> usize
+    ensures { λ r. ⌜ r ≡ openSize carries ⌝ }
+{
+    if carries {
+        return 39;
+    }
+    38
+}
+
 // How many bytes a command takes.
 pub fn size_of(k: Command) -> usize
     ensures { λ r. ⌜ r ≡ sizeOf k ⌝ }
 {
     match k {
         Command::End => 0,
-        Command::Open(_) => 38,
+        Command::Open(_, carries) => open_size(carries),
         Command::Begin(_) => 61,
         Command::Step(_) => 25,
         Command::Unknown => 0,

@@ -20,3 +20,7 @@ maxIndex = 2 ^ 40
 -- `fsk_cnt` and `fsk_runs`
 abbrev pub maxCount : ℕ
 maxCount = 2 ^ 27
+
+-- a boundary in carry mode, in 64ths of a step (document 02, R-1)
+abbrev pub maxBound : ℕ
+maxBound = 2 ^ 47

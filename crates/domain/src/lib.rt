@@ -10,3 +10,5 @@ pub const MAX_STEPS: u32 = 1 << 24;
 pub const MAX_INDEX: u64 = 1 << 40;
 // The most samples and runs that a frame counts.
 pub const MAX_COUNT: u32 = 1 << 27;
+// The largest boundary of a train in carry mode, in 64ths of a step.
+pub const MAX_BOUND: u64 = 1 << 47;

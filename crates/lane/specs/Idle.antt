@@ -18,7 +18,7 @@ use Rattle.burst.specs.declared.Lead.{Lead}
 use Rattle.lane.specs.declared.Lane.{Lane}
 
 abbrev pub noSettings : Settings
-noSettings = record { mode = 0; «min_steps» = 0; «gap_steps» = 0; «pre_timeout» = 0; «long_steps» = 0; «max_pulses» = 0; alpha = zero32; «gap_ratio» = zero32; «fsk_delta» = zero32; «fsk_split» = zero32 }
+noSettings = record { mode = 0; «min_steps» = 0; «gap_steps» = 0; «pre_timeout» = 0; «long_steps» = 0; «max_pulses» = 0; alpha = zero32; «gap_ratio» = zero32; «fsk_delta» = zero32; «fsk_split» = zero32; carry = 0 }
 
 abbrev pub noOut : Out
 noOut = record { index = 0; end = 0; state = 0; cut = 0; pairs = 0; level = zero32; fsk = 0; carrier = Angle zero32 }
@@ -32,7 +32,7 @@ noEnv = record {
 }
 
 abbrev pub noTrain : Train
-noTrain = record { start = 0; «pulse_end» = 0; started = 0; «ook_n» = 0; «open» = 0; longest = zeroSteps; truncated = 0; acc = zeroC32 }
+noTrain = record { start = 0; «pulse_end» = 0; started = 0; «ook_n» = 0; «open» = 0; longest = zeroSteps; truncated = 0; acc = zeroC32; origin = zero64; bound = 0 }
 
 abbrev pub noPres : Pres
 noPres = record { «p_t_run» = zero64; «p_t_prev» = zero64; «p_factor» = zero32; «p_level» = 0; «p_run» = 0; «p_confirmed» = 0; «p_prev» = 0 }

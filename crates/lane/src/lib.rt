@@ -314,6 +314,8 @@ fn no_train() -> Train
         longest: Steps(0),
         truncated: 0,
         acc: C32 { re: 0.0, im: 0.0 },
+        origin: 0.0,
+        bound: 0,
     }
 }
 
@@ -400,6 +402,7 @@ pub fn new_lane() -> Lane
         gap_ratio: 0.0,
         fsk_delta: 0.0,
         fsk_split: 0.0,
+        carry: 0,
     };
     idle_lane(0, p)
 }

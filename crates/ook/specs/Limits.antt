@@ -8,6 +8,7 @@ use native.Mathlib.Omega.{arith}
 use lib.Dec.{leb, eqb, ltb}
 use lib.Ieee.{Float}
 use borrow.Author.Tests.{leb-false, eqb-true}
+use Rattle.domain.specs.Limits.{maxBound}
 use Rattle.arith.specs.declared.C32.{C32}
 use Rattle.arith.specs.declared.Steps.{Steps}
 use Rattle.arith.specs.Leaves.{stepOf}
@@ -47,6 +48,7 @@ pub record TrainWithin (max : ℕ) (t : Train) : Type 0 where
   pub open-flag : t .«open» ≤ 1
   pub truncated-flag : t .truncated ≤ 1
   pub pulses : t .«ook_n» + t .«open» ≤ max
+  pub bounded : t .bound ≤ maxBound
 
 pub record OutWithin (max : ℕ) (o : Out) : Type 0 where
   pub state-flag : o .state ≤ 1

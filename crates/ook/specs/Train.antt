@@ -9,7 +9,7 @@ use lib.IntN.{pos}
 use lib.Ieee.{Float, binary32, add, mul, lt, ofInt}
 use Rattle.arith.specs.declared.C32.{C32}
 use Rattle.arith.specs.declared.Steps.{Steps}
-use Rattle.arith.specs.Leaves.{stepOf}
+use Rattle.arith.specs.Leaves.{stepOf, zero64}
 use Rattle.ook.specs.Counts.{inc, bit, zeroC32}
 use Rattle.ook.specs.declared.Train.{Train}
 use Rattle.ook.specs.declared.Out.{Out}
@@ -22,8 +22,8 @@ use Rattle.ook.specs.declared.Next.the-variants.{Stay, Idle}
 use Rattle.ook.specs.declared.Carrier.the-variants.{Vector}
 
 -- the makers: a train from its fields, and with some of its fields changed
-abbrev pub trainOf : ℕ → ℕ → ℕ → ℕ → ℕ → Steps → ℕ → C32 → Train
-trainOf start «pulse_end» started «ook_n» opened longest truncated acc =
+abbrev pub trainOf : ℕ → ℕ → ℕ → ℕ → ℕ → Steps → ℕ → C32 → Float → ℕ → Train
+trainOf start «pulse_end» started «ook_n» opened longest truncated acc origin bound =
     record {
       start = start;
       «pulse_end» = «pulse_end»;
@@ -33,28 +33,34 @@ trainOf start «pulse_end» started «ook_n» opened longest truncated acc =
       longest = longest;
       truncated = truncated;
       acc = acc;
+      origin = origin;
+      bound = bound;
     }
 
-abbrev pub withFirst : ℕ → Train → Train
-withFirst start t = trainOf start (t .«pulse_end») 1 (t .«ook_n») (t .«open») (t .longest) (t .truncated) zeroC32
+-- the first pulse: origin is its edge, whose boundary is 0
+abbrev pub withFirst : ℕ → Float → Train → Train
+withFirst start origin t = trainOf start (t .«pulse_end») 1 (t .«ook_n») (t .«open») (t .longest) (t .truncated) zeroC32 origin 0
+
+abbrev pub withBound : ℕ → Train → Train
+withBound bound t = trainOf (t .start) (t .«pulse_end») (t .started) (t .«ook_n») (t .«open») (t .longest) (t .truncated) (t .acc) (t .origin) bound
 
 abbrev pub withStarted : ℕ → Train → Train
-withStarted started t = trainOf (t .start) (t .«pulse_end») started (t .«ook_n») (t .«open») (t .longest) (t .truncated) (t .acc)
+withStarted started t = trainOf (t .start) (t .«pulse_end») started (t .«ook_n») (t .«open») (t .longest) (t .truncated) (t .acc) (t .origin) (t .bound)
 
 abbrev pub withPairs : ℕ → ℕ → Train → Train
-withPairs «ook_n» opened t = trainOf (t .start) (t .«pulse_end») (t .started) «ook_n» opened (t .longest) (t .truncated) (t .acc)
+withPairs «ook_n» opened t = trainOf (t .start) (t .«pulse_end») (t .started) «ook_n» opened (t .longest) (t .truncated) (t .acc) (t .origin) (t .bound)
 
 abbrev pub withEnd : ℕ → Train → Train
-withEnd «pulse_end» t = trainOf (t .start) «pulse_end» (t .started) (t .«ook_n») (t .«open») (t .longest) (t .truncated) (t .acc)
+withEnd «pulse_end» t = trainOf (t .start) «pulse_end» (t .started) (t .«ook_n») (t .«open») (t .longest) (t .truncated) (t .acc) (t .origin) (t .bound)
 
 abbrev pub withLongest : Steps → Train → Train
-withLongest longest t = trainOf (t .start) (t .«pulse_end») (t .started) (t .«ook_n») (t .«open») longest (t .truncated) (t .acc)
+withLongest longest t = trainOf (t .start) (t .«pulse_end») (t .started) (t .«ook_n») (t .«open») longest (t .truncated) (t .acc) (t .origin) (t .bound)
 
 abbrev pub withTruncated : ℕ → Train → Train
-withTruncated truncated t = trainOf (t .start) (t .«pulse_end») (t .started) (t .«ook_n») (t .«open») (t .longest) truncated (t .acc)
+withTruncated truncated t = trainOf (t .start) (t .«pulse_end») (t .started) (t .«ook_n») (t .«open») (t .longest) truncated (t .acc) (t .origin) (t .bound)
 
 abbrev pub withAcc : C32 → Train → Train
-withAcc acc t = trainOf (t .start) (t .«pulse_end») (t .started) (t .«ook_n») (t .«open») (t .longest) (t .truncated) acc
+withAcc acc t = trainOf (t .start) (t .«pulse_end») (t .started) (t .«ook_n») (t .«open») (t .longest) (t .truncated) acc (t .origin) (t .bound)
 
 abbrev pub zeroSteps : Steps
 zeroSteps = record { 0 = 0 }
@@ -79,7 +85,7 @@ closeGapOf t gap ook =
 
 -- no pulses: what end_train, cut_train and begin_burst leave; start and pulse_end stay
 unfoldable pub emptyTrainOf : Train → Train
-emptyTrainOf t = trainOf (t .start) (t .«pulse_end») 0 0 0 zeroSteps 0 zeroC32
+emptyTrainOf t = trainOf (t .start) (t .«pulse_end») 0 0 0 zeroSteps 0 zeroC32 zero64 0
 
 -- the record of a train: it decides (OUT_DECIDE is 1), and its carrier is the two sums that atan2f would get
 abbrev pub recordOf : Train → Float → Out

@@ -18,7 +18,7 @@ use arith::Steps;
 
 // ---- what the lane shares
 
-// mode: 0 OOK, 1 FSK, 2 Auto.
+// mode: 0 OOK, 1 FSK, 2 Auto. carry: 1 where widths are taken by boundaries.
 pub struct Settings {
     pub mode: u32,
     pub min_steps: u32,
@@ -30,6 +30,7 @@ pub struct Settings {
     pub gap_ratio: f32,
     pub fsk_delta: f32,
     pub fsk_split: f32,
+    pub carry: u32,
 }
 
 // What a call asks for: to stay, to be idle, or to be idle at an envelope.
@@ -98,7 +99,7 @@ pub struct Env {
     pub ref_pending: u32,
 }
 
-// The train of the pulses so far.
+// The train of the pulses so far; origin is the first pulse's edge, bound the last boundary in 64ths of a step after it.
 pub struct Train {
     pub start: u64,
     pub pulse_end: u64,
@@ -108,6 +109,8 @@ pub struct Train {
     pub longest: Steps,
     pub truncated: u32,
     pub acc: C32,
+    pub origin: f64,
+    pub bound: u64,
 }
 
 // Whether a pulse had room, and the train.
@@ -622,6 +625,8 @@ pub fn empty_train(t: Train) -> Train
         longest: Steps(0),
         truncated: 0,
         acc: C32 { re: 0.0, im: 0.0 },
+        origin: 0.0,
+        bound: 0,
     }
 }
 

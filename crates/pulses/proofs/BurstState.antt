@@ -29,8 +29,10 @@ use Rattle.burst.specs.Lead.{beginBurstOf, leadAtOf, staying, replayFrom, repla
 use Rattle.pulses.specs.Runs.{Sample}
 use Rattle.pulses.specs.Yardstick.{levelled, replayed, burstAt}
 use Rattle.pulses.proofs.Machine.{after, emitted}
-use Rattle.pulses.proofs.RunState.{isHigh, rest-low}
-use Rattle.pulses.proofs.TrainState.{Slots, none-yet}
+use Rattle.pulses.proofs.RunState.{opened, rest-low}
+use Rattle.pulses.proofs.Edges.{flat}
+use Rattle.pulses.proofs.TrainState.{none-yet}
+use Rattle.slots.specs.Slots.{slotsOf, lastOr}
 use Rattle.pulses.proofs.OokSample.{Follows, After, stays, over, not-stay, doneOf, endOf, sample-follows}
 
 -- a burst under way, its record so far xs
@@ -42,11 +44,11 @@ abbrev pub Next-is : Settings → Sampled × List ℕ × List ℕ → List (Samp
 Next-is p r xs = After p (r .0 .burst .env) (record { next = r .0 .next; train = r .0 .burst .train; out = r .0 .burst .«out_ook» }) (r .1) xs
 
 -- a burst at its start has no pulse
-start-follows : (p : Settings) (high t e : Float) (b : Burst) (ook : List ℕ) → b .«out_ook» .state ≡ 0 → 2 * p .«max_pulses» ≤ length ook → Under p (beginBurstOf high t e b) ook []
-unfolding beginBurstOf beginEnvOf emptyTrainOf after emitted isHigh Slots
+pub start-follows : (p : Settings) (high t e : Float) (b : Burst) (ook : List ℕ) → b .«out_ook» .state ≡ 0 → 2 * p .«max_pulses» ≤ length ook → Under p (beginBurstOf high t e b) ook []
+unfolding beginBurstOf beginEnvOf emptyTrainOf after emitted opened flat slotsOf lastOr
 start-follows p high t e b ook z h = record {
-  run = rest-low refl refl refl;
-  train = record { state = none-yet refl refl refl refl refl; uncut = refl; room = h; fits = omega arith; slots = λ i u. absurd (omega arith) };
+  run = rest-low refl refl refl refl (λ u. absurd (omega arith));
+  train = record { state = none-yet refl refl refl refl; uncut = refl; room = h; fits = omega arith; slots = record { rest = ook; split = refl } };
   undecided = z;
 }
 

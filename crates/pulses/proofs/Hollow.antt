@@ -3,9 +3,9 @@
 use mathlib.Core.Path.{refl}
 use mathlib.Core.List.{_++_}
 use Rattle.lane.specs.declared.Reply.{Reply}
-use Rattle.pulses.specs.Lists.{opens, slots, m6, m7, two, unended}
+use Rattle.pulses.specs.Lists.{opens, slots, m6, m7, two, halves, unended}
 use Rattle.pulses.specs.Ran.{ran}
-use Rattle.pulses.specs.Hollow.{Fails, silent, fixed, first-only, invented, idle-early, cut-early, glitch-counts, train-early, other-kind, gapless}
+use Rattle.pulses.specs.Hollow.{Fails, silent, fixed, first-only, invented, idle-early, cut-early, glitch-counts, train-early, other-kind, gapless, never-carries, always-carries}
 use Rattle.pulses.proofs.Refuted.{by-pulses, by-slots, under-way, passes, refuted}
 
 -- M6, and no train
@@ -57,3 +57,12 @@ other-kind-fails = refuted by-pulses other-kind (opens 4 ++ m6 10 (slots 8)) ref
 pub gapless-fails : Fails gapless
 unfolding passes ran gapless
 gapless-fails = refuted by-slots gapless (opens 4 ++ two 10 (slots 8)) refl refl
+
+-- two pulses of 1.5 steps, a gap of 2.5 between them: the gap is 3 without carry and 2 with it
+pub never-carries-fails : Fails never-carries
+unfolding passes ran never-carries
+never-carries-fails = refuted by-pulses never-carries (halves 1) refl refl
+
+pub always-carries-fails : Fails always-carries
+unfolding passes ran always-carries
+always-carries-fails = refuted by-pulses always-carries (halves 0) refl refl

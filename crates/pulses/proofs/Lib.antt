@@ -14,5 +14,6 @@ pub mod Measure
 pub mod Calls
 pub mod Theorem
 pub mod Refuted
+pub mod Sums
 pub mod Hollow
 pub mod Examples

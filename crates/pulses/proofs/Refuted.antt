@@ -3,36 +3,36 @@
 use mathlib.Core.Path.{_≡_, refl, sym, ap, _∙_}
 use mathlib.Core.Bool.{Bool, true, false, cond, _&&_}
 use mathlib.Core.Option.{Option, none, some}
-use mathlib.Core.List.{List, [], _∷_, _++_, map, append-nil}
-use Prim.Native.Nat.{ℕ, min}
+use mathlib.Core.List.{List, [], _∷_, _++_, append-nil}
+use Prim.Native.Nat.{ℕ, _-_, _*_, min}
 use lib.Dec.{ltb, eqb}
 use borrow.Author.Tests.{eqb-true, eqb-false, eq-eqb}
 use lib.ListN.{length, take}
 use lib.Ieee.{Float}
 use Rattle.ook.specs.declared.Settings.{Settings}
 use Rattle.ook.specs.Counts.{bit}
-use Rattle.pulses.specs.Runs.{Pulse, pulseWidth}
+use Rattle.pulses.specs.Runs.{Pulse, edges}
 use Rattle.pulses.specs.Yardstick.{Call, Given}
-use Rattle.pulses.specs.Demand.{Program, Place, firsts, width, Gives, settingsAt, pulsesAt, Holds, Each, NoneYet, Demand3}
+use Rattle.pulses.specs.Demand.{Program, Place, slotsBetween, Gives, settingsAt, pulsesAt, Holds, Each, NoneYet, Demand3}
 use Rattle.pulses.specs.Ran.{Ran, ran}
 use Rattle.pulses.specs.Hollow.{Fails}
 use Rattle.pulses.proofs.Flags.{clash}
 
 -- ---- the tests
--- kind, pairs, cut mark and widths, as trains tell them and as a record asks them
+-- kind, pairs, cut mark and the slots from the first pulse to the last, as trains tell them and as a record asks them
 unfoldable pub told : List Given → List ℕ
 told [] = []
-told (g ∷ gs) = g .out .fsk ∷ g .out .pairs ∷ g .out .cut ∷ (firsts (g .part) ++ told gs)
+told (g ∷ gs) = g .out .fsk ∷ g .out .pairs ∷ g .out .cut ∷ (take (2 * g .out .pairs - 1) (g .part) ++ told gs)
 
-unfoldable pub number : Option ℕ → ℕ
-number none = 0
-number (some n) = n
+unfoldable pub numbers : Option (List ℕ) → List ℕ
+numbers none = []
+numbers (some ns) = ns
 
 unfoldable pub asked : Settings → List (Pulse Float) → List ℕ
 asked p [] = []
 asked p (q ∷ qs) =
     0 ∷ min (length (q ∷ qs)) (p .«max_pulses») ∷ bit (ltb (p .«max_pulses») (length (q ∷ qs)))
-    ∷ map (λ (x : Pulse Float). number (pulseWidth width (p .«min_steps») x)) (take (p .«max_pulses») (q ∷ qs))
+    ∷ numbers (slotsBetween (p .carry) (edges (p .«min_steps») (take (p .«max_pulses») (q ∷ qs))))
 
 unfoldable pub parts : List Given → List ℕ
 parts [] = []
@@ -56,7 +56,7 @@ every f [] = true
 every f (k ∷ ks) = cond (eqb (settingsAt k .mode) 0) (f k) true && every f ks
 
 unfoldable pub passes : {W : Program} → Test → Ran W → Bool
-unfolding told number asked parts equal every
+unfolding told numbers asked parts equal every
 passes by-pulses r = every (λ k. equal (told (k .trains)) (asked (settingsAt k) (pulsesAt k))) (r .ended)
 passes by-slots r = every (λ k. equal (parts (k .trains)) (parts (k .yard .trains))) (r .ended)
 passes under-way r = cond (eqb (r .last .yard .lane .phase) 0) true (cond (eqb (settingsAt (r .last) .mode) 0) (equal (told (r .last .trains)) []) true)
@@ -70,25 +70,10 @@ equal-same xs ys q = rw q (go ys)
     go [] = refl
     go (x ∷ l) = rw (eq-eqb x x refl) (go l)
 
-numbers : (ns : List ℕ) → map number (map some ns) ≡ ns
-unfolding number
-numbers [] = refl
-numbers (n ∷ ns) = ap (λ (l : List ℕ). n ∷ l) (numbers ns)
-
-map-map : (f : Pulse Float → Option ℕ) (qs : List (Pulse Float)) → map number (map f qs) ≡ map (λ (q : Pulse Float). number (f q)) qs
-map-map f [] = refl
-map-map f (q ∷ qs) = ap (λ (l : List ℕ). number (f q) ∷ l) (map-map f qs)
-
 tells : (p : Settings) (ps : List (Pulse Float)) (ts : List Given) → Gives p ps ts → told ts ≡ asked p ps
-unfolding Gives told asked
+unfolding Gives told asked numbers
 tells p [] ts q = ap told q
-tells p (q ∷ qs) ts (g, e, T) = ap told e ∙ rw (T .kind, T .pairs, T .cut, append-nil, widths)
-  where
-    f : Pulse Float → Option ℕ
-    f = pulseWidth width (p .«min_steps»)
-
-    widths : firsts (g .part) ≡ map (λ (x : Pulse Float). number (f x)) (take (p .«max_pulses») (q ∷ qs))
-    widths = sym (numbers (firsts (g .part))) ∙ ap (map number) (T .widths) ∙ map-map f (take (p .«max_pulses») (q ∷ qs))
+tells p (q ∷ qs) ts (g, e, T) = ap told e ∙ rw (ap numbers (T .slots), T .kind, T .pairs, T .cut, append-nil)
 
 module _ {W : Program} where
   each-passes : (f : Place W → Bool) → ((k : Place W) → Holds k → f k ≡ true) → (ks : List (Place W)) → Each ks → every f ks ≡ true

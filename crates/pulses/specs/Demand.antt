@@ -2,9 +2,9 @@
 -- run, edge and pulse stand in Runs, the yardstick in Yardstick. `demand-3` in proofs/Theorem is `Demand3 theLane`.
 use mathlib.Core.Path.{_≡_}
 use mathlib.Core.Bool.{Bool, true, cond}
-use mathlib.Core.Option.{some}
+use mathlib.Core.Option.{Option, none, some}
 use mathlib.Core.List.{List, [], _∷_, _++_, map}
-use Prim.Native.Nat.{ℕ, _*_, min}
+use Prim.Native.Nat.{ℕ, _-_, _*_, min}
 use lib.Dec.{ltb}
 use lib.ListN.{length, take}
 use lib.Ieee.{Float}
@@ -18,7 +18,8 @@ use Rattle.lane.specs.declared.Answer.{Answer}
 use Rattle.lane.specs.declared.BeginArgs.{BeginArgs}
 use Rattle.lane.specs.declared.StepArgs.{StepArgs}
 use Rattle.lane.specs.Step.{newLane, opened, begun, stepped}
-use Rattle.pulses.specs.Runs.{Pulse, pulses, pulseWidth}
+use Rattle.slots.specs.Slots.{slotsOf}
+use Rattle.pulses.specs.Runs.{Pulse, pulses, edges, pulseWidth}
 use Rattle.pulses.specs.Yardstick.{lent, Call, opening, begin, step, Given, givenBy, Yardstick, unused, accepts, advanced, ends, handedOn}
 
 -- ---- programs
@@ -102,6 +103,13 @@ firsts (x ∷ y ∷ l) = x ∷ firsts l
 abbrev pub width : Float → Float → ℕ
 width a b = widthOf a b .0
 
+-- The slots from the first pulse to the last, where these are the pulses' edges in order: the widths between neighbouring edges, pulse and
+-- gap in turn. Without carry each is demand 2's `width`. Document 02, R-1: in carry mode "A width is the difference of its two boundaries",
+-- and these are a fold over the edges, from the first pulse's on.
+unfoldable pub slotsBetween : ℕ → Option (List Float) → Option (List ℕ)
+slotsBetween carry none = none
+slotsBetween carry (some es) = some (slotsOf carry es)
+
 -- The train g of a burst whose record has the pulses ps.
 pub record TrainOf (p : Settings) (ps : List (Pulse Float)) (g : Given) : Type 0 where
   -- the record is an OOK train's
@@ -110,8 +118,12 @@ pub record TrainOf (p : Settings) (ps : List (Pulse Float)) (g : Given) : Type 0
   pub pairs : g .out .pairs ≡ min (length ps) (p .«max_pulses»)
   -- two slots for each
   pub whole : length (g .part) ≡ 2 * g .out .pairs
-  -- "Pair by pair they are the record's pulses from the first on, each once, in order". A width is `some`: both edges are there.
-  pub widths : map some (firsts (g .part)) ≡ map (pulseWidth width (p .«min_steps»)) (take (p .«max_pulses») ps)
+  -- "Pair by pair they are the record's pulses from the first on, each once, in order", with carry off. A width is `some`: both edges are
+  -- there.
+  pub widths : p .carry ≡ 0 → map some (firsts (g .part)) ≡ map (pulseWidth width (p .«min_steps»)) (take (p .«max_pulses») ps)
+  -- R-1: with carry on "the list of pulses is still the one in the record, and demand 3 stands with the widths taken here". So it does in
+  -- either mode, the gaps between the pulses included.
+  pub slots : some (take (2 * g .out .pairs - 1) (g .part)) ≡ slotsBetween (p .carry) (edges (p .«min_steps») (take (p .«max_pulses») ps))
   -- "The train is marked cut exactly when the record has more than max_pulses."
   pub cut : g .out .cut ≡ bit (ltb (p .«max_pulses») (length ps))
 

@@ -8,7 +8,7 @@ use lib.Ieee.{Float}
 use Rattle.pulses.specs.Runs.{Pulse}
 use Rattle.pulses.specs.Yardstick.{other, Call, opening, step, Given}
 use Rattle.pulses.specs.Demand.{theLane, Place, settingsAt, pulsesAt}
-use Rattle.pulses.specs.Lists.{settings, opens, slots, first, at, eight, lo, hi, los, his, m6, m8, unended}
+use Rattle.pulses.specs.Lists.{settings, opens, slots, first, at, eight, lo, hi, los, his, m6, m8, halves, unended}
 use Rattle.pulses.specs.Ran.{Ran, ran}
 
 -- what a burst shows: its mode, its record's length, of each pulse of the record how many high runs, and of each train pairs, cut mark and part
@@ -47,6 +47,10 @@ carrier = opening (settings 0 4 5) ∷ first 10 (slots 8) ∷ his 11 3 ++ los 14
 abbrev of-m6 : Shown
 of-m6 = (0, 10, 1 ∷ [], (1, 0, 4 ∷ 0 ∷ []) ∷ [])
 
+-- R-1's two pulses, with this gap between
+abbrev of-halves : ℕ → Shown
+of-halves gap = (0, 12, 1 ∷ 1 ∷ [], (2, 0, 2 ∷ gap ∷ 2 ∷ 0 ∷ []) ∷ [])
+
 abbrev pub table : List (List Call × List Shown)
 table =
     (refusals, (0, 14, 2 ∷ [], (1, 0, 8 ∷ 0 ∷ []) ∷ []) ∷ [])
@@ -60,6 +64,9 @@ table =
     ∷ (opens 4 ++ unended 10 (slots 8) ++ opens 4 ++ m6 30 (slots 8) ++ unended 50 (slots 8), of-m6 ∷ [])
     -- M8, in OOK and in FSK mode, and M6 after them
     ∷ (opens 4 ++ m8 10 (slots 8) ++ opening (settings 1 4 1000) ∷ m8 20 (slots 8) ++ opens 4 ++ m6 30 (slots 8), (0, 5, [], []) ∷ (1, 5, [], []) ∷ of-m6 ∷ [])
+    -- R-1: without carry and with it, and without it again
+    ∷ (halves 0, of-halves 3 ∷ [])
+    ∷ (halves 1 ++ halves 0, of-halves 2 ∷ of-halves 3 ∷ [])
     ∷ []
 
 -- each list is handed on and shows what stands beside it

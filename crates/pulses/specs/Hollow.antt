@@ -65,6 +65,23 @@ withSteps min gap pre p =
       «gap_ratio» = p .«gap_ratio»;
       «fsk_delta» = p .«fsk_delta»;
       «fsk_split» = p .«fsk_split»;
+      carry = p .carry;
+    }
+
+abbrev withCarry : ℕ → Settings → Settings
+withCarry carry p =
+    record {
+      mode = p .mode;
+      «min_steps» = p .«min_steps»;
+      «gap_steps» = p .«gap_steps»;
+      «pre_timeout» = p .«pre_timeout»;
+      «long_steps» = p .«long_steps»;
+      «max_pulses» = p .«max_pulses»;
+      alpha = p .alpha;
+      «gap_ratio» = p .«gap_ratio»;
+      «fsk_delta» = p .«fsk_delta»;
+      «fsk_split» = p .«fsk_split»;
+      carry = carry;
     }
 
 -- ---- document 01's table
@@ -128,3 +145,11 @@ gapless = trainChanged (λ r. withSlots (zeros (r .ook)) r)
     zeros [] = []
     zeros (x ∷ []) = x ∷ []
     zeros (x ∷ y ∷ s) = x ∷ 0 ∷ zeros s
+
+-- ---- carry (document 02, R-1)
+-- widths without carry and with it, whatever the settings say
+unfoldable pub never-carries : Program
+never-carries = opensWith (λ p. withCarry 0 p)
+
+unfoldable pub always-carries : Program
+always-carries = opensWith (λ p. withCarry 1 p)

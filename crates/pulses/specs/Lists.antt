@@ -10,9 +10,9 @@ use Rattle.lane.specs.declared.History.{History}
 use Rattle.lane.specs.declared.StepArgs.{StepArgs}
 use Rattle.pulses.specs.Yardstick.{as-left, Call, opening, begin, step}
 
--- the settings of M6 to M8, but for the mode, the most pulses, and how long a carrier is
-abbrev pub settings : ℕ → ℕ → ℕ → Settings
-settings mode most long =
+-- the settings of M6 to M8, but for carry, the mode, the most pulses, and how long a carrier is
+abbrev pub settingsBy : ℕ → ℕ → ℕ → ℕ → Settings
+settingsBy carry mode most long =
     record {
       mode = mode;
       «min_steps» = 2;
@@ -24,7 +24,12 @@ settings mode most long =
       «gap_ratio» = ofBits binary32 0x42c8_0000;
       «fsk_delta» = zero32;
       «fsk_split» = zero32;
+      carry = carry;
     }
+
+-- without carry
+abbrev pub settings : ℕ → ℕ → ℕ → Settings
+settings mode most long = settingsBy 0 mode most long
 
 abbrev pub opens : ℕ → List Call
 opens most = opening (settings 0 most 1000) ∷ []
@@ -55,6 +60,10 @@ lo i = step (at zero32 i) as-left (slots 8)
 abbrev pub hi : ℕ → Call
 hi i = step (at eight i) as-left (slots 8)
 
+-- a step at envelope 4, so that an edge falls half way between two samples
+abbrev pub mid : ℕ → Call
+mid i = step (at (ofBits binary32 0x4080_0000) i) as-left (slots 8)
+
 -- n steps from index i on
 unfoldable pub los : ℕ → ℕ → List Call
 los i zero = []
@@ -76,6 +85,10 @@ m8 i ook = first i ook ∷ los (i + 1) 6
 
 abbrev pub two : ℕ → List ℕ → List Call
 two i ook = first i ook ∷ his (i + 1) 4 ++ los (i + 5) 3 ++ his (i + 8) 3 ++ los (i + 11) 5
+
+-- document 02, R-1: two pulses of 8 4, a gap of 0 0 between, opened without carry (0) or with it (1)
+abbrev pub halves : ℕ → List Call
+halves carry = opening (settingsBy carry 0 4 1000) ∷ first 10 (slots 8) ∷ hi 11 ∷ mid 12 ∷ lo 13 ∷ lo 14 ∷ hi 15 ∷ mid 16 ∷ los 17 5
 
 -- a burst that does not end: one pulse in, it waits for the next
 abbrev pub unended : ℕ → List ℕ → List Call

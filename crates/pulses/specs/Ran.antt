@@ -1,6 +1,7 @@
 -- A list of calls run on a program, to be computed: `ran` unfolds demand 3's terms and demand 2's definitions.
 use lib.Ieee.{ofBits, toBits, add, sub, mul, div, neg, lt, le, eq, ofInt, toUnsigned}
 use Rattle.arith.specs.Leaves.{absOf, midpointOf, flushOf, crossOf, nearestIn}
+use Rattle.arith.specs.Carry.{widthBy, carriedAt, boundOf}
 use Rattle.arith.specs.Rounding.{roundOf, narrowOf}
 use Rattle.arith.specs.Root.{sqrtOf, exactOf, roundExact, wholeRoot}
 use Rattle.ook.specs.Counts.{satAddOf, inc}
@@ -30,9 +31,10 @@ use Rattle.lane.specs.Part.{front, partOf}
 use Rattle.lane.specs.Step.{newLane, opened, begun, stepped}
 use mathlib.Core.Bool.{Bool}
 use mathlib.Core.List.{List}
-use Rattle.pulses.specs.Runs.{join, runs, size, keep, counted, between, row, pulses, nth, runEdge, across, pulseWidth}
+use Rattle.slots.specs.Slots.{slotsOf, slotsFrom}
+use Rattle.pulses.specs.Runs.{join, runs, size, keep, counted, between, row, pulses, nth, runEdge, pair, edges}
 use Rattle.pulses.specs.Yardstick.{Call, lent, givenBy, unused, refusal, levelled, replayed, stepSamples, advanced, ends, lentWell, handedOn}
-use Rattle.pulses.specs.Demand.{Program, Place, returnedBy, start, after, afterAll, bursts, firsts}
+use Rattle.pulses.specs.Demand.{Program, Place, returnedBy, start, after, afterAll, bursts, slotsBetween}
 use Rattle.pulses.specs.Lists.{los, his}
 
 -- whether the list is handed on, where bursts end in it, and where it ends
@@ -42,5 +44,5 @@ pub record Ran (W : Program) : Type 0 where
   pub last : Place W
 
 unfoldable pub ran : (W : Program) → List Call → Ran W
-unfolding lent lentWell handedOn los his unused refusal levelled replayed stepSamples advanced ends givenBy returnedBy start after afterAll bursts firsts nth runEdge across pulseWidth row join runs size keep counted between pulses newLane opened begun stepped front partOf advance.advanceOf leadStep burstStep settleOf fillOf replayStep leadAddOf largestFrom leadFullOf historyOf beginLeadOf clearedOf leadLane noBurst idleLane openedOk laneOk historyOk beginFloatsOk stepFloatsOk followsOf beginRefusal stepRefusal replyOf phaseOf firstFailed frameOk burstOk leadOk candOk settingsOk unsetOk beginBurstOf leadAtOf replayFrom replayOf sampleOf restOf lastOf snapIfOf snapOf nearStartOf presentOf presenceOf presence.advanceOf presThrOf upperOf movePresOf move.lengthenOf moveFrameOf sliceIfOf presence.dueOf sureIfOf endsOf endIfOf longOf carrierIfOf carrierOf goneOf hasPulsesOf gapOverOf waitOf tailOf dueOf confirmIf riseOf fallOf confirmOf actOf thresholdOf onOf refineDueOf highOf pacOf seeOf pushPulseOf closeGapOf emptyTrainOf finishOf endTrainOf pulseDoneOf gapRatioExceededOf refineLevelOf refineLoOf excessOf splitFrom refineInOf refineOf lengthenOf rejoinOf beginRunOf beginsOf advanceOf pacRunOf beginEnvOf satAddOf inc sqrtOf exactOf roundExact wholeRoot roundOf narrowOf absOf midpointOf flushOf crossOf nearestIn ofBits toBits add sub mul div neg lt le eq ofInt toUnsigned
+unfolding lent lentWell handedOn los his unused refusal levelled replayed stepSamples advanced ends givenBy returnedBy start after afterAll bursts slotsBetween slotsOf slotsFrom nth runEdge pair edges row join runs size keep counted between pulses newLane opened begun stepped front partOf advance.advanceOf leadStep burstStep settleOf fillOf replayStep leadAddOf largestFrom leadFullOf historyOf beginLeadOf clearedOf leadLane noBurst idleLane openedOk laneOk historyOk beginFloatsOk stepFloatsOk followsOf beginRefusal stepRefusal replyOf phaseOf firstFailed frameOk burstOk leadOk candOk settingsOk unsetOk beginBurstOf leadAtOf replayFrom replayOf sampleOf restOf lastOf snapIfOf snapOf nearStartOf presentOf presenceOf presence.advanceOf presThrOf upperOf movePresOf move.lengthenOf moveFrameOf sliceIfOf presence.dueOf sureIfOf endsOf endIfOf longOf carrierIfOf carrierOf goneOf hasPulsesOf gapOverOf waitOf tailOf dueOf confirmIf riseOf fallOf confirmOf actOf thresholdOf onOf refineDueOf highOf pacOf seeOf pushPulseOf closeGapOf emptyTrainOf finishOf endTrainOf pulseDoneOf gapRatioExceededOf refineLevelOf refineLoOf excessOf splitFrom refineInOf refineOf lengthenOf rejoinOf beginRunOf beginsOf advanceOf pacRunOf beginEnvOf satAddOf inc sqrtOf exactOf roundExact wholeRoot roundOf narrowOf absOf midpointOf flushOf crossOf nearestIn widthBy carriedAt boundOf ofBits toBits add sub mul div neg lt le eq ofInt toUnsigned
 ran W cs = record { handed = handedOn unused cs; ended = bursts W (start W) cs; last = afterAll W (start W) cs }

@@ -75,6 +75,17 @@ module _ {E : Type 0} where
   unfoldable pub runEdge : ℕ → List E → Option E
   runEdge m es = nth (m - 1) es
 
+  unfoldable pub pair : Option E → Option E → Option (List E) → Option (List E)
+  pair (some a) (some b) (some es) = some (a ∷ b ∷ es)
+  pair (some a) (some b) none = none
+  pair (some a) none r = none
+  pair none b r = none
+
+  -- the edges of pulses in order, of each that of its first run and that of its closing run; none where a run has none
+  unfoldable pub edges : ℕ → List (Pulse E) → Option (List E)
+  edges m [] = some []
+  edges m (q ∷ qs) = pair (runEdge m (q .first)) (runEdge m (q .closing)) (edges m qs)
+
   unfoldable pub across : (E → E → ℕ) → Option E → Option E → Option ℕ
   across width (some a) (some b) = some (width a b)
   across width (some a) none = none

@@ -6,7 +6,7 @@ use native.Mathlib.Omega.{arith}
 use lib.Dec.{ltb, eqb}
 use lib.Ieee.{Float}
 use borrow.Author.Tests.{le-leb, lt-ltb, eqb-true}
-use Rattle.domain.specs.Limits.{maxCount}
+use Rattle.domain.specs.Limits.{maxCount, maxBound}
 use Rattle.ook.specs.Params.{fskMinOf}
 use Rattle.ook.specs.Limits.{EnvWithin, TrainWithin, OutWithin}
 use Rattle.ook.specs.declared.Env.{Env}
@@ -30,7 +30,7 @@ env-ok : (v : Env) → EnvWithin v → envOk v ≡ true
 env-ok v h = simp (le-leb (v .run .level) 1 (h .level-flag), le-leb (v .run .confirmed) 1 (h .confirmed-flag), le-leb (v .«ref_pending») 1 (h .pending-flag))
 
 train-ok : (max : ℕ) (t : Train) → TrainWithin max t → trainOk max t ≡ true
-train-ok max t h = simp (le-leb (t .started) 1 (h .started-flag), le-leb (t .«open») 1 (h .open-flag), le-leb (t .truncated) 1 (h .truncated-flag), le-leb (t .«ook_n» + t .«open») max (h .pulses))
+train-ok max t h = simp (le-leb (t .started) 1 (h .started-flag), le-leb (t .«open») 1 (h .open-flag), le-leb (t .truncated) 1 (h .truncated-flag), le-leb (t .«ook_n» + t .«open») max (h .pulses), le-leb (t .bound) maxBound (h .bounded))
 
 out-ok : (max : ℕ) (o : Out) → OutWithin max o → outOk o ≡ true
 out-ok max o h = simp (le-leb (o .state) 1 (h .state-flag), le-leb (o .cut) 1 (h .cut-flag), le-leb (o .fsk) 1 (h .kind-flag))
@@ -89,7 +89,7 @@ none-within p =
     record {
       fits = record {
         env-within = record { level-flag = omega arith; confirmed-flag = omega arith; pending-flag = omega arith };
-        train-within = record { started-flag = omega arith; open-flag = omega arith; truncated-flag = omega arith; pulses = omega arith };
+        train-within = record { started-flag = omega arith; open-flag = omega arith; truncated-flag = omega arith; pulses = omega arith; bounded = omega arith };
         ook-within = no-out (p .«max_pulses»);
         fsk-within = no-out (p .«max_pulses»);
         pairs = none-done (p .«max_pulses») 0;

@@ -11,7 +11,7 @@ use lib.Dec.{leb, ltb, eqb}
 use lib.IntN.{pos}
 use lib.Ieee.{Float, nan, binary64, ofInt}
 use borrow.Author.Tests.{leb-true, eqb-true, not-true}
-use Rattle.domain.specs.Limits.{maxSlots, maxCount}
+use Rattle.domain.specs.Limits.{maxSlots, maxCount, maxBound}
 use Rattle.arith.specs.Leaves.{leadLenOf}
 use Rattle.ook.specs.Tests.{both-true, six-true}
 use Rattle.ook.specs.Limits.{either, EnvWithin, TrainWithin}
@@ -56,8 +56,8 @@ four-true a b c d h =
 
 train-tells : (max : ℕ) (t : Train) → trainOk max t ≡ true → TrainWithin max t
 train-tells max t h =
-    let q = four-true (flag (t .started)) (flag (t .«open»)) (flag (t .truncated)) (leb (t .«ook_n» + t .«open») max) h in
-    record { started-flag = leb-true _ _ (q .0); open-flag = leb-true _ _ (q .1); truncated-flag = leb-true _ _ (q .2); pulses = leb-true _ _ (q .3) }
+    let q = six-true true (flag (t .started)) (flag (t .«open»)) (flag (t .truncated)) (leb (t .«ook_n» + t .«open») max) (leb (t .bound) maxBound) h in
+    record { started-flag = leb-true _ _ (q .1); open-flag = leb-true _ _ (q .2); truncated-flag = leb-true _ _ (q .3); pulses = leb-true _ _ (q .4); bounded = leb-true _ _ (q .5) }
 
 pairs-tell : (max : ℕ) (c : Committed) → committedOk max c ≡ true → Paired max c
 pairs-tell max c h =

@@ -41,6 +41,7 @@ settingsOk p =
     && between zero32 million32 (p .«gap_ratio»)
     && between zero32 million32 (p .«fsk_delta»)
     && between zero32 million32 (p .«fsk_split»)
+    && leb (p .carry) 1
 
 -- the settings of the lane that never had any: every number is 0, and every float +0, which its pattern tells from -0
 unfoldable pub unsetOk : Settings → Bool
@@ -55,6 +56,7 @@ unsetOk p =
     && eqb (toBits binary32 (p .«gap_ratio»)) 0
     && eqb (toBits binary32 (p .«fsk_delta»)) 0
     && eqb (toBits binary32 (p .«fsk_split»)) 0
+    && eqb (p .carry) 0
 
 -- the ranges of the whole numbers, one by one
 pub record InDomain (p : Settings) : Type 0 where
@@ -64,11 +66,12 @@ pub record InDomain (p : Settings) : Type 0 where
   pub pre-timeout : (1 ≤ p .«pre_timeout») × (p .«pre_timeout» ≤ p .«gap_steps»)
   pub long-steps : (1 ≤ p .«long_steps») × (p .«long_steps» ≤ maxSteps)
   pub max-pulses : (1 ≤ p .«max_pulses») × (p .«max_pulses» ≤ maxPulses)
+  pub carry-flag : p .carry ≤ 1
 
 within-tells : (lo hi n : ℕ) → within lo hi n ≡ true → (lo ≤ n) × (n ≤ hi)
 within-tells lo hi n q = let t : (leb lo n ≡ true) × (leb n hi ≡ true) = both-true (leb lo n) (leb n hi) q in (leb-true lo n (t .0), leb-true n hi (t .1))
 
--- of the ten checks the first six, for the whole numbers
+-- of the first ten checks the first six, for the whole numbers
 first-six : (a b c d e f g h i j : Bool) → (a && b && c && d && e && f && g && h && i && j) ≡ true → (a && b && c && d && e && f) ≡ true
 first-six a b c d e f g h i j q = both-true (a && b && c && d && e && f) g (both-true (a && b && c && d && e && f && g) h (both-true (a && b && c && d && e && f && g && h) i (both-true (a && b && c && d && e && f && g && h && i) j q .0) .0) .0) .0
 
@@ -81,7 +84,12 @@ settings-tell p q =
     let d : Bool = within 1 (p .«gap_steps») (p .«pre_timeout») in
     let e : Bool = within 1 maxSteps (p .«long_steps») in
     let f : Bool = within 1 maxPulses (p .«max_pulses») in
-    let t : (a ≡ true) × (b ≡ true) × (c ≡ true) × (d ≡ true) × (e ≡ true) × (f ≡ true) = six-true a b c d e f (first-six a b c d e f (between zero32 one32 (p .alpha)) (between zero32 million32 (p .«gap_ratio»)) (between zero32 million32 (p .«fsk_delta»)) (between zero32 million32 (p .«fsk_split»)) q) in
+    let g : Bool = between zero32 one32 (p .alpha) in
+    let h : Bool = between zero32 million32 (p .«gap_ratio») in
+    let i : Bool = between zero32 million32 (p .«fsk_delta») in
+    let j : Bool = between zero32 million32 (p .«fsk_split») in
+    let k = both-true (a && b && c && d && e && f && g && h && i && j) (leb (p .carry) 1) q in
+    let t : (a ≡ true) × (b ≡ true) × (c ≡ true) × (d ≡ true) × (e ≡ true) × (f ≡ true) = six-true a b c d e f (first-six a b c d e f g h i j (k .0)) in
     record {
       mode = leb-true (p .mode) 2 (t .0);
       min-steps = within-tells 1 maxSteps (p .«min_steps») (t .1);
@@ -89,6 +97,7 @@ settings-tell p q =
       pre-timeout = within-tells 1 (p .«gap_steps») (p .«pre_timeout») (t .3);
       long-steps = within-tells 1 maxSteps (p .«long_steps») (t .4);
       max-pulses = within-tells 1 maxPulses (p .«max_pulses») (t .5);
+      carry-flag = leb-true (p .carry) 1 (k .1);
     }
 
 abbrev pub factorOk : Float → Bool

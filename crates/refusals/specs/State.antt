@@ -3,7 +3,7 @@
 use Prim.Native.Nat.{ℕ, _+_}
 use mathlib.Core.Bool.{Bool, not, _&&_, _||_}
 use lib.Dec.{leb, ltb, eqb}
-use Rattle.domain.specs.Limits.{maxIndex, maxCount}
+use Rattle.domain.specs.Limits.{maxIndex, maxCount, maxBound}
 use Rattle.arith.specs.Leaves.{leadLenOf}
 use Rattle.ook.specs.Params.{fskMinOf}
 use Rattle.ook.specs.declared.Env.{Env}
@@ -22,9 +22,9 @@ flag n = leb n 1
 abbrev pub envOk : Env → Bool
 envOk v = flag (v .run .level) && flag (v .run .confirmed) && flag (v .«ref_pending»)
 
--- pulses plus open at most max_pulses
+-- pulses plus open at most max_pulses, and a held boundary at most 2^47 (R-1)
 abbrev pub trainOk : ℕ → Train → Bool
-trainOk max t = flag (t .started) && flag (t .«open») && flag (t .truncated) && leb (t .«ook_n» + t .«open») max
+trainOk max t = flag (t .started) && flag (t .«open») && flag (t .truncated) && leb (t .«ook_n» + t .«open») max && leb (t .bound) maxBound
 
 abbrev pub presOk : Pres → Bool
 presOk q = flag (q .«p_level») && flag (q .«p_confirmed»)

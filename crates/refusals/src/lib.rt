@@ -43,6 +43,7 @@ pub fn settings_ok(p: Settings) -> bool
         & between_floats(0.0, 1000000.0, p.gap_ratio)
         & between_floats(0.0, 1000000.0, p.fsk_delta)
         & between_floats(0.0, 1000000.0, p.fsk_split)
+        & (p.carry <= 1)
 }
 
 // The settings of a lane that never had any.
@@ -59,6 +60,7 @@ pub fn unset_ok(p: Settings) -> bool
         & (arith::bits_of_f32(p.gap_ratio) == 0)
         & (arith::bits_of_f32(p.fsk_delta) == 0)
         & (arith::bits_of_f32(p.fsk_split) == 0)
+        & (p.carry == 0)
 }
 
 // Refusal 7, float by float.
@@ -111,7 +113,11 @@ fn sum_within(a: u32, b: u32, max: u32) -> bool
 fn train_ok(max: u32, t: Train) -> bool
     ensures { λ r. ⌜ r ≡ trainOk max t ⌝ }
 {
-    (t.started <= 1) & (t.open <= 1) & (t.truncated <= 1) & sum_within(t.ook_n, t.open, max)
+    (t.started <= 1)
+        & (t.open <= 1)
+        & (t.truncated <= 1)
+        & sum_within(t.ook_n, t.open, max)
+        & (t.bound <= domain::MAX_BOUND)
 }
 
 fn pres_ok(q: Pres) -> bool

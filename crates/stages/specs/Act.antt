@@ -5,7 +5,9 @@ use mathlib.Core.List.{List}
 use lib.Dec.{leb, eqb}
 use lib.Ieee.{Float}
 use Rattle.arith.specs.declared.C32.{C32}
-use Rattle.arith.specs.Leaves.{stepOf, widthOf}
+use Rattle.arith.specs.declared.Carried.{Carried}
+use Rattle.arith.specs.Leaves.{stepOf}
+use Rattle.arith.specs.Carry.{widthBy}
 use Rattle.ook.specs.declared.Env.{Env}
 use Rattle.ook.specs.declared.Run.{Run}
 use Rattle.ook.specs.declared.Times.{Times}
@@ -14,7 +16,7 @@ use Rattle.ook.specs.declared.Out.{Out}
 use Rattle.ook.specs.declared.Settings.{Settings}
 use Rattle.ook.specs.declared.Done.{Done}
 use Rattle.ook.specs.Run.{runOf, withRun}
-use Rattle.ook.specs.Train.{withFirst, closeGapOf, pulseDoneOf, stayBy}
+use Rattle.ook.specs.Train.{withFirst, withBound, closeGapOf, pulseDoneOf, stayBy}
 use Rattle.stages.specs.declared.Seen.{Seen}
 use Rattle.stages.specs.declared.Acted.{Acted}
 
@@ -26,25 +28,29 @@ dueOf «min_steps» r = cond (eqb (r .confirmed) 0) (leb «min_steps» (r .«run
 unfoldable pub confirmIf : Bool → Env → Env
 confirmIf due s = cond due (withRun (runOf (s .run .level) (s .run .«run_len») 1 (s .run .«prev_len»)) s) s
 
+-- the width of the run before, up to the edge t_run, in the mode that carry gives
+abbrev pub takenOf : ℕ → Times → Train → Carried
+takenOf carry s t = widthBy carry (t .origin) (t .bound) (s .«t_prev») (s .«t_run»)
+
 -- a high run counts: the gap before it is final, or the train starts at c_run
-unfoldable pub riseOf : Times → Train → List ℕ → Train × List ℕ
-riseOf s t ook =
+unfoldable pub riseOf : ℕ → Times → Train → List ℕ → Train × List ℕ
+riseOf carry s t ook =
     cond (eqb (t .started) 1)
-    (closeGapOf t (widthOf (s .«t_prev») (s .«t_run»)) ook)
-    (withFirst (stepOf (s .«c_run»)) t, ook)
+    (closeGapOf (withBound (takenOf carry s t .bound) t) (takenOf carry s t .width) ook)
+    (withFirst (stepOf (s .«c_run»)) (s .«t_run») t, ook)
 
 -- a low run counts: the pulse before it is final
 unfoldable pub fallOf : Settings → Times → Train → C32 → Float → Out → List ℕ → Done × List ℕ
 fallOf p s t pac high out ook =
     cond (eqb (t .started) 1)
-    (pulseDoneOf p t pac high out (widthOf (s .«t_prev») (s .«t_run»)) (s .«c_run») ook)
+    (pulseDoneOf p (withBound (takenOf (p .carry) s t .bound) t) pac high out (takenOf (p .carry) s t .width) (s .«c_run») ook)
     (stayBy out (t, ook))
 
 -- what the train makes of the run, if it counts from here on
 unfoldable pub confirmOf : Bool → Settings → Bool → Times → Train → C32 → Float → Out → List ℕ → Done × List ℕ
 confirmOf due p on s t pac high out ook =
     cond due
-    (cond on (stayBy out (riseOf s t ook)) (fallOf p s t pac high out ook))
+    (cond on (stayBy out (riseOf (p .carry) s t ook)) (fallOf p s t pac high out ook))
     (stayBy out (t, ook))
 
 abbrev pub actedBy : Env → Done × List ℕ → Acted × List ℕ

@@ -7,7 +7,8 @@ use native.Mathlib.Omega.{arith}
 use lib.Dec.{leb, eqb, ltb}
 use lib.Ieee.{Float}
 use Rattle.arith.specs.declared.C32.{C32}
-use Rattle.arith.specs.Leaves.{widthOf, stepOf}
+use Rattle.arith.specs.Leaves.{stepOf}
+use Rattle.arith.specs.Carry.{taken-within}
 use Rattle.ook.specs.declared.Env.{Env}
 use Rattle.ook.specs.declared.Run.{Run}
 use Rattle.ook.specs.declared.Times.{Times}
@@ -17,14 +18,14 @@ use Rattle.ook.specs.declared.Done.{Done}
 use Rattle.ook.specs.declared.Settings.{Settings}
 use Rattle.ook.specs.declared.Next.the-variants.{Idle, IdleAt}
 use Rattle.ook.specs.Params.{refineAtOf}
-use Rattle.ook.specs.Train.{closeGapOf, stayBy}
+use Rattle.ook.specs.Train.{withBound, closeGapOf, stayBy}
 use Rattle.ook.specs.Limits.{EnvWithin, TrainWithin, OutWithin, DoneWithin, either, advance-within, close-gap-within, pulse-done-within, stay-within, end-within}
 use Rattle.stages.specs.declared.At.{At}
 use Rattle.stages.specs.declared.Seen.{Seen}
 use Rattle.stages.specs.declared.Acted.{Acted}
 use Rattle.stages.specs.declared.Absence.{Absence}
 use Rattle.stages.specs.See.{refineDueOf, seeOf}
-use Rattle.stages.specs.Act.{dueOf, confirmIf, riseOf, fallOf, confirmOf, actOf}
+use Rattle.stages.specs.Act.{takenOf, dueOf, confirmIf, riseOf, fallOf, confirmOf, actOf}
 use Rattle.stages.specs.Tail.{carrierOf, goneOf, hasPulsesOf, gapOverOf, limitOf, waitOf, tailOf}
 
 refine-due-within : (m : ℕ) (a : At) (ring : List Float) (high : Float) (on : Bool) (s : Env) → EnvWithin s → EnvWithin (refineDueOf m a ring high on s)
@@ -52,20 +53,30 @@ abbrev pub Within : ℕ → Done × List ℕ → Type 0
 Within max q = DoneWithin max (q .0)
 
 module _ (p : Settings) (fits : p .«max_pulses» < 2 ^ 32) where
-  rise-within : (s : Times) (t : Train) (ook : List ℕ) → TrainWithin (p .«max_pulses») t → TrainWithin (p .«max_pulses») (riseOf s t ook .0)
+  -- the train takes a boundary on
+  taken-on : (s : Times) (t : Train) → TrainWithin (p .«max_pulses») t → TrainWithin (p .«max_pulses») (withBound (takenOf (p .carry) s t .bound) t)
+  taken-on s t h = record {
+    started-flag = h .started-flag;
+    open-flag = h .open-flag;
+    truncated-flag = h .truncated-flag;
+    pulses = h .pulses;
+    bounded = taken-within (p .carry) (t .origin) (t .bound) (s .«t_prev») (s .«t_run») (h .bounded);
+  }
+
+  rise-within : (s : Times) (t : Train) (ook : List ℕ) → TrainWithin (p .«max_pulses») t → TrainWithin (p .«max_pulses») (riseOf (p .carry) s t ook .0)
   unfolding riseOf
   rise-within s t ook h =
       either (λ (q : Train × List ℕ). TrainWithin (p .«max_pulses») (q .0)) (eqb (t .started) 1)
-      (close-gap-within (p .«max_pulses») fits t (widthOf (s .«t_prev») (s .«t_run»)) ook h)
-      (record { started-flag = omega arith; open-flag = h .open-flag; truncated-flag = h .truncated-flag; pulses = h .pulses })
+      (close-gap-within (p .«max_pulses») fits (withBound (takenOf (p .carry) s t .bound) t) (takenOf (p .carry) s t .width) ook (taken-on s t h))
+      (record { started-flag = omega arith; open-flag = h .open-flag; truncated-flag = h .truncated-flag; pulses = h .pulses; bounded = omega arith })
 
   confirm-within : (due on : Bool) (s : Times) (t : Train) (pac : C32) (high : Float) (out : Out) (ook : List ℕ) → TrainWithin (p .«max_pulses») t → OutWithin (p .«max_pulses») out → Within (p .«max_pulses») (confirmOf due p on s t pac high out ook)
   unfolding confirmOf fallOf
   confirm-within due on s t pac high out ook h o =
       either (Within (p .«max_pulses»)) due
       (either (Within (p .«max_pulses»)) on
-      (stay-within (p .«max_pulses») (riseOf s t ook .0) out (riseOf s t ook .1) (rise-within s t ook h) o)
-      (either (Within (p .«max_pulses»)) (eqb (t .started) 1) (pulse-done-within p fits t pac high out _ _ ook h o) (stay-within (p .«max_pulses») t out ook h o)))
+      (stay-within (p .«max_pulses») (riseOf (p .carry) s t ook .0) out (riseOf (p .carry) s t ook .1) (rise-within s t ook h) o)
+      (either (Within (p .«max_pulses»)) (eqb (t .started) 1) (pulse-done-within p fits (withBound (takenOf (p .carry) s t .bound) t) pac high out _ _ ook (taken-on s t h) o) (stay-within (p .«max_pulses») t out ook h o)))
       (stay-within (p .«max_pulses») t out ook h o)
 
   pub act-within : (s : Seen) (t : Train) (out : Out) (ook : List ℕ) → EnvWithin (s .env) → TrainWithin (p .«max_pulses») t → OutWithin (p .«max_pulses») out → ActedWithin (p .«max_pulses») (actOf p s t out ook .0)
@@ -80,7 +91,7 @@ module _ (p : Settings) (fits : p .«max_pulses» < 2 ^ 32) where
       either (Within (p .«max_pulses»)) (hasPulsesOf t)
       (either (Within (p .«max_pulses»)) (gapOverOf p t n) (end-within (p .«max_pulses») fits Idle t high out ook h o) (stay-within (p .«max_pulses») t out ook h o))
       (either (Within (p .«max_pulses»)) (ltb (limitOf p frames) n)
-      (record { train-within = record { started-flag = omega arith; open-flag = h .open-flag; truncated-flag = h .truncated-flag; pulses = h .pulses }; out-within = o })
+      (record { train-within = record { started-flag = omega arith; open-flag = h .open-flag; truncated-flag = h .truncated-flag; pulses = h .pulses; bounded = h .bounded }; out-within = o })
       (stay-within (p .«max_pulses») t out ook h o))
 
   pub tail-within : (on : Bool) (e : Float) (r : Run) (a : Absence) (high : Float) (t : Train) (out : Out) (ook : List ℕ) → TrainWithin (p .«max_pulses») t → OutWithin (p .«max_pulses») out → Within (p .«max_pulses») (tailOf p on e r a high t out ook)

@@ -41,7 +41,7 @@ use Rattle.turns.specs.Steps.{argsOf, quietOf, Seen, Passed, Turn}
 
 is-step : (k : Command) → isStepOf k ≡ true → k ≡ Step (argsOf k)
 is-step End h = let z : _≡_ {A = Bool} false true = h in cc
-is-step (Open s) h = let z : _≡_ {A = Bool} false true = h in cc
+is-step (Open s carries) h = let z : _≡_ {A = Bool} false true = h in cc
 is-step (Begin b) h = let z : _≡_ {A = Bool} false true = h in cc
 is-step (Step s) h = refl
 is-step Unknown h = let z : _≡_ {A = Bool} false true = h in cc
@@ -95,7 +95,7 @@ module _ (p : State) (s t : List ℕ) (used : ℕ) (k : Command) (c : Called) (i
 call-sound : (p : State) (k : Command) → Sound (p .0) → Sound (called p k .0 .lane)
 unfolding called
 call-sound p End h = h
-call-sound p (Open s) h = open-sound s h
+call-sound p (Open s carries) h = open-sound s h
 call-sound p (Begin b) h = begin-sound b (p .1) (p .2) h
 call-sound p (Step s) h = step-sound s (p .1) (p .2) h
 call-sound p Unknown h = h

@@ -128,7 +128,7 @@ step-shown p s h g =
 pub shown-most : (p : State) (k : Command) → waits true k ≡ false → length (called p k .1) ≡ length (p .1) → length (called p k .2) ≡ length (p .2) → Shown (called p k) (mostOf p)
 unfolding called
 shown-most p End w h g = let z : _≡_ {A = Bool} true false = w in let q : _≡_ {A = ℕ} 0 1 = cc in absurd (omega arith)
-shown-most p (Open s) w h g = shown-fits (called p (Open s)) (mostOf p) (λ n. parts-fit-open (p .0) s (answered-open (p .0) s n) (mostOf p) (p .1) (p .2))
+shown-most p (Open s carries) w h g = shown-fits (called p (Open s carries)) (mostOf p) (λ n. parts-fit-open (p .0) s (answered-open (p .0) s n) (mostOf p) (p .1) (p .2))
 shown-most p (Begin b) w h g = shown-fits (called p (Begin b)) (mostOf p) (λ n. parts-fit-begin (p .0) b (p .1) (p .2) (answered-begin (p .0) b (p .1) (p .2) n) (mostOf p) (p .1) (p .2))
 shown-most p (Step s) w h g = step-shown p s h g
 shown-most p Unknown w h g = record { fsk-shown = omega arith; ook-shown = omega arith }
@@ -172,7 +172,7 @@ called-short c index most h =
 -- a command that is there prints the lines of its call
 pub there : (k : Command) (c : Called) → waits true k ≡ false → textOf k c ≡ calledText c (indexOf k)
 there End c w = let z : _≡_ {A = Bool} true false = w in let q : _≡_ {A = ℕ} 0 1 = cc in absurd (omega arith)
-there (Open s) c w = refl
+there (Open s carries) c w = refl
 there (Begin b) c w = refl
 there (Step s) c w = refl
 there Unknown c w = refl

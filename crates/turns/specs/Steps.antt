@@ -27,7 +27,7 @@ noArgs = record { index = 0; noise = zero32; envelope = zero32; x = zeroC32 }
 -- the operands of a step, and zeros for another command
 abbrev pub argsOf : Command → StepArgs
 argsOf End = noArgs
-argsOf (Open s) = noArgs
+argsOf (Open s carries) = noArgs
 argsOf (Begin b) = noArgs
 argsOf (Step s) = s
 argsOf Unknown = noArgs

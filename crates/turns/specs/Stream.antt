@@ -71,7 +71,7 @@ May last t = last ≡ true → t ≡ []
 
 waits-whole : (k : Command) → waits false k ≡ false → whole k ≡ true
 waits-whole End w = let z : _≡_ {A = Bool} true false = w in cc
-waits-whole (Open s) w = refl
+waits-whole (Open s carries) w = refl
 waits-whole (Begin b) w = refl
 waits-whole (Step s) w = refl
 waits-whole Unknown w = refl
@@ -80,7 +80,7 @@ waits-whole Short w = let z : _≡_ {A = Bool} true false = w in cc
 -- where a command is not waited for, something is there
 pub something : (last : Bool) (k : Command) → waits last k ≡ false → waits true k ≡ false
 something last End w = w
-something last (Open s) w = refl
+something last (Open s carries) w = refl
 something last (Begin b) w = refl
 something last (Step s) w = refl
 something last Unknown w = refl
@@ -120,7 +120,8 @@ seen last s t used inside w may = ap decoded (drop-append-le used s t inside) �
 pub no-command : (p : State) (k : Command) → sizeOf k ≡ 0 → next (called p k) ≡ p
 unfolding called
 no-command p End h = refl
-no-command p (Open s) h = absurd (omega (arith, h))
+no-command p (Open s true) h = absurd (omega (arith, h))
+no-command p (Open s false) h = absurd (omega (arith, h))
 no-command p (Begin b) h = absurd (omega (arith, h))
 no-command p (Step s) h = absurd (omega (arith, h))
 no-command p Unknown h = refl
@@ -164,7 +165,8 @@ all-used (b ∷ o) w =
     simp (le-ltb (suc (length o)) 1 (omega arith))
     (waits-either (eqb b 1) _ _ (waits-either (ltb (length o) 37) _ _ refl refl)
     (waits-either (eqb b 2) _ _ (waits-either (ltb (length o) 60) _ _ refl refl)
-    (waits-either (eqb b 3) _ _ (waits-either (ltb (length o) 24) _ _ refl refl) refl))) in
+    (waits-either (eqb b 3) _ _ (waits-either (ltb (length o) 24) _ _ refl refl)
+    (waits-either (eqb b 4) _ _ (waits-either (ltb (length o) 38) _ _ refl refl) refl)))) in
     let z : _≡_ {A = Bool} true false = sym w ∙ there in cc
 
 -- a block that was not ended

@@ -33,7 +33,7 @@ unchanged r p = (record { reply = r; lane = p .0 }, p .1, p .2)
 -- the answer to a command; bytes that are none meet refusal 1 or 2
 unfoldable pub called : State → Command → Called
 called p End = unchanged Stay p
-called p (Open s) = (opened (p .0) s, p .1, p .2)
+called p (Open s carries) = (opened (p .0) s, p .1, p .2)
 called p (Begin b) = (begun (p .0) b (p .1) (p .2), p .1, p .2)
 called p (Step s) = stepped (p .0) s (p .1) (p .2)
 called p Unknown = unchanged (Refused 1) p
@@ -46,7 +46,7 @@ next c = (c .0 .lane, c .1, c .2)
 -- the call's index, which a phase line has
 abbrev pub indexOf : Command → ℕ
 indexOf End = 0
-indexOf (Open s) = 0
+indexOf (Open s carries) = 0
 indexOf (Begin b) = b .index
 indexOf (Step s) = s .index
 indexOf Unknown = 0
@@ -73,7 +73,7 @@ calledText c index = answerText (c .0 .reply) (c .0 .lane .burst .«out_fsk») (
 -- what a command prints: nothing where there is none
 abbrev pub textOf : Command → Called → List ℕ
 textOf End c = []
-textOf (Open s) c = calledText c 0
+textOf (Open s carries) c = calledText c 0
 textOf (Begin b) c = calledText c (b .index)
 textOf (Step s) c = calledText c (s .index)
 textOf Unknown c = calledText c 0
@@ -89,7 +89,7 @@ placeOf NoRoom at = at
 -- a command is waited for where nothing is left, and where only its beginning is there and more may come: where `last` is false
 abbrev pub waits : Bool → Command → Bool
 waits last End = true
-waits last (Open s) = false
+waits last (Open s carries) = false
 waits last (Begin b) = false
 waits last (Step s) = false
 waits last Unknown = false

@@ -28,7 +28,7 @@ fn index_of(k: Command) -> u64
 {
     match k {
         Command::End => 0,
-        Command::Open(_) => 0,
+        Command::Open(_, _) => 0,
         Command::Begin(b) => b.index,
         Command::Step(s) => s.index,
         Command::Unknown => 0,
@@ -41,7 +41,7 @@ fn is_step(k: Command) -> bool
 {
     match k {
         Command::End => false,
-        Command::Open(_) => false,
+        Command::Open(_, _) => false,
         Command::Begin(_) => false,
         Command::Step(_) => true,
         Command::Unknown => false,
@@ -66,7 +66,7 @@ fn args_of(k: Command) -> StepArgs
 {
     match k {
         Command::End => no_args(),
-        Command::Open(_) => no_args(),
+        Command::Open(_, _) => no_args(),
         Command::Begin(_) => no_args(),
         Command::Step(s) => s,
         Command::Unknown => no_args(),
@@ -83,7 +83,7 @@ fn call_still(l: Lane, k: Command, ook: &[u32], fsk: &[u32]) -> Answer
             reply: Reply::Stay,
             lane: l,
         },
-        Command::Open(p) => lane::open(l, p),
+        Command::Open(p, _) => lane::open(l, p),
         Command::Begin(b) => lane::begin(l, b, ook, fsk),
         Command::Step(_) => Answer {
             reply: Reply::Stay,
@@ -314,7 +314,7 @@ fn waits(last: bool, k: Command) -> bool
 {
     match k {
         Command::End => true,
-        Command::Open(_) => false,
+        Command::Open(_, _) => false,
         Command::Begin(_) => false,
         Command::Step(_) => false,
         Command::Unknown => false,

@@ -43,6 +43,8 @@ pub data Field : Type 0 where
   «gap_ratio» : Field
   «fsk_delta» : Field
   «fsk_split» : Field
+  carry : Field
+  bound : Field
 
 -- its place in the list of a lane's numbers
 abbrev place : Field → ℕ
@@ -70,6 +72,8 @@ place alpha = 37
 place «gap_ratio» = 38
 place «fsk_delta» = 39
 place «fsk_split» = 40
+place carry = 41
+place bound = 42
 
 -- a record whose flags are numbered from k on
 abbrev outAt : (Field → ℕ) → ℕ → Out
@@ -82,7 +86,7 @@ laneOf ns =
     let floatOf : Field → Float = λ f. ofBits binary32 (v f) in
     record {
       opened = v opened;
-      settings = record { mode = v mode; «min_steps» = v «min_steps»; «gap_steps» = v «gap_steps»; «pre_timeout» = v «pre_timeout»; «long_steps» = v «long_steps»; «max_pulses» = v «max_pulses»; alpha = floatOf alpha; «gap_ratio» = floatOf «gap_ratio»; «fsk_delta» = floatOf «fsk_delta»; «fsk_split» = floatOf «fsk_split» };
+      settings = record { mode = v mode; «min_steps» = v «min_steps»; «gap_steps» = v «gap_steps»; «pre_timeout» = v «pre_timeout»; «long_steps» = v «long_steps»; «max_pulses» = v «max_pulses»; alpha = floatOf alpha; «gap_ratio» = floatOf «gap_ratio»; «fsk_delta» = floatOf «fsk_delta»; «fsk_split» = floatOf «fsk_split»; carry = v carry };
       phase = v phase;
       last = v last;
       «x_prev» = zeroC32;
@@ -98,7 +102,7 @@ laneOf ns =
           «ref_pending» = v (flag 2);
         };
         pac = zeroC32;
-        train = record { start = 0; «pulse_end» = 0; started = v (flag 3); «ook_n» = v «ook_n»; «open» = v «open»; longest = zeroSteps; truncated = v (flag 4); acc = zeroC32 };
+        train = record { start = 0; «pulse_end» = 0; started = v (flag 3); «ook_n» = v «ook_n»; «open» = v «open»; longest = zeroSteps; truncated = v (flag 4); acc = zeroC32; origin = zero64; bound = v bound };
         «out_ook» = outAt v 5;
         frames = 0;
         pres = record { «p_t_run» = zero64; «p_t_prev» = zero64; «p_factor» = zero32; «p_level» = v (flag 8); «p_run» = 0; «p_confirmed» = v (flag 9); «p_prev» = 0 };
@@ -118,7 +122,7 @@ laneOf ns =
 
 -- an idle lane of mode 2, 2, 4, 4, 1000, max_pulses 4, with some fields changed
 abbrev changed : List (Field × ℕ) → List ℕ
-changed [] = replicate 9 0 ++ (2 ∷ 2 ∷ 4 ∷ 4 ∷ 1000 ∷ 4 ∷ 1 ∷ replicate 25 0)
+changed [] = replicate 9 0 ++ (2 ∷ 2 ∷ 4 ∷ 4 ∷ 1000 ∷ 4 ∷ 1 ∷ replicate 27 0)
 changed (c ∷ cs) = set (changed cs) (place (c .0)) (c .1)
 
 -- the changes that make it the lane that never had settings
@@ -172,6 +176,9 @@ limits =
     ∷ limit [] «open» 1
     ∷ limit [] «fsk_phase» 1
     ∷ limit [] «fsk_open» 1
+    -- R-1: carry, and a held boundary
+    ∷ limit [] carry 1
+    ∷ limit [] bound (2 ^ 47)
     ∷ flags 18
 
 -- lanes that a limit does not hold for, and lanes that another rule refuses
@@ -196,6 +203,7 @@ others =
     ∷ ((«gap_ratio», 1) ∷ unopened, false)
     ∷ ((«fsk_delta», 1) ∷ unopened, false)
     ∷ ((«fsk_split», 0x8000_0000) ∷ unopened, false)
+    ∷ ((carry, 1) ∷ unopened, false)
     -- the lower ends of the domain; that of gap_steps is no other than that of pre_timeout
     ∷ ((«min_steps», 0) ∷ [], false)
     ∷ ((«pre_timeout», 0) ∷ [], false)

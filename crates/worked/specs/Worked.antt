@@ -1,15 +1,15 @@
--- Document 01, "Worked bursts": the examples M1 to M10 as one table, with bursts of document 02's R-2. A row has a question and the numbers that the paper gives for it.
+-- Document 01, "Worked bursts": the examples M1 to M10 as one table, with bursts of document 02's R-1 and R-2. A row has a question and the numbers that the paper gives for it.
 -- A question of a further kind is a constructor of `Asked` and a clause of `answer`.
 use Prim.Native.Nat.{ℕ}
 use mathlib.Core.Path.{_≡_}
-use mathlib.Core.List.{List, [], _∷_, map}
+use mathlib.Core.List.{List, [], _∷_, _++_, map}
 use lib.Ieee.{binary32, binary64, ofBits, toBits, ofInt, isNan, sub, mul, div, lt}
 use Rattle.arith.specs.Rounding.{roundOf}
 use Rattle.arith.specs.Root.{sqrtOf}
 use Rattle.arith.specs.Leaves.{crossOf, gainOf, leadLenOf, nearestIn}
 use Rattle.grid.specs.Slots.{timeOf, lastRiseBelow, lastRise, times, upTo, transitionsOf, fold}
 use Rattle.grid.specs.Widths.{shorterOf, runsStep, runsOf, addedOf, meanAfter, meanStep, meanOf, gridOf, measuredOf, widthsOn, fskWidthsOf}
-use Rattle.worked.specs.Bursts.{openWith, burstWith, burstBy, printed}
+use Rattle.worked.specs.Bursts.{openWith, carryWith, halves, backward, burstWith, burstBy, printed}
 
 -- a float is its bit pattern
 pub data Asked : Type 0 where
@@ -19,7 +19,7 @@ pub data Asked : Type 0 where
   a-gain : ℕ → Asked
   lead-len : ℕ → Asked
   fsk-widths : List ℕ → Asked
-  -- the bytes of commands (M6 to M8, M10, R-2): the answer is the text that the listing program prints
+  -- the bytes of commands (M6 to M8, M10, R-1, R-2): the answer is the text that the listing program prints
   commands : List ℕ → Asked
 
 abbrev one : ℕ → List ℕ
@@ -108,6 +108,47 @@ table =
     (111 ∷ 111 ∷ 107 ∷ 32 ∷ 49 ∷ 49 ∷ 32 ∷ 50 ∷ 48 ∷ 32 ∷ 49 ∷ 32 ∷ 57 ∷ 32 ∷ 52 ∷ 49 ∷ 48 ∷ 48 ∷ 48 ∷ 48 ∷ 48
     ∷ 48 ∷ 32 ∷ 118 ∷ 101 ∷ 99 ∷ 116 ∷ 111 ∷ 114 ∷ 32 ∷ 52 ∷ 48 ∷ 52 ∷ 48 ∷ 48 ∷ 48 ∷ 48 ∷ 48 ∷ 32 ∷ 48 ∷ 48 ∷ 48
     ∷ 48 ∷ 48 ∷ 48 ∷ 48 ∷ 48 ∷ 32 ∷ 49 ∷ 32 ∷ 51 ∷ 32 ∷ 51 ∷ 10 ∷ 105 ∷ 100 ∷ 108 ∷ 101 ∷ 32 ∷ 50 ∷ 49 ∷ 10 ∷ [])
+    -- R-1, M6's settings; 0 8 4 0 0 8 4, then 0. Opened by 01, and by 04 with carry 0:
+    --   ook 11 16 0 5 41000000 vector 40800000 00000000 2 2 3 2 0
+    --   idle 21
+    ∷ row (commands (openWith 4 ++ halves))
+    (111 ∷ 111 ∷ 107 ∷ 32 ∷ 49 ∷ 49 ∷ 32 ∷ 49 ∷ 54 ∷ 32 ∷ 48 ∷ 32 ∷ 53 ∷ 32 ∷ 52 ∷ 49 ∷ 48 ∷ 48 ∷ 48 ∷ 48 ∷ 48
+    ∷ 48 ∷ 32 ∷ 118 ∷ 101 ∷ 99 ∷ 116 ∷ 111 ∷ 114 ∷ 32 ∷ 52 ∷ 48 ∷ 56 ∷ 48 ∷ 48 ∷ 48 ∷ 48 ∷ 48 ∷ 32 ∷ 48 ∷ 48
+    ∷ 48 ∷ 48 ∷ 48 ∷ 48 ∷ 48 ∷ 48 ∷ 32 ∷ 50 ∷ 32 ∷ 50 ∷ 32 ∷ 51 ∷ 32 ∷ 50 ∷ 32 ∷ 48 ∷ 10 ∷ 105 ∷ 100 ∷ 108 ∷ 101
+    ∷ 32 ∷ 50 ∷ 49 ∷ 10 ∷ [])
+    ∷ row (commands (carryWith 0 ++ halves))
+    (111 ∷ 111 ∷ 107 ∷ 32 ∷ 49 ∷ 49 ∷ 32 ∷ 49 ∷ 54 ∷ 32 ∷ 48 ∷ 32 ∷ 53 ∷ 32 ∷ 52 ∷ 49 ∷ 48 ∷ 48 ∷ 48 ∷ 48 ∷ 48
+    ∷ 48 ∷ 32 ∷ 118 ∷ 101 ∷ 99 ∷ 116 ∷ 111 ∷ 114 ∷ 32 ∷ 52 ∷ 48 ∷ 56 ∷ 48 ∷ 48 ∷ 48 ∷ 48 ∷ 48 ∷ 32 ∷ 48 ∷ 48
+    ∷ 48 ∷ 48 ∷ 48 ∷ 48 ∷ 48 ∷ 48 ∷ 32 ∷ 50 ∷ 32 ∷ 50 ∷ 32 ∷ 51 ∷ 32 ∷ 50 ∷ 32 ∷ 48 ∷ 10 ∷ 105 ∷ 100 ∷ 108 ∷ 101
+    ∷ 32 ∷ 50 ∷ 49 ∷ 10 ∷ [])
+    -- by 04 with carry 1; a later carry of 2 prints `refused 3`, and the settings stay:
+    --   refused 3
+    --   ook 11 16 0 5 41000000 vector 40800000 00000000 2 2 2 2 0
+    --   idle 21
+    ∷ row (commands (carryWith 1 ++ carryWith 2 ++ halves))
+    (114 ∷ 101 ∷ 102 ∷ 117 ∷ 115 ∷ 101 ∷ 100 ∷ 32 ∷ 51 ∷ 10 ∷ 111 ∷ 111 ∷ 107 ∷ 32 ∷ 49 ∷ 49 ∷ 32 ∷ 49 ∷ 54 ∷ 32
+    ∷ 48 ∷ 32 ∷ 53 ∷ 32 ∷ 52 ∷ 49 ∷ 48 ∷ 48 ∷ 48 ∷ 48 ∷ 48 ∷ 48 ∷ 32 ∷ 118 ∷ 101 ∷ 99 ∷ 116 ∷ 111 ∷ 114 ∷ 32
+    ∷ 52 ∷ 48 ∷ 56 ∷ 48 ∷ 48 ∷ 48 ∷ 48 ∷ 48 ∷ 32 ∷ 48 ∷ 48 ∷ 48 ∷ 48 ∷ 48 ∷ 48 ∷ 48 ∷ 48 ∷ 32 ∷ 50 ∷ 32 ∷ 50
+    ∷ 32 ∷ 50 ∷ 32 ∷ 50 ∷ 32 ∷ 48 ∷ 10 ∷ 105 ∷ 100 ∷ 108 ∷ 101 ∷ 32 ∷ 50 ∷ 49 ∷ 10 ∷ [])
+    -- a later 01 leaves carry off
+    ∷ row (commands (carryWith 1 ++ openWith 4 ++ halves))
+    (111 ∷ 111 ∷ 107 ∷ 32 ∷ 49 ∷ 49 ∷ 32 ∷ 49 ∷ 54 ∷ 32 ∷ 48 ∷ 32 ∷ 53 ∷ 32 ∷ 52 ∷ 49 ∷ 48 ∷ 48 ∷ 48 ∷ 48 ∷ 48
+    ∷ 48 ∷ 32 ∷ 118 ∷ 101 ∷ 99 ∷ 116 ∷ 111 ∷ 114 ∷ 32 ∷ 52 ∷ 48 ∷ 56 ∷ 48 ∷ 48 ∷ 48 ∷ 48 ∷ 48 ∷ 32 ∷ 48 ∷ 48
+    ∷ 48 ∷ 48 ∷ 48 ∷ 48 ∷ 48 ∷ 48 ∷ 32 ∷ 50 ∷ 32 ∷ 50 ∷ 32 ∷ 51 ∷ 32 ∷ 50 ∷ 32 ∷ 48 ∷ 10 ∷ 105 ∷ 100 ∷ 108 ∷ 101
+    ∷ 32 ∷ 50 ∷ 49 ∷ 10 ∷ [])
+    -- the clamp: the first pulse ends a step before its start, so its end has the boundary 0, and the gap after it is 3 and not 4:
+    --   ook 11 23 0 12 41fe7965 vector 41000000 00000000 2 0 3 6 0
+    --   idle 27
+    ∷ row (commands (backward 1))
+    (111 ∷ 111 ∷ 107 ∷ 32 ∷ 49 ∷ 49 ∷ 32 ∷ 50 ∷ 51 ∷ 32 ∷ 48 ∷ 32 ∷ 49 ∷ 50 ∷ 32 ∷ 52 ∷ 49 ∷ 102 ∷ 101 ∷ 55 ∷ 57
+    ∷ 54 ∷ 53 ∷ 32 ∷ 118 ∷ 101 ∷ 99 ∷ 116 ∷ 111 ∷ 114 ∷ 32 ∷ 52 ∷ 49 ∷ 48 ∷ 48 ∷ 48 ∷ 48 ∷ 48 ∷ 48 ∷ 32 ∷ 48
+    ∷ 48 ∷ 48 ∷ 48 ∷ 48 ∷ 48 ∷ 48 ∷ 48 ∷ 32 ∷ 50 ∷ 32 ∷ 48 ∷ 32 ∷ 51 ∷ 32 ∷ 54 ∷ 32 ∷ 48 ∷ 10 ∷ 105 ∷ 100 ∷ 108
+    ∷ 101 ∷ 32 ∷ 50 ∷ 55 ∷ 10 ∷ [])
+    ∷ row (commands (backward 0))
+    (111 ∷ 111 ∷ 107 ∷ 32 ∷ 49 ∷ 49 ∷ 32 ∷ 50 ∷ 51 ∷ 32 ∷ 48 ∷ 32 ∷ 49 ∷ 50 ∷ 32 ∷ 52 ∷ 49 ∷ 102 ∷ 101 ∷ 55 ∷ 57
+    ∷ 54 ∷ 53 ∷ 32 ∷ 118 ∷ 101 ∷ 99 ∷ 116 ∷ 111 ∷ 114 ∷ 32 ∷ 52 ∷ 49 ∷ 48 ∷ 48 ∷ 48 ∷ 48 ∷ 48 ∷ 48 ∷ 32 ∷ 48
+    ∷ 48 ∷ 48 ∷ 48 ∷ 48 ∷ 48 ∷ 48 ∷ 48 ∷ 32 ∷ 50 ∷ 32 ∷ 48 ∷ 32 ∷ 52 ∷ 32 ∷ 54 ∷ 32 ∷ 48 ∷ 10 ∷ 105 ∷ 100 ∷ 108
+    ∷ 101 ∷ 32 ∷ 50 ∷ 55 ∷ 10 ∷ [])
     -- M9: slots 64, 0 give 1, 0; slots 128, 192 give 2, 1; the empty list stays empty
     ∷ row (fsk-widths (64 ∷ 0 ∷ [])) (1 ∷ 0 ∷ [])
     ∷ row (fsk-widths (128 ∷ 192 ∷ [])) (2 ∷ 1 ∷ [])

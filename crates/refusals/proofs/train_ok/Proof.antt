@@ -3,11 +3,8 @@ use borrow.Author.Needs.{needs}
 use Rattle.refusals.proofs.train_ok.Statement.{statement}
 use Rattle.refusals.proofs.train_ok.Tie as tie
 
-sum-within-requires : tie.Need-sum-within-requires
-sum-within-requires c κs = search needs
-
 returns : tie.Need-returns
-returns c = simp (← c .sum-within .ensures)
+returns c = simp (← c .before .sum-within .ensures)
 
 pub train-ok-spec : {M : Type 1} → statement M
-train-ok-spec = tie.close (tie.spec sum-within-requires returns)
+train-ok-spec = tie.close (tie.spec (search needs) returns)

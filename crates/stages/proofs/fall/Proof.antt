@@ -6,7 +6,7 @@ use Rattle.stages.proofs.fall.Tie as tie
 
 returns : tie.Need-returns
 unfolding fallOf
-returns c = simp (c .before .before .before .before .before .if1 .taken, ← c .before .before .before .before .width .ensures, ← c .before .before .pulse-done .ensures)
+returns c = simp (c .before .before .before .before .before .before .if1 .taken, ← c .before .before .before .before .before .width-by .ensures, ← c .before .before .pulse-done .ensures)
 
 returns-2 : tie.Need-returns-2
 unfolding fallOf

@@ -6,7 +6,7 @@ use Rattle.stages.proofs.rise.Tie as tie
 
 returns : tie.Need-returns
 unfolding riseOf
-returns c = simp (c .before .before .before .before .before .if1 .taken, ← c .before .before .before .before .width .ensures, ← c .before .before .close-gap .ensures)
+returns c = simp (c .before .before .before .before .before .before .if1 .taken, ← c .before .before .before .before .before .width-by .ensures, ← c .before .before .close-gap .ensures)
 
 returns-2 : tie.Need-returns-2
 unfolding riseOf
