@@ -25,5 +25,7 @@ pub mod RootHalving
 pub mod RootAssembled
 pub mod RootSteps
 pub mod RootSpecial
+pub mod RootExact
+pub mod RootRounding
 pub mod RootNearest
 pub mod Signed

@@ -2,8 +2,8 @@
 use mathlib.Core.Path.{_≡_, refl, sym, ap, _∙_}
 use mathlib.Core.Logic.{inr}
 use mathlib.Core.Bool.{Bool, true, false}
-use Prim.Native.Nat.{ℕ, zero, suc, _+_, _*_, _/_, _%_, _^_, _≤_, _<_}
-use native.Mathlib.Nat.{zero-add, le-of-lt}
+use Prim.Native.Nat.{ℕ, zero, suc, _+_, _*_, _/_, _%_, _^_, _≤_}
+use native.Mathlib.Nat.{zero-add}
 use native.Mathlib.Omega.{arith}
 use lib.Ieee.{binary32, ofBits, nearest, units}
 use Rattle.arith.specs.Root.{roundExact, dropped}
@@ -13,12 +13,10 @@ pub round-exact-is : (r : ℕ) (more : Bool) (p : ℕ) → roundExact r more p �
 unfolding roundExact
 round-exact-is r more p = refl
 
-pub assembled : (r : ℕ) (more : Bool) (p q : ℕ) → nearest (r / 2) (dropped (r % 2) more) ≡ q → 2 ^ 23 ≤ q → q < 2 ^ 24 → p ≤ 200
-    → (ofBits binary32 ((p + 50) * 8388608 + q) ≡ roundExact r more p) × ((p + 50) * 8388608 + q < 2139095040)
-assembled r more p q e lo hi h = (
-  ap (ofBits binary32) (sym (zero-add ((p + 50) * 8388608 + q))) ∙ pack false q (p + 50) (le-of-lt hi) (inr lo) (omega arith) ∙ sym (round-exact-is r more p ∙ ap (λ (x : ℕ). units binary32 false x (p + 50)) e),
-  omega arith,
-)
+pub assembled : (r : ℕ) (more : Bool) (p q : ℕ) → nearest (r / 2) (dropped (r % 2) more) ≡ q → 2 ^ 23 ≤ q → q ≤ 2 ^ 24 → p ≤ 200
+    → ofBits binary32 ((p + 50) * 8388608 + q) ≡ roundExact r more p
+assembled r more p q e lo hi h =
+    ap (ofBits binary32) (sym (zero-add ((p + 50) * 8388608 + q))) ∙ pack false q (p + 50) hi (inr lo) (omega arith) ∙ sym (round-exact-is r more p ∙ ap (λ (x : ℕ). units binary32 false x (p + 50)) e)
 
 -- half of r, up at a last digit of 1 where there is more; and where there is no more, to the even one
 up : (r d : ℕ) → r % 2 ≡ d → nearest (r / 2) (dropped d true) ≡ (r + 1) / 2

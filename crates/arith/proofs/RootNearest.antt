@@ -1,16 +1,15 @@
 -- The root of a positive f32 is the nearest f32 to the exact root, and there is never a tie (`nearest-root`). Assumes nothing.
-use mathlib.Core.Path.{_≡_, refl, sym, ap, _∙_, subst}
+use mathlib.Core.Path.{_≡_, sym, ap, _∙_, subst}
 use mathlib.Core.Logic.{⊎-elim}
-use mathlib.Core.Bool.{true, false}
+use mathlib.Core.Bool.{false}
 use Prim.Native.Nat.{ℕ, suc, _+_, _*_, _/_, _%_, _^_, _≤_, _<_}
-use native.Mathlib.Nat.{eq-or-lt-of-le, le-of-lt, lt-of-lt-of-le, zero-lt-suc, mul-assoc, mul-comm, mul-lt-mul-of-pos-right, pow-suc}
+use native.Mathlib.Nat.{eq-or-lt-of-le, le-of-lt, lt-of-lt-of-le, mul-assoc, mul-comm}
 use native.Mathlib.Omega.{arith}
 use lib.Dec.{T, ltb}
-use lib.Pow.{pow-add, pow-pos, pow-mono, shl-lt}
-use lib.Ieee.{Float, nan, inf, fin, binary32, units, size, nearest, fits}
-use lib.Ieee.Digits.{size-le}
+use lib.Pow.{pow-add, pow-mono, shl-lt}
+use lib.Ieee.{Float, binary32, units, nearest, fits}
 use lib.Ieee.Exact.{HasValue, units-val}
-use lib.Ieee.Positive.{num, den, positive, positive-finite, value-pos, first-pos}
+use lib.Ieee.Positive.{positive}
 use Rattle.arith.specs.Root.{wholeRoot, brought, power, dropped, exactOf, roundExactOf, sqrtOf}
 use Rattle.arith.specs.Units.{inUnits}
 use Rattle.arith.specs.RootNearest.{OnSide, NearestRoot}
@@ -22,17 +21,15 @@ use Rattle.arith.proofs.RootDigits.{Kept, kept}
 use Rattle.arith.proofs.RootSides.{nearer}
 use Rattle.arith.proofs.Pack.{units-fit}
 use Rattle.arith.proofs.RootAssembled.{round-exact-is}
-use Rattle.arith.proofs.RootValue.{root-is}
-use Rattle.arith.proofs.RootSteps.{Ready, ready, in-25}
+use Rattle.arith.proofs.RootValue.{twice}
+use Rattle.arith.proofs.RootSpecial.{positive-left, root-left}
+use Rattle.arith.proofs.RootSteps.{Ready, ready, in-25, operand, power-most}
 
 -- ---- the root of m * 2 ^ j units
 
 module _ (m j : ℕ) (p : 0 < m) (small : m < 2 ^ 24) (within : m * 2 ^ j < 2 ^ 277) where
   abbrev v : ℕ
   v = m * 2 ^ suc j
-
-  twice : m * 2 ^ j * 2 ≡ v
-  twice = mul-assoc m (2 ^ j) 2 ∙ ap (λ (x : ℕ). m * x) (sym (pow-suc 2 j))
 
   abbrev n : ℕ
   n = brought v
@@ -54,11 +51,8 @@ module _ (m j : ℕ) (p : 0 < m) (small : m < 2 ^ 24) (within : m * 2 ^ j < 2 ^ 
 
   k-le : k ≤ 253
   k-le =
-      let l : v < 2 ^ 278 = subst (λ (x : ℕ). x < 2 ^ 278) twice (mul-lt-mul-of-pos-right within (zero-lt-suc 1)) in
-      at-most (size v) (size-le v 278 l)
-    where
-      at-most : (s : ℕ) → s ≤ 278 → (s + 1) / 2 + 50 ≤ 253
-      at-most s h = omega arith
+      let h = power-most m j within in
+      omega arith
 
   result : roundExactOf (exactOf v) ≡ units binary32 false q k
   unfolding exactOf
@@ -71,7 +65,7 @@ module _ (m j : ℕ) (p : 0 < m) (small : m < 2 ^ 24) (within : m * 2 ^ j < 2 ^ 
       mul-comm 4 (u * 2 ^ 149)
       ∙ mul-assoc u (2 ^ 149) 4
       ∙ sym (mul-assoc (u * 2) (4 ^ 25) (4 ^ 50) ∙ mul-assoc u 2 (4 ^ 75))
-      ∙ ap (λ (x : ℕ). x * 4 ^ 25 * 4 ^ 50) twice
+      ∙ ap (λ (x : ℕ). x * 4 ^ 25 * 4 ^ 50) (twice m j)
       ∙ ap (λ (x : ℕ). x * 4 ^ 50) (sym (ok .exact))
       ∙ mul-assoc n (4 ^ power v) (4 ^ 50)
       ∙ ap (λ (x : ℕ). n * x) (sym (pow-add 4 (power v) 50) ∙ four-pow k ∙ pow-add 2 k k)
@@ -103,22 +97,13 @@ module _ (m j : ℕ) (p : 0 < m) (small : m < 2 ^ 24) (within : m * 2 ^ j < 2 ^ 
 
 -- ---- the law
 
-signed : (x : Float) → T (positive x) → (u : ℕ) → num x * 2 ^ 149 ≡ u * den x → HasValue x false u (2 ^ 149)
-signed nan t u e = absurd t
-signed (inf s) t u e = absurd t
-signed (fin true m d) t u e = absurd t
-signed (fin false m d) t u e = (refl, e)
-
 -- for every f32 that is finite and above zero
 pub nearest-root : (x : Float) → T (fits binary32 x) → T (positive x) → NearestRoot x (sqrtOf x)
 nearest-root x f t =
-    let s = short binary32 x f (positive-finite x t) in
-    let h = signed x t (s .m * 2 ^ (s .j)) (s .exact) in
-    let u : 0 < s .m * 2 ^ (s .j) = value-pos x (s .m * 2 ^ (s .j)) (2 ^ 149) t (pow-pos 149) h in
-    let p : 0 < s .m = first-pos (s .m) (2 ^ (s .j)) u in
+    let o = operand x f t in
     subst (λ (y : Float). NearestRoot x y)
-    (sym (root-is x (s .m * 2 ^ (s .j)) u h ∙ ap (λ (v : ℕ). roundExactOf (exactOf v)) (twice (s .m) (s .j) p (s .small) (s .within))))
-    (root-nearest (s .m) (s .j) p (s .small) (s .within) x (s .size-is))
+    (sym (root-left x (positive-left x t) ∙ ap (λ (v : ℕ). roundExactOf (exactOf v)) (o .quarters)))
+    (root-nearest (o .m) (o .j) (o .some) (o .short) (o .within) x (o .in-units))
 
 -- only one number is such: of two, each would be strictly the nearer
 pub root-unique : (x y z : Float) → NearestRoot x y → NearestRoot x z → y ≡ z

@@ -1,21 +1,26 @@
 -- What the functions of the square root need of one another, from the files beside this one. Assumes nothing.
 use mathlib.Core.Path.{_≡_, refl, sym, ap, _∙_, subst}
-use mathlib.Core.Bool.{false}
-use Prim.Native.Nat.{ℕ, zero, suc, _+_, _-_, _*_, _/_, _%_, _^_, _≤_, _<_}
-use native.Mathlib.Nat.{le-trans, lt-of-not-le, not-le-of-lt, mod-eq-of-lt, mul-pos, mul-assoc, pow-suc}
+use mathlib.Core.Bool.{false, true, not}
+use Prim.Native.Nat.{ℕ, suc, _+_, _-_, _*_, _/_, _%_, _^_, _≤_, _<_}
+use native.Mathlib.Nat.{le-trans, le-of-eq, lt-of-not-le, lt-of-lt-of-le, not-le-of-lt, mod-eq-of-lt, mul-pos, mul-assoc, mul-lt-mul-of-pos-right, zero-lt-suc, zero-add, one-mul, pow-suc, le-div-iff-mul-le, div-lt-iff-lt-mul}
 use native.Mathlib.Omega.{arith}
-use lib.Dec.{ltb}
-use lib.Pow.{pow-pos, pow-mono}
+use lib.Dec.{T, ltb}
+use lib.Pow.{pow-add, pow-pos, pow-mono}
 use lib.Count.{leadingZeros, leading-top}
-use lib.Ieee.{Float, binary32, ofFields, ofBits}
+use lib.Ieee.{Float, nan, inf, fin, binary32, size, fits, isNan, ofFields, ofBits, toBits}
+use lib.Ieee.Digits.{size-lt, size-le, size-reaches}
 use lib.Ieee.Exact.{HasValue}
+use lib.Ieee.Positive.{num, den, positive, positive-finite, value-pos, first-pos}
 use Rattle.arith.specs.declared.Exact.{Exact}
-use Rattle.arith.specs.Root.{IsRoot, wholeRoot, brought, power, exactOf, roundExactOf, scaled, sqrtOf}
+use Rattle.arith.specs.Root.{IsRoot, wholeRoot, brought, power, exactOf, scaled}
+use Rattle.arith.specs.Units.{inUnits}
+use Rattle.arith.proofs.Values.{size-gt, bits-of-value}
+use Rattle.arith.proofs.Short.{short}
 use Rattle.arith.proofs.RootWhole.{wholeRoot-is, root-unique}
 use Rattle.arith.proofs.RootBrought as B
 use Rattle.arith.proofs.RootDigits.{r-lo, r-hi}
 use Rattle.arith.proofs.Fields.{plus-fields, value-zero, value-finite}
-use Rattle.arith.proofs.RootValue.{scaled-is, root-is}
+use Rattle.arith.proofs.RootValue.{twice, scaled-is}
 
 -- ---- the number that an operand is brought to
 
@@ -74,12 +79,6 @@ module _ (a k : ℕ) (p : 0 < a) (h : a < 2 ^ 24) where
       let l : brought (a * 2 ^ k) < 2 ^ 64 = omega arith in
       ap (λ (x : ℕ). x % 2 ^ 64) f ∙ mod-eq-of-lt l
 
-  pub power-le : k < 255 → power (a * 2 ^ k) ≤ 200
-  power-le m =
-      let e = B.power-is a (top .0) k (top .2) (top .3) below24 in
-      let b = below24 in
-      omega arith
-
 -- ---- the exact root
 
 abbrev make : ℕ → ℕ → ℕ → Exact
@@ -106,6 +105,94 @@ root-range v d =
 pub power-of : (v : ℕ) → exactOf v .power ≡ power v
 unfolding exactOf
 power-of v = refl
+
+-- ---- a finite number above zero: m * 2 ^ j of an f32's smallest value, and so m * 2 ^ (j + 1) of 4 ^ -75
+
+pub record Operand (x : Float) : Type 0 where
+  pub m : ℕ
+  pub j : ℕ
+  pub some : 0 < m
+  pub short : m < 2 ^ 24
+  pub within : m * 2 ^ j < 2 ^ 277
+  pub value : HasValue x false (m * 2 ^ j) (2 ^ 149)
+  pub in-units : inUnits binary32 x ≡ m * 2 ^ j
+  pub quarters : scaled x ≡ m * 2 ^ suc j
+
+signed : (x : Float) → T (positive x) → (u : ℕ) → num x * 2 ^ 149 ≡ u * den x → HasValue x false u (2 ^ 149)
+signed nan t u e = absurd t
+signed (inf s) t u e = absurd t
+signed (fin true m d) t u e = absurd t
+signed (fin false m d) t u e = (refl, e)
+
+pub operand : (x : Float) → T (fits binary32 x) → T (positive x) → Operand x
+operand x f t =
+    let s = short binary32 x f (positive-finite x t) in
+    let u = s .m * 2 ^ (s .j) in
+    let h = signed x t u (s .exact) in
+    record {
+      m = s .m;
+      j = s .j;
+      some = first-pos (s .m) (2 ^ (s .j)) (value-pos x u (2 ^ 149) t (pow-pos 149) h);
+      short = s .small;
+      within = s .within;
+      value = h;
+      in-units = s .size-is;
+      quarters = scaled-is x false u h ∙ twice (s .m) (s .j);
+    }
+
+-- the power of 4 stays small
+pub power-most : (m j : ℕ) → m * 2 ^ j < 2 ^ 277 → power (m * 2 ^ suc j) ≤ 139
+power-most m j h =
+    half (size (m * 2 ^ suc j)) (size-le (m * 2 ^ suc j) 278 (subst (λ (x : ℕ). x < 2 ^ 278) (twice m j) (mul-lt-mul-of-pos-right h (zero-lt-suc 1))))
+  where
+    half : (s : ℕ) → s ≤ 278 → (s + 1) / 2 ≤ 139
+    half s h = omega arith
+
+-- what the third step asks of the second's result
+pub exact-range : (x : Float) → T (fits binary32 x) → T (positive x) → (e : Exact) → e ≡ exactOf (scaled x) → (2 ^ 24 ≤ e .root) × (e .root < 2 ^ 25) × (e .power ≤ 200)
+exact-range x f t e i =
+    let o = operand x f t in
+    let v = o .m * 2 ^ suc (o .j) in
+    let s = root-range v (ready (o .m) (suc (o .j)) (o .some) (o .short)) in
+    let q = subst (λ (p : ℕ). p ≤ 139) (sym (power-of v)) (power-most (o .m) (o .j) (o .within)) in
+    subst (λ (y : Exact). (2 ^ 24 ≤ y .root) × (y .root < 2 ^ 25) × (y .power ≤ 200)) (sym (i ∙ ap exactOf (o .quarters))) (s .0, omega arith, omega arith)
+
+-- ---- its pattern
+
+pub positive-plain : (x : Float) → T (positive x) → T (not (isNan x))
+unfolding isNan
+positive-plain nan t = absurd t
+positive-plain (inf s) t = tt
+positive-plain (fin s m e) t = tt
+
+-- by the digits n of the number: the exponent's field counts those beyond 24
+pattern-range : (n : ℕ) → 0 < n → n < 2 ^ 277 → (0 < (size n - 24) * 8388608 + n / 2 ^ (size n - 24)) × ((size n - 24) * 8388608 + n / 2 ^ (size n - 24) < 2139095040)
+pattern-range n p h =
+    let z = size n in
+    let d = z - 24 in
+    let some : 0 < z = size-gt n 0 p in
+    let low : 1 * 2 ^ d ≤ n = le-trans (le-of-eq (one-mul (2 ^ d))) (size-reaches n d (less z some)) in
+    let high : n < 2 ^ 24 * 2 ^ d = lt-of-lt-of-le (size-lt n) (le-trans (pow-mono (over z)) (le-of-eq (pow-add 2 24 d))) in
+    ends d (n / 2 ^ d) (most z (size-le n 277 h)) (le-div-iff-mul-le (pow-pos d) .1 low) (div-lt-iff-lt-mul (pow-pos d) .1 high)
+  where
+    less : (z : ℕ) → 0 < z → z - 24 < z
+    less z h = omega arith
+
+    over : (z : ℕ) → z ≤ 24 + (z - 24)
+    over z = omega arith
+
+    most : (z : ℕ) → z ≤ 277 → z - 24 ≤ 253
+    most z h = omega arith
+
+    ends : (d q : ℕ) → d ≤ 253 → 1 ≤ q → q < 2 ^ 24 → (0 < d * 8388608 + q) × (d * 8388608 + q < 2139095040)
+    ends d q a b c = (omega arith, omega arith)
+
+pub positive-bits : (x : Float) → T (fits binary32 x) → T (positive x) → (0 < toBits binary32 x) × (toBits binary32 x < 2139095040)
+positive-bits x f t =
+    let o = operand x f t in
+    let n = o .m * 2 ^ (o .j) in
+    subst (λ (b : ℕ). (0 < b) × (b < 2139095040)) (sym (bits-of-value binary32 x false n (o .value) ∙ ap (λ (y : ℕ). y + n / 2 ^ (size n - 24)) (zero-add ((size n - 24) * 8388608))))
+    (pattern-range n (mul-pos (o .some) (pow-pos (o .j))) (o .within))
 
 -- ---- a pattern read: the number a * 2 ^ k of 4 ^ -75
 
@@ -147,33 +234,3 @@ read-high b n h =
 
 pub read-scaled : {b a k : ℕ} → Reading b a k → scaled (ofBits binary32 b) ≡ a * 2 ^ k
 read-scaled {b} {a} {k} r = scaled-is (ofBits binary32 b) false (r .u) (r .value) ∙ r .twice
-
-read-pos : (a k u : ℕ) → 0 < a → u * 2 ≡ a * 2 ^ k → 0 < u
-read-pos a k u p e =
-    let m : 0 < a * 2 ^ k = mul-pos p (pow-pos k) in
-    omega arith
-
--- what the steps give is the root
-pub read-root : {b a k : ℕ} → Reading b a k → roundExactOf (exactOf (scaled (ofBits binary32 b))) ≡ sqrtOf (ofBits binary32 b)
-read-root {b} {a} {k} r =
-    ap (λ (v : ℕ). roundExactOf (exactOf v)) (scaled-is (ofBits binary32 b) false (r .u) (r .value))
-    ∙ sym (root-is (ofBits binary32 b) (r .u) (read-pos a k (r .u) (r .some) (r .twice)) (r .value))
-
-pub read-range : {b a k : ℕ} → Reading b a k → (e : Exact) → e ≡ exactOf (scaled (ofBits binary32 b)) → (2 ^ 24 ≤ e .root) × (e .root < 2 ^ 25 - 1) × (e .power ≤ 200)
-read-range {b} {a} {k} r e i =
-    let d = ready a k (r .some) (r .short) in
-    let g : exactOf (a * 2 ^ k) ≡ e = sym (i ∙ ap exactOf (read-scaled r)) in
-    let s = root-range (a * 2 ^ k) d in
-    let q = subst (λ (x : ℕ). x ≤ 200) (sym (power-of (a * 2 ^ k))) (power-le a k (r .some) (r .short) (r .small)) in
-    subst (λ (x : Exact). (2 ^ 24 ≤ x .root) × (x .root < 2 ^ 25 - 1) × (x .power ≤ 200)) g (s .0, s .1, q)
-
--- by either way
-pub read : (b : ℕ) → 0 < b → b < 2139095040 → (a : ℕ) × (k : ℕ) × Reading b a k
-read b p h = go (b / 8388608) refl
-  where
-    go : (f : ℕ) → b / 8388608 ≡ f → (a : ℕ) × (k : ℕ) × Reading b a k
-    go zero e = (b % 8388608, 1, read-low b p e)
-    go (suc f) e = (b % 8388608 + 8388608, b / 8388608, read-high b (no e) h)
-      where
-        no : b / 8388608 ≡ suc f → b / 8388608 ≡ 0 → ⊥
-        no e z = omega arith

@@ -7,4 +7,5 @@ pub mod Carry
 pub mod OwnEdge
 pub mod Units
 pub mod RoundingNearest
+pub mod RootSteps
 pub mod RootNearest

@@ -7,7 +7,9 @@ ghost use lib.Ieee as Ieee;
 ghost use lib.Ieee.{binary32, binary64};
 ghost use lib.IntN.{pos};
 ghost use lib.Ieee.Nearest.{closest};
-ghost use Rattle.arith.specs.Root.{IsRoot, exactOf, roundExactOf, scaled, sqrtOf};
+ghost use lib.Ieee.Positive.{positive};
+ghost use lib.Dec.{T};
+ghost use Rattle.arith.specs.Root.{specialOf, answered, scaled, InRange, IsRoot, exactOf, roundExact, sqrtOf};
 ghost use Rattle.arith.specs.Rounding.{roundOf, narrowOf, widenOf};
 ghost use Rattle.arith.specs.Leaves.{absOf, midpointOf, flushOf, maxOf, minOf, cmulConjOf, crossOf, edgeOf, stepOf, wholeOf, widthOf, fskWidthOf, runFixOf, gainOf, leadLenOf};
 ghost use Rattle.arith.specs.Angle.{octant, atan2Of};
@@ -156,6 +158,43 @@ pub fn widen(x: f32) -> f64
 
 // ---- square root, in the standard's order: special operands, the exact result, the rounding
 
+// What is answered with no root taken, if anything is.
+pub struct Answer {
+    pub given: bool,
+    pub root: f32,
+}
+
+// The first step. A NaN (IEEE 754-2019, 6.2), a zero with its sign (6.3) and plus infinity (6.1) are their
+// own roots, and for what is below zero the operation is invalid: a NaN (7.2).
+fn special(x: f32) -> Answer
+    ensures { λ r. ⌜ answered r ≡ specialOf x ⌝ }
+{
+    let own = Answer {
+        given: true,
+        root: x,
+    };
+    if x != x {
+        return own;
+    }
+    if x == 0.0 {
+        return own;
+    }
+    if x == f32::from_bits(0x7f80_0000) {
+        return own;
+    }
+    if x < 0.0 {
+        let zero = 0.0f32;
+        return Answer {
+            given: true,
+            root: zero / zero,
+        };
+    }
+    Answer {
+        given: false,
+        root: x,
+    }
+}
+
 // The exact root of a positive number: its 25 digits, whether it has more, and the power.
 pub struct Exact {
     pub root: u32,
@@ -165,7 +204,7 @@ pub struct Exact {
 
 // The largest whole number whose square is at most n, a binary digit at a time.
 fn whole_root(n: u64) -> u64
-    requires { ⌜ (2 ^ 48 ≤ n) × (n < 2 ^ 50) ⌝ }
+    requires { ⌜ InRange n ⌝ }
     ensures { λ r. ⌜ IsRoot n r ⌝ }
 {
     let mut r: u64 = 0x100_0000;
@@ -180,7 +219,7 @@ fn whole_root(n: u64) -> u64
     r
 }
 
-// The exact root of a * 2 ^ k quarters.
+// The exact root of a * 2 ^ k of 4 ^ -75, brought by a power of 4 to 2 ^ 48 or more and below 2 ^ 50.
 fn exact_of(a: u32, k: u32) -> Exact
     requires { ⌜ (0 < a) × (a < 2 ^ 24) × (k < 255) ⌝ }
     ensures { λ r. ⌜ r ≡ exactOf (a * 2 ^ k) ⌝ }
@@ -196,11 +235,12 @@ fn exact_of(a: u32, k: u32) -> Exact
     }
 }
 
-// The exact root of the positive number whose pattern is b.
-fn exact_root(b: u32) -> Exact
-    requires { ⌜ (0 < b) × (b < 0x7f80_0000) ⌝ }
-    ensures { λ r. ⌜ r ≡ exactOf (scaled (Ieee.ofBits binary32 b)) ⌝ }
+// The second step, for a finite number above zero, by its digits and its exponent.
+fn exact_root(x: f32) -> Exact
+    requires { ⌜ T (positive x) ⌝ }
+    ensures { λ r. ⌜ r ≡ exactOf (scaled x) ⌝ }
 {
+    let b = f32::to_bits(x);
     let f = b / 0x80_0000;
     let t = b % 0x80_0000;
     if f == 0 {
@@ -210,41 +250,29 @@ fn exact_root(b: u32) -> Exact
     }
 }
 
-// The pattern of the f32 nearest to an exact root, ties to even.
-fn round_exact(e: Exact) -> u32
-    requires { ⌜ (2 ^ 24 ≤ e .root) × (e .root < 2 ^ 25 - 1) × (e .power ≤ 200) ⌝ }
-    ensures { λ r. ⌜ (Ieee.ofBits binary32 r ≡ roundExactOf e) × (r < 0x7f80_0000) ⌝ }
+// The third step: to the nearest f32, ties to even (4.3.1), from the root's 25 digits, whether it has
+// more, and the power alone.
+fn round_exact(root: u32, more: bool, power: u32) -> f32
+    requires { ⌜ (2 ^ 24 ≤ root) × (root < 2 ^ 25) × (power ≤ 200) ⌝ }
+    ensures { λ r. ⌜ r ≡ roundExact root more power ⌝ }
 {
-    let r = e.root;
-    let base = (e.power + 50) * 0x80_0000;
-    if e.more {
-        return base + (r + 1) / 2;
+    let base = (power + 50) * 0x80_0000;
+    if more {
+        return f32::from_bits(base + (root + 1) / 2);
     }
-    base + (r + r / 2 % 2) / 2
+    f32::from_bits(base + (root + root / 2 % 2) / 2)
 }
 
 // The square root of x.
 pub fn sqrt(x: f32) -> f32
     ensures { λ r. ⌜ r ≡ sqrtOf x ⌝ }
 {
-    if x != x {
-        return x;
+    let s = special(x);
+    if s.given {
+        return s.root;
     }
-    let b = f32::to_bits(x);
-    if b == 0x8000_0000 {
-        return x;
-    }
-    if 0x8000_0000 < b {
-        let zero = 0.0f32;
-        return zero / zero;
-    }
-    if b == 0 {
-        return x;
-    }
-    if b == 0x7f80_0000 {
-        return x;
-    }
-    f32::from_bits(round_exact(exact_root(b)))
+    let e = exact_root(x);
+    round_exact(e.root, e.more, e.power)
 }
 
 // ---- what the Rust takes from its language and libraries

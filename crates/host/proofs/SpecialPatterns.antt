@@ -3,7 +3,7 @@ use mathlib.Core.Path.{refl, ap, _∙_}
 use lib.Ieee.{binary32, ofBits, toBits}
 use Rattle.arith.specs.Root.{sqrtOf}
 use Rattle.arith.proofs.Nan.{nan-read, nan-written32}
-use Rattle.arith.proofs.RootSpecial.{nan-root, negative-root}
+use Rattle.arith.proofs.RootSpecial.{special-roots, negative-root}
 use Rattle.host.specs.SquareRoot.{laneSqrtOf, SpecialPatterns}
 
 pub special-patterns : SpecialPatterns laneSqrtOf
@@ -11,6 +11,6 @@ unfolding sqrtOf ofBits toBits
 special-patterns = record {
   minus-zero = refl;
   infinity = refl;
-  no-number = λ b h. ap (toBits binary32) (ap sqrtOf (nan-read binary32 b h) ∙ nan-root) ∙ nan-written32;
+  no-number = λ b h. ap (toBits binary32) (ap sqrtOf (nan-read binary32 b h) ∙ special-roots .no-number) ∙ nan-written32;
   negative = λ b h k. ap (toBits binary32) (negative-root b h k) ∙ nan-written32;
 }

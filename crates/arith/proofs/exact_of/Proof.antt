@@ -5,18 +5,19 @@ use native.Mathlib.Nat.{le-trans, lt-of-not-le, not-le-of-lt, mul-le-mul}
 use native.Mathlib.Omega.{arith}
 use borrow.Author.Needs.{needs}
 use lib.Count.{leading-le}
+use Rattle.arith.specs.Root.{InRange}
 use Rattle.arith.proofs.RootSteps.{ready, codePower, codeBrought, codePower-is, codeBrought-is, exact-is}
 use Rattle.arith.proofs.exact_of.Statement.{statement}
 use Rattle.arith.proofs.exact_of.Tie as tie
 
-in-range : (c : tie.Start) → (2 ^ 48 ≤ codeBrought (c .args .a) (c .args .k) (c .pre .0) (c .pre .1)) × (codeBrought (c .args .a) (c .args .k) (c .pre .0) (c .pre .1) < 2 ^ 50)
+in-range : (c : tie.Start) → InRange (codeBrought (c .args .a) (c .args .k) (c .pre .0) (c .pre .1))
 in-range c =
     let a = c .args .a in
     let k = c .args .k in
     let d = ready a k (c .pre .0) (c .pre .1) in
     let lo = d .lo in
     let hi = d .hi in
-    subst (λ (x : ℕ). (2 ^ 48 ≤ x) × (x < 2 ^ 50)) (sym (codeBrought-is a k (c .pre .0) (c .pre .1))) (lo, omega arith)
+    subst InRange (sym (codeBrought-is a k (c .pre .0) (c .pre .1))) (lo, omega arith)
 
 root-fits : (n r : ℕ) → n < 2 ^ 50 → r * r ≤ n → r < 2 ^ 32
 root-fits n r h i =

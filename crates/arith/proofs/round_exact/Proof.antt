@@ -2,22 +2,32 @@
 use Prim.Native.Nat.{_+_, _/_, _%_}
 use native.Mathlib.Omega.{arith}
 use borrow.Author.Needs.{needs}
+use lib.Ieee.{binary32}
+use Rattle.arith.proofs.Nan.{plain-read}
 use Rattle.arith.proofs.RootAssembled.{assembled, with-more, with-none}
 use Rattle.arith.proofs.round_exact.Statement.{statement}
 use Rattle.arith.proofs.round_exact.Tie as tie
 
+float-from-bits-result : tie.Need-float-from-bits-result
+float-from-bits-result c = plain-read binary32 _ (omega arith)
+
 returns : tie.Need-returns
 returns c =
-    let e = c .before .before .args .e in
-    let h = c .before .before .pre in
-    assembled (e .root) (e .more) (e .power) ((e .root + 1) / 2) (with-more (e .root) (e .more) (c .if1 .taken)) (omega arith) (omega arith) (h .2)
+    let a = c .before .args in
+    let h = c .before .pre in
+    assembled (a .root) (a .more) (a .power) ((a .root + 1) / 2) (with-more (a .root) (a .more) (c .if1 .taken)) (omega arith) (omega arith) (h .2)
+
+float-from-bits-result-2 : tie.Need-float-from-bits-result-2
+float-from-bits-result-2 c = plain-read binary32 _ (omega arith)
 
 returns-2 : tie.Need-returns-2
 returns-2 c =
-    let e = c .before .before .args .e in
-    let h = c .before .before .pre in
-    assembled (e .root) (e .more) (e .power) ((e .root + e .root / 2 % 2) / 2) (with-none (e .root) (e .more) (c .if1 .left)) (omega arith) (omega arith) (h .2)
+    let a = c .before .args in
+    let h = c .before .pre in
+    assembled (a .root) (a .more) (a .power) ((a .root + a .root / 2 % 2) / 2) (with-none (a .root) (a .more) (c .if1 .left)) (omega arith) (omega arith) (h .2)
 
 pub round-exact-spec : {M : Type 1} → statement M
 round-exact-spec =
-    tie.close (tie.spec (search needs) (search needs) (search needs) (search needs) returns (search needs) (search needs) returns-2)
+    tie.close
+    (tie.spec (search needs) (search needs) (search needs) (search needs) float-from-bits-result returns (search needs) (search needs)
+    float-from-bits-result-2 returns-2)

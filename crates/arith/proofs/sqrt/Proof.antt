@@ -1,14 +1,12 @@
--- `arith::sqrt` meets its contract: special operands (`RootSpecial.antt`), then the exact result and the rounding (`RootSteps.antt`). Assumes nothing.
-use mathlib.Core.Path.{sym, ap, _∙_, subst}
-use Prim.Native.Nat.{_<_}
-use native.Mathlib.Omega.{arith}
+-- `arith::sqrt` meets its contract: the three steps in a row, and what the first leaves is what the second asks for (`RootSpecial.antt`, `RootSteps.antt`). Assumes nothing.
+use mathlib.Core.Path.{_≡_, sym, ap, _∙_, subst}
+use mathlib.Core.Option.{none}
+use borrow.Author.Needs.{needs}
 use lib.Dec.{T}
-use lib.Ieee.{binary32, fits, toBits}
-use lib.Ieee.Bits.{ofBits-toBits, toBits-lt}
-use Rattle.arith.specs.Root.{sqrtOf, roundExactOf}
-use Rattle.arith.proofs.RootSpecial.{nan-root, bits-no-nan, own-root, zero-root, minus-zero-root, infinity-root, negative-root}
-use Rattle.arith.proofs.Nan.{is-nan, no-nan, plain-read, zero-by-zero}
-use Rattle.arith.proofs.RootSteps.{read, read-root, read-range}
+use lib.Ieee.{binary32, fits}
+use Rattle.arith.specs.Root.{specialOf, roundExactOf}
+use Rattle.arith.proofs.RootSpecial.{special-step, given-root, none-given, root-left}
+use Rattle.arith.proofs.RootSteps.{exact-range}
 use Rattle.arith.proofs.sqrt.Statement.{statement}
 use Rattle.arith.proofs.sqrt.Tie as tie
 
@@ -18,66 +16,30 @@ held c = subst T (sym (c .good .0 .1)) tt
 
 returns : tie.Need-returns
 returns c =
-    let e = is-nan (c .before .args .x) (c .if1 .taken) in
-    e ∙ sym nan-root ∙ ap sqrtOf (sym e)
+    let s = c .before in
+    given-root (s .special .result) (s .before .args .x) (s .special .ensures) (c .if1 .taken)
 
-float-to-bits-b : tie.Need-float-to-bits-b
-float-to-bits-b c = no-nan (c .before .args .x) (c .if1 .left)
-
-returns-2 : tie.Need-returns-2
-returns-2 c =
-    let s = c .before .before in
-    own-root (s .args .x) 2147483648 (held s) (c .if2 .taken) minus-zero-root
-
-returns-3 : tie.Need-returns-3
-returns-3 c =
-    let s = c .before .before .before in
-    zero-by-zero binary32 ∙ sym (negative-root (toBits binary32 (s .args .x)) (c .if3 .taken) (toBits-lt binary32 (s .args .x) (held s))) ∙ ap sqrtOf (ofBits-toBits binary32 (s .args .x) (held s))
-
-returns-4 : tie.Need-returns-4
-returns-4 c =
-    let s = c .before .before .before .before in
-    own-root (s .args .x) 0 (held s) (c .if4 .taken) zero-root
-
-returns-5 : tie.Need-returns-5
-returns-5 c =
-    let s = c .before .before .before .before .before in
-    own-root (s .args .x) 2139095040 (held s) (c .if5 .taken) infinity-root
-
-in-range : (c : tie.Else5) → (0 < toBits binary32 (c .before .before .before .before .before .args .x)) × (toBits binary32 (c .before .before .before .before .before .args .x) < 2139095040)
-in-range c =
-    let s = c .before .before .before .before .before in
-    let n = bits-no-nan (s .args .x) (held s) (no-nan (s .args .x) (c .before .before .before .before .if1 .left)) in
-    let z = c .if5 .left in
-    let y = c .before .if4 .left in
-    let w = c .before .before .before .if2 .left in
-    omega arith
+-- the first step has no answer
+none-left : (c : tie.Else1) → specialOf (c .before .before .args .x) ≡ none
+none-left c =
+    let s = c .before in
+    none-given (s .special .result) (s .before .args .x) (s .special .ensures) (c .if1 .left)
 
 exact-root-requires : tie.Need-exact-root-requires
-exact-root-requires c κs = in-range c
+exact-root-requires c κs = special-step .left (c .before .before .args .x) (none-left c)
 
 round-exact-requires : tie.Need-round-exact-requires
 round-exact-requires c κs =
-    let i = in-range (c .before) in
-    let b = toBits binary32 (c .before .before .before .before .before .before .args .x) in
-    let r = read b (i .0) (i .1) in
-    read-range (r .2) (c .exact-root .result) (c .exact-root .ensures)
+    let s = c .before .before .before in
+    let x = s .args .x in
+    exact-range x (held s) (special-step .left x (none-left (c .before))) (c .exact-root .result) (c .exact-root .ensures)
 
-float-from-bits-result : tie.Need-float-from-bits-result
-float-from-bits-result c =
-    let h = c .round-exact .ensures .1 in
-    plain-read binary32 (c .round-exact .result) (omega arith)
-
-returns-6 : tie.Need-returns-6
-returns-6 c =
-    let s = c .before .before .before .before .before .before .before in
-    let i = in-range (c .before .before) in
-    let b = toBits binary32 (s .args .x) in
-    let r = read b (i .0) (i .1) in
-    c .round-exact .ensures .0 ∙ ap roundExactOf (c .before .exact-root .ensures) ∙ read-root (r .2) ∙ ap sqrtOf (ofBits-toBits binary32 (s .args .x) (held s))
+returns-2 : tie.Need-returns-2
+returns-2 c =
+    let d = c .before in
+    let x = d .before .before .before .args .x in
+    c .round-exact .ensures ∙ ap roundExactOf (d .exact-root .ensures) ∙ sym (root-left x (none-left (d .before)))
 
 pub sqrt-spec : {M : Type 1} → statement M
 sqrt-spec =
-    tie.close
-    (tie.spec returns float-to-bits-b returns-2 returns-3 returns-4 returns-5 exact-root-requires round-exact-requires
-    float-from-bits-result returns-6)
+    tie.close (tie.spec (search needs) returns exact-root-requires round-exact-requires returns-2)

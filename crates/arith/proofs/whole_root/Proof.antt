@@ -12,7 +12,7 @@ abbrev μ-loop : tie.MeasureT-loop
 μ-loop n r₀ bit₀ r bit = bit
 
 loop-holds : tie.Need-loop-holds Inv-loop μ-loop
-loop-holds c = first (c .args .n) (c .pre .0) (c .pre .1)
+loop-holds c = first (c .args .n) (c .pre)
 
 add-t : tie.Need-add-t Inv-loop μ-loop
 add-t c = omega arith
