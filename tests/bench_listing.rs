@@ -1,5 +1,5 @@
-//! Times a listing program beside the reference, both on the same command streams: nanoseconds per call, the best of several
-//! rounds taken in turn, the start of the program included.
+//! Times a listing program beside the reference, both on the same command streams, of every mode and of short pulses: nanoseconds
+//! per call, the best of several rounds taken in turn, the start of the program included.
 //!
 //!     bench_listing PROGRAM REFERENCE
 
@@ -9,6 +9,7 @@ use std::time::Instant;
 
 #[allow(dead_code)]
 mod generator;
+mod long;
 mod random;
 #[allow(dead_code)]
 mod receiver;
@@ -17,6 +18,7 @@ mod signal;
 mod verdict;
 
 use generator::stream;
+use long::short_pulses;
 use signal::KINDS;
 
 const CALLS: u64 = 1_000_000;
@@ -35,8 +37,8 @@ fn timed(program: &str) -> f64 {
 fn main() {
     let mut args = std::env::args().skip(1);
     let programs = [0, 1].map(|_| args.next().expect("bench_listing PROGRAM REFERENCE"));
-    for (name, kind) in &KINDS[..3] {
-        let s = stream(6, CALLS, Some(*kind));
+    let kinds = KINDS[..3].iter().map(|&(name, kind)| (name, stream(6, CALLS, Some(kind))));
+    for (name, s) in kinds.chain([("short pulses", short_pulses(6, CALLS))]) {
         std::fs::write(INPUT, &s.bytes).expect(INPUT);
         let mut best = [f64::INFINITY; 2];
         for _ in 0..ROUNDS {

@@ -127,6 +127,23 @@ impl Long {
     }
 }
 
+/// Bursts of 300 pulses of 3 to 6 samples, with gaps of as many between them, until so many calls are made: an edge is refined at
+/// every fifth sample or so.
+pub fn short_pulses(seed: u64, calls: u64) -> Stream {
+    let settings = Settings { min_steps: 3, ..usual().settings(&mut Random::new(seed)) };
+    let mut g = Generator { r: Random::new(seed), kind: Kind::Ook, settings, carry: None };
+    let mut s = Stream::new(Receiver::new());
+    s.send(&settings.command());
+    let mut index = 0;
+    while s.calls < calls {
+        let plan = plan(&mut g.r, &[Pulses(300)], u64::from(settings.min_steps));
+        let (factor, ticks) = g.clear_samples(&plan, 0.1);
+        whole_burst(&mut s, index, factor, &ticks);
+        index += ticks.len() as u64;
+    }
+    s
+}
+
 /// Brings the last of several samples of a pulse to the middle of the levels: then one of its edges is half way between two samples,
 /// and the widths without carry do not add up.
 fn halve_ends(plan: &[Stretch], ticks: &mut [Tick]) {

@@ -2,6 +2,7 @@
 //!
 //!     streams [--seed N] [--calls N] [--kind KIND] [--carry] [--census]
 //!     streams --long [--seed N]      the long bursts of the kept stream instead, a seed each
+//!     streams --short [--seed N] [--calls N]     bursts of short pulses instead, those of the benchmark
 //!
 //! Kinds: ook, fsk, auto (settings of that mode), exact (values that meet thresholds and ties exactly), edges (values and
 //! settings at and past the ends of the domain), damaged (commands with changed, lost or repeated bytes; such a stream may end
@@ -24,7 +25,7 @@ use signal::KINDS;
 
 fn main() -> io::Result<()> {
     let (mut seed, mut calls, mut kind) = (1u64, 10_000u64, None);
-    let (mut carry, mut census, mut long) = (false, false, false);
+    let (mut carry, mut census, mut long, mut short) = (false, false, false, false);
     let mut args = std::env::args().skip(1);
     while let Some(a) = args.next() {
         let mut value = || args.next().unwrap_or_else(|| usage());
@@ -35,6 +36,7 @@ fn main() -> io::Result<()> {
             "--carry" => carry = true,
             "--census" => census = true,
             "--long" => long = true,
+            "--short" => short = true,
             _ => usage(),
         }
     }
@@ -47,7 +49,11 @@ fn main() -> io::Result<()> {
         let found = KINDS.iter().find(|(n, _)| *n == name);
         found.unwrap_or_else(|| usage()).1
     });
-    let s = if carry { carried(seed, calls, kind) } else { stream(seed, calls, kind) };
+    let s = match (short, carry) {
+        (true, _) => long::short_pulses(seed, calls),
+        (_, true) => carried(seed, calls, kind),
+        _ => stream(seed, calls, kind),
+    };
     if census {
         for (what, n) in &s.census {
             eprintln!("{n:9} {what}");
@@ -58,7 +64,7 @@ fn main() -> io::Result<()> {
 
 fn usage() -> ! {
     eprintln!(
-        "streams [--seed N] [--calls N] [--kind ook|fsk|auto|exact|edges|damaged|any] [--carry] [--census] [--long]"
+        "streams [--seed N] [--calls N] [--kind ook|fsk|auto|exact|edges|damaged|any] [--carry] [--census] [--long | --short]"
     );
     std::process::exit(2)
 }

@@ -21,7 +21,8 @@ pub mod RootBrought
 pub mod RootDigits
 pub mod RootSides
 pub mod RootValue
-pub mod RootHalving
+pub mod RootNewton
+pub mod RootFromTable
 pub mod RootAssembled
 pub mod RootSteps
 pub mod RootSpecial

@@ -202,21 +202,16 @@ pub struct Exact {
     pub power: u32,
 }
 
-// The largest whole number whose square is at most n, a binary digit at a time.
+// The largest whole number whose square is at most n: from the table's first digits, one more than
+// those, two steps of Newton's, (g + n / g) / 2. They end at that number or at the next one.
 fn whole_root(n: u64) -> u64
     requires { ⌜ InRange n ⌝ }
     ensures { λ r. ⌜ IsRoot n r ⌝ }
 {
-    let mut r: u64 = 0x100_0000;
-    let mut bit: u64 = 0x100_0000;
-    while 1 < bit {
-        bit = bit / 2;
-        let t = r + bit;
-        if t * t <= n {
-            r = t;
-        }
-    }
-    r
+    let d = table::first_digits(n / 0x100_0000_0000) as u32 + 1;
+    let g = (d * 0x1_0000 + (n / 0x4_0000) as u32 / d) as u64;
+    let h = (g + n / g) / 2;
+    if n < h * h { h - 1 } else { h }
 }
 
 // The exact root of a * 2 ^ k of 4 ^ -75, brought by a power of 4 to 2 ^ 48 or more and below 2 ^ 50.

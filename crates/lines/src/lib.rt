@@ -31,7 +31,7 @@ fn put_bytes(src: &[u8], text: &mut [u8], at: usize) -> usize
     at + src.len()
 }
 
-fn put_byte(b: u8, text: &mut [u8], at: usize) -> usize
+pub fn put_byte(b: u8, text: &mut [u8], at: usize) -> usize
     requires { ⌜ at < length (now text) ⌝ }
     ensures { λ r. ⌜ Put (b ∷ []) 1 at (now (text .entry)) r (now (text .exit)) ⌝ }
 {
@@ -58,7 +58,7 @@ fn spell(n: u64, out: &mut [u8]) -> usize
     i
 }
 
-fn put_decimal(n: u64, text: &mut [u8], at: usize) -> usize
+pub fn put_decimal(n: u64, text: &mut [u8], at: usize) -> usize
     requires { ⌜ at + 20 ≤ length (now text) ⌝ }
     ensures { λ r. ⌜ Put (decimal n) 20 at (now (text .entry)) r (now (text .exit)) ⌝ }
 {

@@ -1,0 +1,3 @@
+pub mod Others
+pub mod Lifted
+pub mod Examples

@@ -1,0 +1,3 @@
+-- The table's rule, and what follows from it.
+pub mod Rule
+pub mod Laws
