@@ -2,6 +2,7 @@
 use Prim.Native.Nat.{ℕ}
 use lib.Ieee.{Float}
 use Rattle.arith.specs.declared.C32.{C32}
+use Rattle.ook.specs.Core.{numbered}
 use Rattle.ook.specs.declared.Env.{Env}
 use Rattle.ook.specs.declared.Train.{Train}
 use Rattle.ook.specs.declared.Out.{Out}
@@ -29,6 +30,11 @@ burstOf high «e_prev» env pac train «out_ook» frames pres frame «out_fsk» 
       frame = frame;
       «out_fsk» = «out_fsk»;
     }
+
+-- with the serials of its two records
+abbrev pub withSerials : ℕ → ℕ → Burst → Burst
+withSerials ook fsk b =
+    burstOf (b .high) (b .«e_prev») (b .env) (b .pac) (b .train) (numbered ook (b .«out_ook»)) (b .frames) (b .pres) (b .frame) (numbered fsk (b .«out_fsk»))
 
 -- after the confirmation: signal level, envelope, run, sums, train and record, and the start of presence and frame
 abbrev pub withActed : Float → Seen → Snapped → Acted → Burst → Burst

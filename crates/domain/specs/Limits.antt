@@ -1,5 +1,5 @@
 -- Document 01's limits ("Domain" and refusals 4 and 9), each named once: every bound that they give is derived from these names.
-use Prim.Native.Nat.{ℕ, _*_, _^_}
+use Prim.Native.Nat.{ℕ, _+_, _*_, _^_}
 
 -- max_pulses
 abbrev pub maxPulses : ℕ
@@ -24,3 +24,11 @@ maxCount = 2 ^ 27
 -- a boundary in carry mode, in 64ths of a step (document 02, R-1)
 abbrev pub maxBound : ℕ
 maxBound = 2 ^ 47
+
+-- a serial that is spent: this and above (document 02, R-6)
+abbrev pub spentSerial : ℕ
+spentSerial = 2 ^ 48
+
+-- a serial: a burst begun before the serial is spent may run on, an index at a time
+abbrev pub maxSerial : ℕ
+maxSerial = spentSerial + maxIndex

@@ -68,6 +68,7 @@ outOf start end c high carrier =
       level = high;
       fsk = 1;
       carrier = carrier;
+      serial = 0;
     }
 
 abbrev pub framedBy : Frame → Float → C32 → Float → Float → Committed × List ℕ → Framed × List ℕ

@@ -30,6 +30,7 @@ use Rattle.lane.specs.declared.Reply.the-variants as reply
 use Rattle.lane.specs.Answers.{replyOf, phaseOf}
 use Rattle.lane.specs.Begin.{laneOf, ringOf, clearedOf}
 use Rattle.lane.specs.Advance.{atOf, settleOf, fillOf, replayStep, leadStep, burstStep, advanceOf}
+use Rattle.lane.specs.Serial.{stampOf}
 use Rattle.lane.specs.Step.{steppedBy}
 use Rattle.lane.specs.Core.{leadIn, joinedOf, answerOf, atCall}
 use Rattle.lane.proofs.Zips.{zip-read}
@@ -57,29 +58,29 @@ module _ (p : Settings) (q : At) (es re im ring : List Float) («lead_n» : ℕ)
 module _ (l : Lane) (s : StepArgs) (k : ℕ) (ook fsk : List ℕ) (ring : List Float) (ok : eqb k 0 ≡ true) (put : ring ≡ ringOf (l .ring) (s .index) (s .envelope)) where
   step-burst : (b : Burst) (w : Sampled) (ook′ fsk′ : List ℕ) → eqb (l .phase) 1 ≡ false → b ≡ clearedOf (l .burst)
       → (w, ook′, fsk′) ≡ sampleOf (l .settings) (atOf l s) ring b ook fsk
-      → (answerOf (replyOf (w .next)) (laneOf l (phaseOf (w .next)) (s .index) (s .x) (l .lead) ring (w .burst)), ook′, fsk′) ≡ steppedBy k l s ook fsk
+      → (answerOf (replyOf (w .next)) (stampOf (l .serial + 1) (laneOf l (phaseOf (w .next)) (s .index) (s .x) (l .lead) ring (w .burst))), ook′, fsk′) ≡ steppedBy k l s ook fsk
   unfolding advanceOf burstStep settleOf
   step-burst b w ook′ fsk′ leads clears gives = simp (ok, leads, ← put, ← clears, ← gives)
 
   module _ (ld : Lead) (leads : eqb (l .phase) 1 ≡ true) (adds : ld ≡ leadAddOf (l .lead) (s .envelope) (s .x)) where
     step-fills : (b : Burst) → ltb (ld .«lead_n») (leadLenOf (l .settings .«min_steps»)) ≡ true → b ≡ clearedOf (l .burst)
-        → (answerOf reply.Stay (laneOf l 1 (s .index) (s .x) ld ring b), ook, fsk) ≡ steppedBy k l s ook fsk
+        → (answerOf reply.Stay (stampOf (l .serial + 1) (laneOf l 1 (s .index) (s .x) ld ring b)), ook, fsk) ≡ steppedBy k l s ook fsk
     unfolding advanceOf leadStep fillOf
     step-fills b short clears = simp (ok, leads, ← put, ← adds, short, ← clears)
 
     step-replays : (b : Burst) (w : Sampled) (ook′ fsk′ : List ℕ) → ltb (ld .«lead_n») (leadLenOf (l .settings .«min_steps»)) ≡ false
         → b ≡ beginBurstOf (largestOf (ld .«lead_e») (leadLenOf (l .settings .«min_steps»))) (ofInt binary64 (pos (ld .«lead_at»))) (getD (ld .«lead_e») 0 nan) (clearedOf (l .burst))
         → (w, ook′, fsk′) ≡ replayFrom (l .settings) (s .noise) ring ld (leadLenOf (l .settings .«min_steps»)) 0 (staying b ook fsk)
-        → (answerOf (replyOf (w .next)) (laneOf l (phaseOf (w .next)) (s .index) (s .x) ld ring (w .burst)), ook′, fsk′) ≡ steppedBy k l s ook fsk
+        → (answerOf (replyOf (w .next)) (stampOf (l .serial + 1) (laneOf l (phaseOf (w .next)) (s .index) (s .x) ld ring (w .burst))), ook′, fsk′) ≡ steppedBy k l s ook fsk
     unfolding advanceOf leadStep replayStep leadFullOf replayOf settleOf
     step-replays b w ook′ fsk′ full begins gives = simp (ok, leads, ← put, ← adds, full, ← begins, ← gives)
 
 -- ---- a step of core and arrays
 
 -- a core with what a step changes
-abbrev pub coreOf : Core → ℕ → ℕ → C32 → ℕ → BurstCore → Core
-coreOf c phase last x n b =
-    record { opened = c .opened; settings = c .settings; phase = phase; last = last; «x_prev» = x; «lead_at» = c .«lead_at»; «lead_n» = n; burst = b }
+abbrev pub coreOf : Core → ℕ → ℕ → C32 → ℕ → BurstCore → ℕ → Core
+coreOf c phase last x n b serial =
+    record { opened = c .opened; settings = c .settings; phase = phase; last = last; «x_prev» = x; «lead_at» = c .«lead_at»; «lead_n» = n; burst = b; serial = serial }
 
 -- the arrays where the ways of a branch meet
 module _ (es re im es₁ re₁ im₁ : List Float) (is-es : es ≡ es₁) (is-re : re ≡ re₁) (is-im : im ≡ im₁) where
@@ -97,14 +98,15 @@ module _ (c : Core) (s : StepArgs) (es₀ re₀ im₀ ring₀ cs : List Float) (
     pub core-fills : (have len : ℕ) (es₁ re₁ im₁ : List Float) → es ≡ es₁ → re ≡ re₁ → im ≡ im₁ → eqb (c .phase) 1 ≡ true
         → ((at : ℕ) → leadIn at have es₁ re₁ im₁ ≡ leadAddOf (leadIn at (c .«lead_n») es₀ re₀ im₀) (s .envelope) (s .x))
         → len ≡ leadLenOf (c .settings .«min_steps») → ltb have len ≡ true
-        → m ≡ coreOf c (c .phase) (s .index) (s .x) have clear
+        → m ≡ coreOf c (c .phase) (s .index) (s .x) have clear (c .serial + 1)
         → (answerOf reply.Stay (joinedOf m es re im ring cs), ook, fsk) ≡ steppedBy k₀ (joinedOf c es₀ re₀ im₀ ring₀ cs) s ook fsk
+    unfolding stampOf clearedOf
     core-fills have len es₁ re₁ im₁ is-es is-re is-im leads adds₁ is-len short is-m =
         let adds = meets es re im es₁ re₁ im₁ is-es is-re is-im (λ (at : ℕ). leadAddOf (leadIn at (c .«lead_n») es₀ re₀ im₀) (s .envelope) (s .x)) have adds₁ in
         let l : Lane = joinedOf c es₀ re₀ im₀ ring₀ cs in
         let less : ltb have (leadLenOf (c .settings .«min_steps»)) ≡ true = ap (ltb have) (sym is-len) ∙ short in
-        let same : joinedOf m es re im ring cs ≡ joinedOf (coreOf c 1 (s .index) (s .x) have clear) es re im ring cs =
-        ap (λ (x : Core). joinedOf x es re im ring cs) is-m ∙ ap (λ (n : ℕ). joinedOf (coreOf c n (s .index) (s .x) have clear) es re im ring cs) (eqb-true (c .phase) 1 leads) in
+        let same : joinedOf m es re im ring cs ≡ joinedOf (coreOf c 1 (s .index) (s .x) have clear (c .serial + 1)) es re im ring cs =
+        ap (λ (x : Core). joinedOf x es re im ring cs) is-m ∙ ap (λ (n : ℕ). joinedOf (coreOf c n (s .index) (s .x) have clear (c .serial + 1)) es re im ring cs) (eqb-true (c .phase) 1 leads) in
         ap (λ (x : Lane). (answerOf reply.Stay x, ook, fsk)) same
         ∙ step-fills l s k ook fsk ring ok put (leadIn (c .«lead_at») have es re im) leads (adds (c .«lead_at»)) (wholeBurst cs clear) less (clears cs)
         ∙ ap (λ (n : ℕ). steppedBy n l s ook fsk) num
@@ -114,15 +116,16 @@ module _ (c : Core) (s : StepArgs) (es₀ re₀ im₀ ring₀ cs : List Float) (
         (is-q : q ≡ atCall (c .«lead_at») (c .«x_prev») s) (is-phase : phase ≡ phaseOf (w .next)) (is-answer : answer ≡ replyOf (w .next))
         (gives : (wholeSampled cs′ w, ook′, fsk′) ≡ samplesOf (c .settings) (atInOf leads q es re im) ring n (wholeBurst cs (m .burst)) ook fsk) where
       abbrev Told : Type 0
-      Told = (answerOf answer (joinedOf (coreOf m phase (m .last) (m .«x_prev») (m .«lead_n») (w .burst)) es re im ring cs′), ook′, fsk′) ≡ steppedBy k₀ (joinedOf c es₀ re₀ im₀ ring₀ cs) s ook fsk
+      Told = (answerOf answer (joinedOf (coreOf m phase (m .last) (m .«x_prev») (m .«lead_n») (w .burst) (m .serial)) es re im ring cs′), ook′, fsk′) ≡ steppedBy k₀ (joinedOf c es₀ re₀ im₀ ring₀ cs) s ook fsk
 
       -- one sample of the burst
       abbrev InBurst : Type 0
       InBurst =
           eqb (c .phase) 1 ≡ false → leads ≡ false → n ≡ 1 → es ≡ es₀ → re ≡ re₀ → im ≡ im₀
-          → m ≡ coreOf c (c .phase) (s .index) (s .x) (c .«lead_n») clear → Told
+          → m ≡ coreOf c (c .phase) (s .index) (s .x) (c .«lead_n») clear (c .serial + 1) → Told
 
       core-burst : InBurst
+      unfolding stampOf clearedOf
       core-burst in-burst is-leads is-n is-es is-re is-im is-m =
           let l : Lane = joinedOf c es₀ re₀ im₀ ring₀ cs in
           let b : Burst = wholeBurst cs clear in
@@ -144,9 +147,10 @@ module _ (c : Core) (s : StepArgs) (es₀ re₀ im₀ ring₀ cs : List Float) (
           → ((at : ℕ) → leadIn at have es₁ re₁ im₁ ≡ leadAddOf (leadIn at (c .«lead_n») es₀ re₀ im₀) (s .envelope) (s .x)) → length re₁ ≡ length im₁
           → len ≡ leadLenOf (c .settings .«min_steps») → ltb have len ≡ false → n ≡ len
           → ((cs : List Float) → wholeBurst cs first ≡ beginBurstOf (largestOf es₁ len) (ofInt binary64 (pos (c .«lead_at»))) (getD es₁ 0 nan) (wholeBurst cs clear))
-          → m ≡ coreOf c (c .phase) (s .index) (s .x) have first → Told
+          → m ≡ coreOf c (c .phase) (s .index) (s .x) have first (c .serial + 1) → Told
 
       core-replays : InLead
+      unfolding stampOf clearedOf
       core-replays have len first es₁ re₁ im₁ is-es is-re is-im in-lead is-leads adds₁ alike₁ is-len full is-n begins is-m =
           let adds = meets es re im es₁ re₁ im₁ is-es is-re is-im (λ (at : ℕ). leadAddOf (leadIn at (c .«lead_n») es₀ re₀ im₀) (s .envelope) (s .x)) have adds₁ in
           let alike : length re ≡ length im = ap (λ (x : List Float). length x) is-re ∙ alike₁ ∙ sym (ap (λ (x : List Float). length x) is-im) in

@@ -47,9 +47,10 @@ clearedOf b = record { high = b .high; «e_prev» = b .«e_prev»; env = b .env;
 abbrev pub withFactor : Float → Burst → Burst
 withFactor f b = record { high = b .high; «e_prev» = b .«e_prev»; env = b .env; pac = b .pac; train = b .train; «out_ook» = b .«out_ook»; frames = b .frames; pres = record { «p_t_run» = b .pres .«p_t_run»; «p_t_prev» = b .pres .«p_t_prev»; «p_factor» = f; «p_level» = b .pres .«p_level»; «p_run» = b .pres .«p_run»; «p_confirmed» = b .pres .«p_confirmed»; «p_prev» = b .pres .«p_prev» }; frame = b .frame; «out_fsk» = b .«out_fsk» }
 
--- an accepted call leaves the settings; the index and the sample of the call are kept for the next one
+-- an accepted call leaves the settings; the index and the sample of the call are kept for the next one; the serial is raised apart from
+-- this (specs/Serial)
 abbrev pub laneOf : Lane → ℕ → ℕ → C32 → Lead → List Float → Burst → Lane
-laneOf l phase index x ld ring b = record { opened = l .opened; settings = l .settings; phase = phase; last = index; «x_prev» = x; lead = ld; ring = ring; burst = b }
+laneOf l phase index x ld ring b = record { opened = l .opened; settings = l .settings; phase = phase; last = index; «x_prev» = x; lead = ld; ring = ring; burst = b; serial = l .serial }
 
 unfoldable pub leadLane : Lane → BeginArgs → Lane
 leadLane l b = laneOf l 1 (b .index) (b .x) (beginLeadOf b) (historyOf (ringOf (l .ring) (b .index) (b .envelope)) (b .index) (b .history)) (withFactor (b .factor) (clearedOf (l .burst)))

@@ -6,6 +6,7 @@ use lib.Ieee.{Float}
 use Rattle.arith.specs.declared.C32.{C32}
 use Rattle.stages.specs.declared.At.{At}
 use Rattle.burst.specs.Core.{wholeBurst}
+use Rattle.burst.specs.Makers.{withSerials}
 use Rattle.burst.specs.declared.Lead.{Lead}
 use Rattle.lane.specs.declared.Core.{Core}
 use Rattle.lane.specs.declared.StepArgs.{StepArgs}
@@ -35,7 +36,7 @@ zip-parts (x ∷ xs) = ap (λ (t : List C32). x ∷ t) (zip-parts xs)
 abbrev pub leadIn : ℕ → ℕ → List Float → List Float → List Float → Lead
 leadIn «lead_at» «lead_n» es re im = record { «lead_at» = «lead_at»; «lead_n» = «lead_n»; «lead_e» = es; «lead_x» = zipOf re im }
 
--- the lane: from the core, the lead-in's envelopes and samples, the ring and the candidates
+-- the lane, whose records have its serial: from the core, the lead-in's envelopes and samples, the ring and the candidates
 abbrev pub joinedOf : Core → List Float → List Float → List Float → List Float → List Float → Lane
 joinedOf c es re im ring cs =
     record {
@@ -46,7 +47,8 @@ joinedOf c es re im ring cs =
       «x_prev» = c .«x_prev»;
       lead = leadIn (c .«lead_at») (c .«lead_n») es re im;
       ring = ring;
-      burst = wholeBurst cs (c .burst);
+      burst = withSerials (c .serial) (c .serial) (wholeBurst cs (c .burst));
+      serial = c .serial;
     }
 
 abbrev pub answerOf : Reply → Lane → Answer

@@ -21,7 +21,7 @@ abbrev pub noSettings : Settings
 noSettings = record { mode = 0; «min_steps» = 0; «gap_steps» = 0; «pre_timeout» = 0; «long_steps» = 0; «max_pulses» = 0; alpha = zero32; «gap_ratio» = zero32; «fsk_delta» = zero32; «fsk_split» = zero32; carry = 0 }
 
 abbrev pub noOut : Out
-noOut = record { index = 0; end = 0; state = 0; cut = 0; pairs = 0; level = zero32; fsk = 0; carrier = Angle zero32 }
+noOut = record { index = 0; end = 0; state = 0; cut = 0; pairs = 0; level = zero32; fsk = 0; carrier = Angle zero32; serial = 0 }
 
 abbrev pub noEnv : Env
 noEnv = record {
@@ -63,4 +63,4 @@ noLead = record { «lead_at» = 0; «lead_n» = 0; «lead_e» = replicate 16 zer
 
 -- an idle lane; opened is 0 where it never had settings, and 1 where it has p
 unfoldable pub idleLane : ℕ → Settings → Lane
-idleLane had p = record { opened = had; settings = p; phase = 0; last = 0; «x_prev» = zeroC32; lead = noLead; ring = replicate 32 zero32; burst = noBurst }
+idleLane had p = record { opened = had; settings = p; phase = 0; last = 0; «x_prev» = zeroC32; lead = noLead; ring = replicate 32 zero32; burst = noBurst; serial = 0 }

@@ -7,8 +7,9 @@ use borrow.Author.Tests.{eqb-true, eqb-false, eq-eqb, ne-eqb}
 use lib.Dec.{leb, eqb}
 use Rattle.ook.specs.declared.Settings.{Settings}
 use Rattle.refusals.specs.Domain.{settingsOk, unsetOk, factorOk, envelopeOk, sampleOk, indexOk, roomOk}
+use Rattle.refusals.specs.Serial.{serialOk, serialLeft}
 use Rattle.refusals.specs.State.{burstOk, leadOk, candOk}
-use Rattle.refusals.specs.Order.{firstFailed}
+use Rattle.refusals.specs.Order.{check, firstFailed}
 use Rattle.ook.specs.Tests.{both-true, six-true}
 use Rattle.lane.specs.declared.History.{History}
 use Rattle.lane.specs.declared.BeginArgs.{BeginArgs}
@@ -38,6 +39,7 @@ laneOk l =
     && leadOk (l .phase) (l .settings .«min_steps») (l .lead)
     && candOk (l .phase) (l .settings .«min_steps») (l .burst .frame)
     && indexOk (l .last)
+    && serialOk (l .serial)
 
 -- refusal 7
 unfoldable pub historyOk : History → Bool
@@ -65,18 +67,22 @@ pub follows-none : (last index : ℕ) → index ≡ 0 → false ≡ followsOf la
 unfolding followsOf
 follows-none last index e = sym (ne-eqb index (last + 1) (λ q. omega arith))
 
--- the number of the refusal, 0 for an accepted call; ook and fsk are the buffers' lengths
-unfoldable pub beginRefusal : Lane → BeginArgs → ℕ → ℕ → ℕ
-beginRefusal l b ook fsk = firstFailed (not (eqb (l .opened) 0)) (laneOk l) (eqb (l .phase) 0) (indexOk (b .index)) (beginFloatsOk b) (roomOk (l .settings) ook fsk)
+-- the number of the refusal, 0 for an accepted call: opening reads of the lane it replaces only the serial
+unfoldable pub openRefusal : Lane → Settings → ℕ
+openRefusal l p = check 3 (settingsOk p) (check 13 (serialLeft (l .serial)) 0)
 
--- the lane's own check is `lane`
+-- ook and fsk are the buffers' lengths
+unfoldable pub beginRefusal : Lane → BeginArgs → ℕ → ℕ → ℕ
+beginRefusal l b ook fsk = firstFailed (not (eqb (l .opened) 0)) (laneOk l) (eqb (l .phase) 0) (serialLeft (l .serial)) (indexOk (b .index)) (beginFloatsOk b) (roomOk (l .settings) ook fsk)
+
+-- the lane's own check is `lane`; a step never asks whether the serial is spent, so that a burst begun before may run on
 abbrev pub stepRefusalBy : Bool → Settings → ℕ → ℕ → StepArgs → ℕ → ℕ → ℕ
-stepRefusalBy lane p phase last s ook fsk = firstFailed true lane (not (eqb phase 0)) (indexOk (s .index) && followsOf last (s .index)) (stepFloatsOk s) (roomOk p ook fsk)
+stepRefusalBy lane p phase last s ook fsk = firstFailed true lane (not (eqb phase 0)) true (indexOk (s .index) && followsOf last (s .index)) (stepFloatsOk s) (roomOk p ook fsk)
 
 unfoldable pub stepRefusal : Lane → StepArgs → ℕ → ℕ → ℕ
 stepRefusal l s ook fsk = stepRefusalBy (laneOk l) (l .settings) (l .phase) (l .last) s ook fsk
 
--- the six checks of refusal 4, one by one
+-- the seven checks of refusal 4, one by one
 pub record Passes (l : Lane) : Type 0 where
   pub had : openedOk (l .opened) (l .phase) (l .settings) ≡ true
   pub named : leb (l .phase) 2 ≡ true
@@ -84,13 +90,21 @@ pub record Passes (l : Lane) : Type 0 where
   pub filled : leadOk (l .phase) (l .settings .«min_steps») (l .lead) ≡ true
   pub waits : candOk (l .phase) (l .settings .«min_steps») (l .burst .frame) ≡ true
   pub near : indexOk (l .last) ≡ true
+  pub counted : serialOk (l .serial) ≡ true
 
 pub lane-passes : (l : Lane) → laneOk l ≡ true → Passes l
 unfolding laneOk
 lane-passes l h =
-    let t = six-true (openedOk (l .opened) (l .phase) (l .settings)) (leb (l .phase) 2) (burstOk (l .settings .«max_pulses») (l .burst)) (leadOk (l .phase) (l .settings .«min_steps») (l .lead)) (candOk (l .phase) (l .settings .«min_steps») (l .burst .frame)) (indexOk (l .last)) h in
-    record { had = t .0; named = t .1; within = t .2; filled = t .3; waits = t .4; near = t .5 }
+    let had : Bool = openedOk (l .opened) (l .phase) (l .settings) in
+    let named : Bool = leb (l .phase) 2 in
+    let within : Bool = burstOk (l .settings .«max_pulses») (l .burst) in
+    let filled : Bool = leadOk (l .phase) (l .settings .«min_steps») (l .lead) in
+    let waits : Bool = candOk (l .phase) (l .settings .«min_steps») (l .burst .frame) in
+    let near : Bool = indexOk (l .last) in
+    let k = both-true (had && named && within && filled && waits && near) (serialOk (l .serial)) h in
+    let t = six-true had named within filled waits near (k .0) in
+    record { had = t .0; named = t .1; within = t .2; filled = t .3; waits = t .4; near = t .5; counted = k .1 }
 
 pub passes-lane : (l : Lane) → Passes l → laneOk l ≡ true
 unfolding laneOk
-passes-lane l p = simp (p .had, p .named, p .within, p .filled, p .waits, p .near)
+passes-lane l p = simp (p .had, p .named, p .within, p .filled, p .waits, p .near, p .counted)

@@ -5,16 +5,16 @@ use mathlib.Core.List.{List}
 use lib.ListN.{length}
 use lib.Dec.{eqb}
 use Rattle.ook.specs.declared.Settings.{Settings}
-use Rattle.refusals.specs.Domain.{settingsOk}
 use Rattle.lane.specs.declared.BeginArgs.{BeginArgs}
 use Rattle.lane.specs.declared.StepArgs.{StepArgs}
 use Rattle.lane.specs.declared.Lane.{Lane}
 use Rattle.lane.specs.declared.Answer.{Answer}
 use Rattle.lane.specs.declared.Reply.the-variants as reply
-use Rattle.lane.specs.Refusals.{beginRefusal, stepRefusal}
+use Rattle.lane.specs.Refusals.{openRefusal, beginRefusal, stepRefusal}
 use Rattle.lane.specs.Idle.{idleLane, noSettings}
 use Rattle.lane.specs.Begin.{leadLane}
 use Rattle.lane.specs.Advance.{advanceOf}
+use Rattle.lane.specs.Serial.{stamped, stampedWith}
 
 abbrev pub refuse : ℕ → Lane → Answer
 refuse k l = record { reply = reply.Refused k; lane = l }
@@ -25,20 +25,23 @@ stay l = record { reply = reply.Stay; lane = l }
 unfoldable pub newLane : Lane
 newLane = idleLane 0 noSettings
 
--- opening puts a new lane in place of any other, and does not look at it
+-- opening puts a new lane in place of any other, and goes on from its serial
+abbrev pub openedBy : ℕ → Lane → Settings → Answer
+openedBy k l p = cond (eqb k 0) (stamped l (stay (idleLane 1 p))) (refuse k l)
+
 unfoldable pub opened : Lane → Settings → Answer
-opened l p = cond (settingsOk p) (stay (idleLane 1 p)) (refuse 3 l)
+opened l p = openedBy (openRefusal l p) l p
 
 -- begin writes to neither buffer
 abbrev pub begunBy : ℕ → Lane → BeginArgs → Answer
-begunBy k l b = cond (eqb k 0) (stay (leadLane l b)) (refuse k l)
+begunBy k l b = cond (eqb k 0) (stamped l (stay (leadLane l b))) (refuse k l)
 
 unfoldable pub begun : Lane → BeginArgs → List ℕ → List ℕ → Answer
 begun l b ook fsk = begunBy (beginRefusal l b (length ook) (length fsk)) l b
 
 -- the answer, the OOK buffer and the FSK buffer
 abbrev pub steppedBy : ℕ → Lane → StepArgs → List ℕ → List ℕ → Answer × List ℕ × List ℕ
-steppedBy k l s ook fsk = cond (eqb k 0) (advanceOf l s ook fsk) (refuse k l, ook, fsk)
+steppedBy k l s ook fsk = cond (eqb k 0) (stampedWith l (advanceOf l s ook fsk)) (refuse k l, ook, fsk)
 
 unfoldable pub stepped : Lane → StepArgs → List ℕ → List ℕ → Answer × List ℕ × List ℕ
 stepped l s ook fsk = steppedBy (stepRefusal l s (length ook) (length fsk)) l s ook fsk

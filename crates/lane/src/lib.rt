@@ -4,12 +4,12 @@ ghost use mathlib.Core.Path.{_≡_};
 ghost use mathlib.Core.Bool.{true};
 ghost use Prim.Native.Nat.{ℕ, _≤_};
 ghost use Rattle.lane.specs.Answers.{replyOf, phaseOf};
-ghost use Rattle.lane.specs.Refusals.{openedOk, laneOk, historyOk, beginFloatsOk, stepFloatsOk, followsOf, beginRefusal, stepRefusalBy};
+ghost use Rattle.lane.specs.Refusals.{openedOk, laneOk, historyOk, beginFloatsOk, stepFloatsOk, followsOf, openRefusal, beginRefusal, stepRefusalBy};
 ghost use Rattle.lane.specs.Idle.{noOut, noRuns, noneDone, noFrame, noEnv, noTrain, noPres, noBurst, noLead, idleLane};
 ghost use Rattle.lane.specs.Begin.{ringBeforeOf, historyOf, ringOf, beginLeadOf, clearedOf, leadLane};
 ghost use Rattle.lane.specs.Core.{zipOf, realsOf, imaginariesOf, leadIn, joinedOf, answerOf, atCall};
 ghost use Rattle.fsk.specs.Core.{wholeFrame};
-ghost use Rattle.ook.specs.Core.{wholeOut};
+ghost use Rattle.ook.specs.Core.{wholeOut, numbered};
 ghost use mathlib.Core.List.{List};
 ghost use lib.Ieee.{Float, binary64, ofInt, nan};
 ghost use lib.IntN.{pos};
@@ -17,9 +17,12 @@ ghost use lib.ListN.{length, getD};
 ghost use lib.Dec.{eqb};
 ghost use Rattle.arith.specs.Leaves.{leadLenOf};
 ghost use Rattle.burst.specs.Core.{wholeBurst};
+ghost use Rattle.burst.specs.Makers.{withSerials};
 ghost use Rattle.burst.specs.Lead.{leadAddOf, largestOf, beginBurstOf};
 ghost use Rattle.lane.specs.Step.{newLane, opened, begun, steppedBy, stepped};
-ghost use Rattle.lane.specs.Part.{front, partOf};
+ghost use Rattle.lane.specs.Part.{front, namedOf, partRefusal, partOf};
+ghost use Rattle.lane.specs.Serial.{stampOf};
+ghost use Rattle.domain.specs.Limits.{maxSerial};
 use arith::C32;
 use arith::Steps;
 use burst::Burst;
@@ -87,6 +90,8 @@ pub struct Lane {
     // The envelopes, each at its index mod 32.
     pub ring: [f32; 32],
     pub burst: Burst,
+    // The number of the accepted calls, which the records of the last have too; 0 where there was none.
+    pub serial: u64,
 }
 
 pub enum Reply {
@@ -126,6 +131,7 @@ fn lane_ok(l: Lane) -> bool
         & refusals::lead_ok(l.phase, p.min_steps, ld)
         & refusals::cand_ok(l.phase, p.min_steps, f)
         & refusals::index_ok(l.last)
+        & refusals::serial_ok(l.serial)
 }
 
 fn history_ok(h: History) -> bool
@@ -170,6 +176,14 @@ fn follows(last: u64, index: u64) -> bool
     index - 1 == last
 }
 
+fn open_refusal(l: Lane, p: Settings) -> u32
+    ensures { λ r. ⌜ r ≡ openRefusal l p ⌝ }
+{
+    let settings = refusals::settings_ok(p);
+    let serial = refusals::serial_left(l.serial);
+    refusals::check(3, settings, refusals::check(13, serial, 0))
+}
+
 fn begin_refusal(l: Lane, b: BeginArgs, ook: usize, fsk: usize) -> u32
     ensures { λ r. ⌜ r ≡ beginRefusal l b ook fsk ⌝ }
 {
@@ -177,10 +191,11 @@ fn begin_refusal(l: Lane, b: BeginArgs, ook: usize, fsk: usize) -> u32
     let had = l.opened != 0;
     let lane = lane_ok(l);
     let idle = l.phase == 0;
+    let serial = refusals::serial_left(l.serial);
     let index = refusals::index_ok(b.index);
     let floats = begin_floats_ok(b);
     let room = refusals::room_ok(p, ook, fsk);
-    refusals::first_failed(had, lane, idle, index, floats, room)
+    refusals::first_failed(had, lane, idle, serial, index, floats, room)
 }
 
 fn step_refusal(
@@ -198,13 +213,14 @@ fn step_refusal(
     let index = refusals::index_ok(s.index) & follows(last, s.index);
     let floats = step_floats_ok(s);
     let room = refusals::room_ok(p, ook, fsk);
-    refusals::first_failed(true, lane, busy, index, floats, room)
+    refusals::first_failed(true, lane, busy, true, index, floats, room)
 }
 
 // ---- opening
 
-fn no_out() -> Out
-    ensures { λ r. ⌜ r ≡ noOut ⌝ }
+// The record of a call that decides nothing; its serial is the call's.
+fn no_out(serial: u64) -> Out
+    ensures { λ r. ⌜ r ≡ numbered serial noOut ⌝ }
 {
     let carrier = Carrier::Angle(0.0);
     Out {
@@ -216,6 +232,7 @@ fn no_out() -> Out
         level: 0.0,
         fsk: 0,
         carrier,
+        serial,
     }
 }
 
@@ -333,13 +350,13 @@ fn no_pres() -> Pres
     }
 }
 
-fn no_burst() -> Burst
-    ensures { λ r. ⌜ r ≡ noBurst ⌝ }
+fn no_burst(serial: u64) -> Burst
+    ensures { λ r. ⌜ r ≡ withSerials serial serial noBurst ⌝ }
 {
     let env = no_env();
     let train = no_train();
     let pres = no_pres();
-    let out = no_out();
+    let out = no_out(serial);
     let frame = no_frame();
     Burst {
         high: 0.0,
@@ -369,12 +386,12 @@ fn no_lead() -> Lead
     }
 }
 
-fn idle_lane(opened: u32, p: Settings) -> Lane
-    ensures { λ r. ⌜ r ≡ idleLane opened p ⌝ }
+fn idle_lane(opened: u32, p: Settings, serial: u64) -> Lane
+    ensures { λ r. ⌜ r ≡ stampOf serial (idleLane opened p) ⌝ }
 {
     let lead = no_lead();
     let ring = [0.0f32; 32];
-    let burst = no_burst();
+    let burst = no_burst(serial);
     Lane {
         opened,
         settings: p,
@@ -384,6 +401,7 @@ fn idle_lane(opened: u32, p: Settings) -> Lane
         lead,
         ring,
         burst,
+        serial,
     }
 }
 
@@ -404,23 +422,24 @@ pub fn new_lane() -> Lane
         fsk_split: 0.0,
         carry: 0,
     };
-    idle_lane(0, p)
+    idle_lane(0, p, 0)
 }
 
-// Opening: settings give an idle lane in place of l.
+// Opening: settings give an idle lane in place of l, whose serial goes on.
 pub fn open(l: Lane, p: Settings) -> Answer
     ensures { λ r. ⌜ r ≡ opened l p ⌝ }
 {
-    let ok = refusals::settings_ok(p);
+    let k = open_refusal(l, p);
+    let ok = k == 0;
     if ok {
-        let lane = idle_lane(1, p);
+        let lane = idle_lane(1, p, l.serial + 1);
         return Answer {
             reply: Reply::Stay,
             lane,
         };
     }
     Answer {
-        reply: Reply::Refused(3),
+        reply: Reply::Refused(k),
         lane: l,
     }
 }
@@ -480,18 +499,18 @@ fn begin_lead(b: BeginArgs) -> Lead
     }
 }
 
-fn clear_records(b: Burst) -> Burst
-    ensures { λ r. ⌜ r ≡ clearedOf b ⌝ }
+fn clear_records(b: Burst, serial: u64) -> Burst
+    ensures { λ r. ⌜ r ≡ withSerials serial serial (clearedOf b) ⌝ }
 {
-    let o = no_out();
+    let o = no_out(serial);
     let mut n = b;
     n.out_ook = o;
     n.out_fsk = o;
     n
 }
 
-fn lead_lane(l: Lane, b: BeginArgs) -> Lane
-    ensures { λ r. ⌜ r ≡ leadLane l b ⌝ }
+fn lead_lane(l: Lane, b: BeginArgs, serial: u64) -> Lane
+    ensures { λ r. ⌜ r ≡ stampOf serial (leadLane l b) ⌝ }
 {
     let x = b.x;
     let h = b.history;
@@ -500,7 +519,7 @@ fn lead_lane(l: Lane, b: BeginArgs) -> Lane
     let ring = fill_history(ring1, b.index, h);
     let lead = begin_lead(b);
     let old = l.burst;
-    let mut burst = clear_records(old);
+    let mut burst = clear_records(old, serial);
     burst.pres.p_factor = b.factor;
     let mut n = l;
     n.phase = 1;
@@ -509,6 +528,7 @@ fn lead_lane(l: Lane, b: BeginArgs) -> Lane
     n.lead = lead;
     n.ring = ring;
     n.burst = burst;
+    n.serial = serial;
     n
 }
 
@@ -519,7 +539,7 @@ pub fn begin(l: Lane, b: BeginArgs, ook: &[u32], fsk: &[u32]) -> Answer
     let k = begin_refusal(l, b, ook.len(), fsk.len());
     let ok = k == 0;
     if ok {
-        let lane = lead_lane(l, b);
+        let lane = lead_lane(l, b, l.serial + 1);
         return Answer {
             reply: Reply::Stay,
             lane,
@@ -555,7 +575,8 @@ fn reply_of(n: Next) -> Reply
 
 // ---- the core: the lane but for its arrays, which are lent
 
-// The lead-in's envelopes and samples, the ring and the candidates stand beside it: es, re and im, ring, cs.
+// The lead-in's envelopes and samples, the ring and the candidates stand beside it: es, re and im, ring, cs. The serial is
+// that of both records too.
 pub struct Core {
     pub opened: u32,
     pub settings: Settings,
@@ -565,6 +586,7 @@ pub struct Core {
     pub lead_at: u64,
     pub lead_n: u32,
     pub burst: BurstCore,
+    pub serial: u64,
 }
 
 pub struct CoreAnswer {
@@ -597,7 +619,7 @@ fn core_frame(f: Frame) -> FrameCore
 }
 
 fn core_burst(b: Burst) -> BurstCore
-    ensures { λ r. ⌜ wholeBurst (b .frame .cand .«cand_f») r ≡ b ⌝ }
+    ensures { λ r. ⌜ withSerials (b .«out_ook» .serial) (b .«out_fsk» .serial) (wholeBurst (b .frame .cand .«cand_f») r) ≡ b ⌝ }
 {
     let env = b.env;
     let pac = b.pac;
@@ -623,9 +645,9 @@ fn core_burst(b: Burst) -> BurstCore
     }
 }
 
-// The core of a lane: with the lane's arrays it joins to that lane.
+// The core of a lane: with the lane's arrays it joins to that lane, whose records then have the lane's serial.
 pub fn core_of(l: Lane) -> Core
-    ensures { λ r. ⌜ ((re im : List Float) → zipOf re im ≡ l .lead .«lead_x» → joinedOf r (l .lead .«lead_e») re im (l .ring) (l .burst .frame .cand .«cand_f») ≡ l) ⌝ }
+    ensures { λ r. ⌜ ((re im : List Float) → zipOf re im ≡ l .lead .«lead_x» → joinedOf r (l .lead .«lead_e») re im (l .ring) (l .burst .frame .cand .«cand_f») ≡ stampOf (l .serial) l) ⌝ }
 {
     let settings = l.settings;
     let x_prev = l.x_prev;
@@ -640,6 +662,7 @@ pub fn core_of(l: Lane) -> Core
         lead_at: l.lead.lead_at,
         lead_n: l.lead.lead_n,
         burst,
+        serial: l.serial,
     }
 }
 
@@ -736,8 +759,8 @@ fn whole_frame(f: FrameCore, cs: [f32; 8]) -> Frame
     }
 }
 
-fn whole_burst(b: BurstCore, cs: [f32; 8]) -> Burst
-    ensures { λ r. ⌜ r ≡ wholeBurst cs b ⌝ }
+fn whole_burst(b: BurstCore, cs: [f32; 8], serial: u64) -> Burst
+    ensures { λ r. ⌜ r ≡ withSerials serial serial (wholeBurst cs b) ⌝ }
 {
     let env = b.env;
     let pac = b.pac;
@@ -747,8 +770,8 @@ fn whole_burst(b: BurstCore, cs: [f32; 8]) -> Burst
     let o = b.out_ook;
     let g = b.out_fsk;
     let frame = whole_frame(f, cs);
-    let out_ook = ook::whole_out(o);
-    let out_fsk = ook::whole_out(g);
+    let out_ook = ook::whole_out(o, serial);
+    let out_fsk = ook::whole_out(g, serial);
     Burst {
         high: b.high,
         e_prev: b.e_prev,
@@ -777,7 +800,7 @@ pub fn joined(
     let settings = c.settings;
     let x_prev = c.x_prev;
     let b = c.burst;
-    let burst = whole_burst(b, cs);
+    let burst = whole_burst(b, cs, c.serial);
     let lead_x = pairs_of(re, im);
     Lane {
         opened: c.opened,
@@ -793,6 +816,7 @@ pub fn joined(
         },
         ring,
         burst,
+        serial: c.serial,
     }
 }
 
@@ -891,7 +915,7 @@ pub fn step_core(
     ook: &mut [u32],
     fsk: &mut [u32],
 ) -> CoreAnswer
-    requires { ⌜ (length (now es) ≡ 16) × (length (now re) ≡ 17) × (length (now im) ≡ 17) × (eqb (c .phase) 1 ≡ true → 1 ≤ leadLenOf (c .settings .«min_steps»)) ⌝ }
+    requires { ⌜ (length (now es) ≡ 16) × (length (now re) ≡ 17) × (length (now im) ≡ 17) × (eqb (c .phase) 1 ≡ true → 1 ≤ leadLenOf (c .settings .«min_steps»)) × (c .serial ≤ maxSerial) ⌝ }
     ensures { λ r. ⌜ ((answerOf (r .reply) (joinedOf (r .core) (now (es .exit)) (now (re .exit)) (now (im .exit)) (now (ring .exit)) (now (cs .exit))), now (ook .exit), now (fsk .exit)) ≡ steppedBy (stepRefusalBy true (c .settings) (c .phase) (c .last) s (length (now (ook .entry))) (length (now (fsk .entry)))) (joinedOf c (now (es .entry)) (now (re .entry)) (now (im .entry)) (now (ring .entry)) (now (cs .entry))) s (now (ook .entry)) (now (fsk .entry))) × (length (now (es .exit)) ≡ length (now (es .entry))) × (length (now (re .exit)) ≡ length (now (re .entry))) × (length (now (im .exit)) ≡ length (now (im .entry))) ⌝ }
 {
     let p = c.settings;
@@ -908,6 +932,7 @@ pub fn step_core(
         m.last = s.index;
         m.x_prev = x;
         m.burst = clear;
+        m.serial = c.serial + 1;
         reply = Reply::Stay;
         let leads = c.phase == 1;
         let mut n: usize = 1;
@@ -941,8 +966,11 @@ pub fn step_core(
 pub fn step(l: Lane, s: StepArgs, ook: &mut [u32], fsk: &mut [u32]) -> Answer
     ensures { λ r. ⌜ (r, now (ook .exit), now (fsk .exit)) ≡ stepped l s (now (ook .entry)) (now (fsk .entry)) ⌝ }
 {
+    let p = l.settings;
     let sound = lane_ok(l);
-    if sound {
+    let k = step_refusal(sound, p, l.phase, l.last, s, ook.len(), fsk.len());
+    let ok = k == 0;
+    if ok {
         let c = core_of(l);
         let mut es = envelopes(l);
         let mut re = reals(l);
@@ -966,7 +994,7 @@ pub fn step(l: Lane, s: StepArgs, ook: &mut [u32], fsk: &mut [u32]) -> Answer
         return Answer { reply, lane };
     }
     Answer {
-        reply: Reply::Refused(4),
+        reply: Reply::Refused(k),
         lane: l,
     }
 }
@@ -983,8 +1011,9 @@ fn first<'a>(s: &'a [u32], n: usize) -> &'a [u32]
     &s[..0]
 }
 
-pub fn part<'a>(r: Out, ook: &'a [u32], fsk: &'a [u32]) -> &'a [u32]
-    ensures { λ s. ⌜ now s ≡ partOf r (now (ook .entry)) (now (fsk .entry)) ⌝ }
+// The slots that a record names.
+fn named<'a>(r: Out, ook: &'a [u32], fsk: &'a [u32]) -> &'a [u32]
+    ensures { λ s. ⌜ now s ≡ namedOf r (now (ook .entry)) (now (fsk .entry)) ⌝ }
 {
     let decides = r.state == 1;
     if decides {
@@ -993,6 +1022,26 @@ pub fn part<'a>(r: Out, ook: &'a [u32], fsk: &'a [u32]) -> &'a [u32]
             return first(fsk, 2 * (r.pairs as usize));
         }
         return first(ook, 2 * (r.pairs as usize));
+    }
+    &ook[..0]
+}
+
+// 13 where the record is not of the lane's last accepted call, 0 where it is.
+pub fn part_refusal(l: Lane, r: Out) -> u32
+    ensures { λ k. ⌜ k ≡ partRefusal l r ⌝ }
+{
+    let matches = refusals::serials_match(l.serial, r.serial);
+    refusals::check(13, matches, 0)
+}
+
+// The part of a record, by the lane that returned it; the empty part where `part_refusal` is 13.
+pub fn part<'a>(l: Lane, r: Out, ook: &'a [u32], fsk: &'a [u32]) -> &'a [u32]
+    ensures { λ s. ⌜ now s ≡ partOf l r (now (ook .entry)) (now (fsk .entry)) ⌝ }
+{
+    let k = part_refusal(l, r);
+    let ok = k == 0;
+    if ok {
+        return named(r, ook, fsk);
     }
     &ook[..0]
 }

@@ -8,7 +8,7 @@ use native.Mathlib.Omega.{arith}
 use lib.Dec.{leb, eqb, ltb}
 use lib.Ieee.{Float}
 use borrow.Author.Tests.{leb-false, eqb-true}
-use Rattle.domain.specs.Limits.{maxBound}
+use Rattle.domain.specs.Limits.{maxBound, maxSerial}
 use Rattle.arith.specs.declared.C32.{C32}
 use Rattle.arith.specs.declared.Steps.{Steps}
 use Rattle.arith.specs.Leaves.{stepOf}
@@ -55,6 +55,7 @@ pub record OutWithin (max : ℕ) (o : Out) : Type 0 where
   pub cut-flag : o .cut ≤ 1
   pub kind-flag : o .fsk ≤ 1
   pub room : o .pairs ≤ max
+  pub numbered : o .serial ≤ maxSerial
 
 -- the run
 

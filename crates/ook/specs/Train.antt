@@ -87,7 +87,8 @@ closeGapOf t gap ook =
 unfoldable pub emptyTrainOf : Train → Train
 emptyTrainOf t = trainOf (t .start) (t .«pulse_end») 0 0 0 zeroSteps 0 zeroC32 zero64 0
 
--- the record of a train: it decides (OUT_DECIDE is 1), and its carrier is the two sums that atan2f would get
+-- the record of a train: it decides (OUT_DECIDE is 1), and its carrier is the two sums that atan2f would get; the call that returns it
+-- gives it its serial (R-6)
 abbrev pub recordOf : Train → Float → Out
 recordOf t high =
     record {
@@ -99,6 +100,7 @@ recordOf t high =
       level = high;
       fsk = 0;
       carrier = Vector (t .acc .re) (t .acc .im);
+      serial = 0;
     }
 
 -- pairs make a record; the train is empty then

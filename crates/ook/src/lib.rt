@@ -7,7 +7,7 @@ ghost use Rattle.arith.specs.Leaves.{edgeOf, crossOf};
 ghost use Rattle.ook.specs.Counts.{satAddOf};
 ghost use Rattle.ook.specs.Counts as counts;
 ghost use Rattle.ook.specs.Answers.{nextNumberOf, nextEnvelopeOf, isStayOf, carrierKindOf, carrierFirstOf, carrierSecondOf};
-ghost use Rattle.ook.specs.Core.{carrierIn, wholeOut, wholeEnded, wholeDone};
+ghost use Rattle.ook.specs.Core.{carrierIn, wholeOut, numbered, wholeEnded, wholeDone};
 ghost use Rattle.ook.specs.declared.Carrier.the-variants as Carrier;
 ghost use Rattle.ook.specs.Params.{fskMinOf, refineAtOf};
 ghost use Rattle.ook.specs.Run.{lengthenOf, rejoinOf, beginRunOf, beginsOf, advanceOf, zeroIf, pacRunOf, beginEnvOf};
@@ -46,7 +46,8 @@ pub enum Carrier {
     Vector(f32, f32),
 }
 
-// The record of a train or a frame; state is 1 where it decides one, cut is 0 or 1, fsk is its kind.
+// The record of a train or a frame; state is 1 where it decides one, cut is 0 or 1, fsk is its kind. The serial
+// is that of the call that returned it; 0, in a record of no call, matches no lane.
 pub struct Out {
     pub index: u64,
     pub end: u64,
@@ -56,6 +57,7 @@ pub struct Out {
     pub level: f32,
     pub fsk: u32,
     pub carrier: Carrier,
+    pub serial: u64,
 }
 
 // The same in the core: the carrier as a number and two floats, which fit between the numbers around them (`carrierIn`).
@@ -283,9 +285,9 @@ fn carrier_in(f: Flat) -> Carrier
     Carrier::Vector(f.first, f.second)
 }
 
-// The record of a caller, made from that of the core and back.
-pub fn whole_out(o: OutCore) -> Out
-    ensures { λ r. ⌜ r ≡ wholeOut o ⌝ }
+// The record of a caller, made from that of the core and its serial, and back.
+pub fn whole_out(o: OutCore, serial: u64) -> Out
+    ensures { λ r. ⌜ r ≡ numbered serial (wholeOut o) ⌝ }
 {
     let f = o.carrier;
     let carrier = carrier_in(f);
@@ -298,11 +300,12 @@ pub fn whole_out(o: OutCore) -> Out
         level: o.level,
         fsk: o.fsk,
         carrier,
+        serial,
     }
 }
 
 pub fn core_out(o: Out) -> OutCore
-    ensures { λ r. ⌜ wholeOut r ≡ o ⌝ }
+    ensures { λ r. ⌜ numbered (o .serial) (wholeOut r) ≡ o ⌝ }
 {
     let c = o.carrier;
     let carrier = flat_of(c);

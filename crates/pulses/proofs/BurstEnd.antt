@@ -14,7 +14,7 @@ use Rattle.ook.specs.declared.Settings.{Settings}
 use Rattle.ook.specs.declared.Out.{Out}
 use Rattle.ook.specs.Counts.{bit}
 use Rattle.refusals.specs.Domain.{InDomain}
-use Rattle.lane.specs.Part.{front, partOf}
+use Rattle.lane.specs.Part.{front, namedOf}
 use Rattle.pulses.specs.Runs.{Sample, Pulse, pulses}
 use Rattle.pulses.proofs.Edges.{both, flat, same-length, edges-emitted, widths-emitted}
 use Rattle.pulses.proofs.Flags.{flag-set, flag-clear}
@@ -67,21 +67,22 @@ take-one [] = omega arith
 take-one (x ∷ l) = omega arith
 
 -- the part of an OOK record whose pairs fit
-part-ook : (out : Out) (ook fsk : List ℕ) → out .state ≡ 1 → out .fsk ≡ 0 → 2 * out .pairs ≤ length ook → partOf out ook fsk ≡ take (2 * out .pairs) ook
-unfolding partOf front
+part-ook : (out : Out) (ook fsk : List ℕ) → out .state ≡ 1 → out .fsk ≡ 0 → 2 * out .pairs ≤ length ook → namedOf out ook fsk ≡ take (2 * out .pairs) ook
+unfolding namedOf front
 part-ook out ook fsk s f h = rw (s, f, le-leb (2 * out .pairs) (length ook) h)
 
-pub given-none : (out : Out) (ook fsk : List ℕ) → out .state ≡ 0 → givenBy out ook fsk ≡ []
+pub given-none : (out : Out) (part : List ℕ) → out .state ≡ 0 → givenBy out part ≡ []
 unfolding givenBy
-given-none out ook fsk q = flag-clear (out .state) _ _ q
+given-none out part q = flag-clear (out .state) _ _ q
 
-given-one : (out : Out) (ook fsk : List ℕ) → out .state ≡ 1 → givenBy out ook fsk ≡ record { out = out; part = partOf out ook fsk } ∷ []
+given-one : (out : Out) (part : List ℕ) → out .state ≡ 1 → givenBy out part ≡ record { out = out; part = part } ∷ []
 unfolding givenBy
-given-one out ook fsk q = flag-set (out .state) _ _ q
+given-one out part q = flag-set (out .state) _ _ q
 
-module _ (p : Settings) (D : InDomain p) (xs : List (Sample Float)) (out : Out) (ook fsk : List ℕ) where
+-- the part that is fetched is the one that the record names
+module _ (p : Settings) (D : InDomain p) (xs : List (Sample Float)) (out : Out) (ook fsk part : List ℕ) (names : part ≡ namedOf out ook fsk) where
   abbrev train : Given
-  train = record { out = out; part = partOf out ook fsk }
+  train = record { out = out; part = part }
 
   same : length (given p xs) ≡ length (pulses (p .«min_steps») xs)
   same = same-length width nan (p .«min_steps») xs (D .min-steps .0)
@@ -92,14 +93,14 @@ module _ (p : Settings) (D : InDomain p) (xs : List (Sample Float)) (out : Out) 
   train-of some-pair qs′ qf qn qc S r = record {
     kind = qf;
     pairs = qn ∙ ap (λ (n : ℕ). min n (p .«max_pulses»)) same;
-    whole = ap length (part-ook out ook fsk qs′ qf r) ∙ length-take-le (2 * out .pairs) ook r;
+    whole = ap length (names ∙ part-ook out ook fsk qs′ qf r) ∙ length-take-le (2 * out .pairs) ook r;
     widths = λ off. ap (map some)
-        (ap firsts part ∙ firsts-part off)
+        (ap firsts split ∙ firsts-part off)
         ∙ ap (λ (es : List Edges). map some (map (both width) es)) listed
         ∙ widths-emitted width nan (p .«min_steps») (p .«max_pulses») xs (D .min-steps .0);
     cut = qc ∙ ap (λ (n : ℕ). bit (ltb (p .«max_pulses») n)) same;
     slots =
-        ap some (ap (take (2 * out .pairs - 1)) part ∙ ap (λ (n : ℕ). take n (ss ++ take 1 (S .rest))) (sym count) ∙ heads-take ss (ss ++ take 1 (S .rest)) (record { rest = take 1 (S .rest); split = refl }))
+        ap some (ap (take (2 * out .pairs - 1)) split ∙ ap (λ (n : ℕ). take n (ss ++ take 1 (S .rest))) (sym count) ∙ heads-take ss (ss ++ take 1 (S .rest)) (record { rest = take 1 (S .rest); split = refl }))
         ∙ ap (λ (qs : List Edges). some (slotsOf (p .carry) (flat qs))) listed
         ∙ ap (slotsBetween (p .carry)) (sym (edges-emitted width nan (p .«min_steps») (p .«max_pulses») xs (D .min-steps .0)));
   }
@@ -119,20 +120,20 @@ module _ (p : Settings) (D : InDomain p) (xs : List (Sample Float)) (out : Out) 
       listed : qs ≡ take (p .«max_pulses») (given p xs)
       listed = ap (λ (n : ℕ). take n (given p xs)) qn ∙ take-min (p .«max_pulses») (given p xs)
 
-      part : partOf out ook fsk ≡ ss ++ take 1 (S .rest)
-      part =
+      split : part ≡ ss ++ take 1 (S .rest)
+      split =
           let e : 2 * out .pairs ≡ length ss + 1 = omega (arith, count) in
-          part-ook out ook fsk qs′ qf r ∙ ap (take (2 * out .pairs)) (S .split) ∙ ap (λ (n : ℕ). take n (ss ++ S .rest)) e ∙ take-heads ss (S .rest) 1
+          names ∙ part-ook out ook fsk qs′ qf r ∙ ap (take (2 * out .pairs)) (S .split) ∙ ap (λ (n : ℕ). take n (ss ++ S .rest)) e ∙ take-heads ss (S .rest) 1
 
       firsts-part : p .carry ≡ 0 → firsts (ss ++ take 1 (S .rest)) ≡ map (both width) qs
       firsts-part off = ap (λ (c : ℕ). firsts (slotsOf c (flat qs) ++ take 1 (S .rest))) off ∙ firsts-slots qs (take 1 (S .rest)) (omega (arith, few)) (take-one (S .rest))
 
-  pub claim-gives : Claim (p .carry) (p .«max_pulses») (given p xs) out ook → Gives p (pulses (p .«min_steps») xs) (givenBy out ook fsk)
+  pub claim-gives : Claim (p .carry) (p .«max_pulses») (given p xs) out ook → Gives p (pulses (p .«min_steps») xs) (givenBy out part)
   unfolding Gives
   claim-gives C = go (pulses (p .«min_steps») xs) refl C
     where
-      go : (ps : List (Pulse Float)) → pulses (p .«min_steps») xs ≡ ps → Claim (p .carry) (p .«max_pulses») (given p xs) out ook → Gives p ps (givenBy out ook fsk)
-      go [] q (no-pulse qp qs) = given-none out ook fsk qs
+      go : (ps : List (Pulse Float)) → pulses (p .«min_steps») xs ≡ ps → Claim (p .carry) (p .«max_pulses») (given p xs) out ook → Gives p ps (givenBy out part)
+      go [] q (no-pulse qp qs) = given-none out part qs
       go [] q (gives l qs qf qn qc S r) = absurd (omega (arith, same, ap length q))
       go (x ∷ ps) q (no-pulse qp qs) = absurd (omega (arith, same, ap length q, ap length qp))
-      go (x ∷ ps) q (gives l qs qf qn qc S r) = (train, given-one out ook fsk qs, subst (λ (l : List (Pulse Float)). TrainOf p l train) q (train-of (omega (arith, D .max-pulses .0)) qs qf qn qc S r))
+      go (x ∷ ps) q (gives l qs qf qn qc S r) = (train, given-one out part qs, subst (λ (l : List (Pulse Float)). TrainOf p l train) q (train-of (omega (arith, D .max-pulses .0)) qs qf qn qc S r))

@@ -8,8 +8,9 @@ use Rattle.lane.specs.declared.Answer.{Answer}
 use Rattle.lane.specs.declared.BeginArgs.{BeginArgs}
 use Rattle.lane.specs.declared.StepArgs.{StepArgs}
 use Rattle.lane.specs.Begin.{clearedOf, leadLane}
-use Rattle.lane.specs.Step.{stay, begun, stepped}
-use Rattle.pulses.specs.Yardstick.{as-left, other, lent, Call, opening, begin, step, Given, givenBy, Yardstick, refusal, accepts, stepOf, advanced, ends, lentWell, handedOn}
+use Rattle.lane.specs.Serial.{stampOf, stamped}
+use Rattle.lane.specs.Step.{stay, opened, begun, stepped}
+use Rattle.pulses.specs.Yardstick.{as-left, other, lent, Call, opening, begin, step, Given, Yardstick, refusal, accepts, stepOf, fetched, advanced, ends, lentWell, handedOn}
 use Rattle.pulses.specs.Demand.{returnedBy, theLane, Place, after, afterAll, bursts, Each, NoneYet}
 use Rattle.ook.specs.Tests.{both-true}
 use Rattle.pulses.proofs.Measure.{Good, Fine, call-fine, good, none-yet}
@@ -27,10 +28,10 @@ module _ (k : Place theLane) (S : Same k) where
   y = k .yard
 
   begin-same : (b : BeginArgs) (ook fsk : List ℕ) → accepts y (begin b ook fsk) ≡ true → Same (after theLane true k (begin b ook fsk))
-  unfolding after advanced returnedBy refusal leadLane clearedOf
-  begin-same b ook fsk q = rw e (record { lane = refl; ook = refl; trains = given-none _ ook fsk refl })
+  unfolding after advanced returnedBy refusal stampOf leadLane clearedOf
+  begin-same b ook fsk q = rw e (record { lane = refl; ook = refl; trains = given-none _ _ refl })
     where
-      e : begun (k .lane) b ook fsk ≡ stay (leadLane (y .lane) b)
+      e : begun (k .lane) b ook fsk ≡ stamped (y .lane) (stay (leadLane (y .lane) b))
       e = ap (λ (l : Lane). begun l b ook fsk) (S .lane) ∙ begin-accepted (y .lane) b ook fsk q
 
   step-same : (s : StepArgs) (fsk : List ℕ) → accepts y (step s as-left fsk) ≡ true → Same (after theLane true k (step s as-left fsk))
@@ -38,19 +39,16 @@ module _ (k : Place theLane) (S : Same k) where
   step-same s fsk q = record {
     lane = ap (λ (r : Answer × List ℕ × List ℕ). r .0 .lane) e;
     ook = ap (λ (r : Answer × List ℕ × List ℕ). r .1) e;
-    trains = ap (λ (r : Answer × List ℕ × List ℕ). k .trains ++ given r) e ∙ ap (λ (ts : List Given). ts ++ given (stepOf y s fsk)) (S .trains);
+    trains = ap (λ (r : Answer × List ℕ × List ℕ). k .trains ++ fetched r) e ∙ ap (λ (ts : List Given). ts ++ fetched (stepOf y s fsk)) (S .trains);
   }
     where
-      given : Answer × List ℕ × List ℕ → List Given
-      given r = givenBy (r .0 .lane .burst .«out_ook») (r .1) (r .2)
-
       e : stepped (k .lane) s (k .ook) fsk ≡ stepOf y s fsk
       e = ap (λ (l : Lane). stepped l s (k .ook) fsk) (S .lane) ∙ ap (λ (o : List ℕ). stepped (y .lane) s o fsk) (S .ook) ∙ step-accepted (y .lane) s (y .ook) fsk q
 
   after-same : (c : Call) (a : Bool) → accepts y c ≡ a → lentWell a c ≡ true → Same (after theLane a k c)
   unfolding after advanced returnedBy refusal lentWell
-  after-same (opening p) true q h = record { lane = open-accepted (k .lane) p q; ook = S .ook; trains = refl }
-  after-same (opening p) false q h = record { lane = open-refused (k .lane) p q ∙ S .lane; ook = S .ook; trains = S .trains }
+  after-same (opening p) true q h = record { lane = ap (λ (l : Lane). opened l p .lane) (S .lane) ∙ ap (λ (a : Answer). a .lane) (open-accepted (y .lane) p q); ook = S .ook; trains = refl }
+  after-same (opening p) false q h = record { lane = ap (λ (l : Lane). opened l p .lane) (S .lane) ∙ open-refused (y .lane) p q; ook = S .ook; trains = S .trains }
   after-same (begin b ook fsk) true q h = begin-same b ook fsk q
   after-same (begin b ook fsk) false q h =
       record { lane = ap (λ (l : Lane). begun l b ook fsk .lane) (S .lane) ∙ begin-refused (y .lane) b ook fsk q; ook = S .ook; trains = S .trains }

@@ -5,7 +5,7 @@ use mathlib.Core.List.{_++_}
 use Rattle.lane.specs.declared.Reply.{Reply}
 use Rattle.pulses.specs.Lists.{opens, slots, m6, m7, two, halves, unended}
 use Rattle.pulses.specs.Ran.{ran}
-use Rattle.pulses.specs.Hollow.{Fails, silent, fixed, first-only, invented, idle-early, cut-early, glitch-counts, train-early, other-kind, gapless, never-carries, always-carries}
+use Rattle.pulses.specs.Hollow.{Fails, silent, fixed, first-only, invented, idle-early, cut-early, glitch-counts, train-early, other-kind, gapless, never-carries, always-carries, too-late}
 use Rattle.pulses.proofs.Refuted.{by-pulses, by-slots, under-way, passes, refuted}
 
 -- M6, and no train
@@ -66,3 +66,8 @@ never-carries-fails = refuted by-pulses never-carries (halves 1) refl refl
 pub always-carries-fails : Fails always-carries
 unfolding passes ran always-carries
 always-carries-fails = refuted by-pulses always-carries (halves 0) refl refl
+
+-- M6: one pair, and an empty part
+pub too-late-fails : Fails too-late
+unfolding passes ran too-late
+too-late-fails = refuted by-pulses too-late (opens 4 ++ m6 10 (slots 8)) refl refl

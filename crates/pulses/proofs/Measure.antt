@@ -2,7 +2,8 @@
 use mathlib.Core.Path.{_≡_, refl, sym, ap, _∙_, subst}
 use mathlib.Core.Bool.{Bool, true, false, cond, not}
 use mathlib.Core.List.{List, [], _∷_, _++_, append-nil}
-use Prim.Native.Nat.{ℕ, _*_, _≤_}
+use Prim.Native.Nat.{ℕ, _+_, _*_, _≤_}
+use native.Mathlib.Omega.{arith}
 use lib.Dec.{ltb, eqb}
 use borrow.Author.Tests.{eqb-true}
 use lib.ListN.{length}
@@ -10,6 +11,7 @@ use lib.Ieee.{Float}
 use Rattle.arith.specs.Leaves.{leadLenOf}
 use Rattle.ook.specs.declared.Settings.{Settings}
 use Rattle.ook.specs.declared.Out.{Out}
+use Rattle.ook.specs.Core.{numbered}
 use Rattle.ook.specs.declared.Next.{Next}
 use Rattle.ook.specs.declared.Next.the-variants as next
 use Rattle.burst.specs.declared.Lead.{Lead}
@@ -17,16 +19,20 @@ use Rattle.burst.specs.declared.Sampled.{Sampled}
 use Rattle.burst.specs.Sample.{sampleOf}
 use Rattle.burst.specs.Lead.{leadAddOf, staying, leadFullOf}
 use Rattle.refusals.specs.Domain.{InDomain}
+use Rattle.lane.specs.declared.Lane.{Lane}
 use Rattle.lane.specs.declared.Answer.{Answer}
 use Rattle.lane.specs.declared.StepArgs.{StepArgs}
 use Rattle.lane.specs.Answers.{replyNumberOf, replyOf, phaseOf}
 use Rattle.lane.specs.Idle.{idleLane}
 use Rattle.lane.specs.Begin.{ringOf, clearedOf, leadLane}
 use Rattle.lane.specs.Advance.{settleOf, settled, fillOf, atOf, replayStep, leadStep, burstStep, advanceOf}
+use Rattle.lane.specs.Serial.{stampOf, stampedWith}
+use Rattle.lane.specs.Part.{partOf, part-named}
 use Rattle.pulses.specs.Runs.{Sample, pulses}
-use Rattle.pulses.specs.Yardstick.{lent, Call, opening, begin, step, Given, givenBy, Yardstick, refusal, accepts, levelled, replayed, burstAt, stepSamples, stepOf, advanced, ends}
+use Rattle.pulses.specs.Yardstick.{lent, Call, opening, begin, step, Given, givenBy, Yardstick, refusal, accepts, levelled, replayed, burstAt, stepSamples, fetched, advanced, ends}
 use Rattle.pulses.specs.Demand.{Gives}
 use Rattle.pulses.proofs.Flags.{clash}
+use Rattle.pulses.proofs.TrainState.{claim-numbered}
 use Rattle.pulses.proofs.OokSample.{stays, over, idle-not, idle-at-not}
 use Rattle.pulses.proofs.BurstState.{Under, Next-is, stepped-follows, full-follows}
 use Rattle.pulses.proofs.BurstEnd.{given-none, claim-gives}
@@ -52,20 +58,21 @@ pub data Good (y : Yardstick) : Type 0 where
 unfoldable pub Fine : Yardstick → Bool → Type 0
 Fine y e = Good y × (e ≡ true → y .lane .settings .mode ≡ 0 → Gives (y .lane .settings) (pulses (y .lane .settings .«min_steps») (y .recorded)) (y .trains))
 
--- the yardstick after an accepted step that answers r and adds ms to the record
+-- the yardstick after an accepted step that answers r, serial included, and adds ms to the record
 abbrev stepTo : Yardstick → Answer × List ℕ × List ℕ → List (Sample Float) → Yardstick
 stepTo y r ms = record {
   lane = r .0 .lane;
   ook = r .1;
   recorded = y .recorded ++ ms;
-  trains = y .trains ++ givenBy (r .0 .lane .burst .«out_ook») (r .1) (r .2);
+  trains = y .trains ++ fetched r;
 }
 
 abbrev endsWith : Answer × List ℕ × List ℕ → Bool
 endsWith r = not (eqb (replyNumberOf (r .0 .reply)) 0)
 
+-- the step answers r, to which the serial is still to come
 StepFine : Yardstick → Answer × List ℕ × List ℕ → List (Sample Float) → Type 0
-StepFine y r ms = Fine (stepTo y r ms) (endsWith r)
+StepFine y r ms = Fine (stepTo y (stampedWith (y .lane) r) ms) (endsWith r)
 
 module _ (y : Yardstick) (D : InDomain (y .lane .settings)) (s : StepArgs) where
   abbrev p : Settings
@@ -74,28 +81,37 @@ module _ (y : Yardstick) (D : InDomain (y .lane .settings)) (s : StepArgs) where
   -- a sample of a burst, or the replay of its lead-in, is answered
   answered : (ld : Lead) (ring : List Float) (r : Sampled × List ℕ × List ℕ) (ms : List (Sample Float)) → (p .mode ≡ 0 → Next-is p r (y .recorded ++ ms)) → (p .mode ≡ 0 → y .trains ≡ [])
       → StepFine y (settled (y .lane) s ld ring r) ms
-  unfolding StepFine Fine settleOf replyOf phaseOf
+  unfolding StepFine Fine settleOf stampOf replyOf phaseOf
   answered ld ring r ms H T = go (r .0 .next) refl
     where
+      number : ℕ
+      number = y .lane .serial + 1
+
+      lane : Lane
+      lane = stampOf number (settleOf (y .lane) s ld ring (r .0) .lane)
+
       out : Out
-      out = r .0 .burst .«out_ook»
+      out = numbered number (r .0 .burst .«out_ook»)
+
+      part : List ℕ
+      part = partOf lane out (r .1) (r .2)
 
       new : List Given
-      new = givenBy out (r .1) (r .2)
+      new = givenBy out part
 
       alone : y .trains ≡ [] → y .trains ++ new ≡ new
       alone t = ap (λ (ts : List Given). ts ++ new) t
 
       y′ : Yardstick
-      y′ = stepTo y (settled (y .lane) s ld ring r) ms
+      y′ = stepTo y (stampedWith (y .lane) (settled (y .lane) s ld ring r)) ms
 
       on-stay : r .0 .next ≡ next.Stay → Next-is p r (y .recorded ++ ms) → y .trains ≡ [] → Running y′
-      on-stay n (stays n′ F) t = record { under = F; no-trains = alone t ∙ given-none out (r .1) (r .2) (F .undecided) }
+      on-stay n (stays n′ F) t = record { under = record { run = F .run; train = F .train; undecided = F .undecided }; no-trains = alone t ∙ given-none out part (F .undecided) }
       on-stay n (over n′ C′) t = absurd (n′ n)
 
       on-end : (r .0 .next ≡ next.Stay → ⊥) → Next-is p r (y .recorded ++ ms) → y .trains ≡ [] → Gives p (pulses (p .«min_steps») (y .recorded ++ ms)) (y .trains ++ new)
       on-end n (stays n′ F) t = absurd (n n′)
-      on-end n (over n′ C′) t = rw (alone t) (claim-gives p D (y .recorded ++ ms) out (r .1) (r .2) C′)
+      on-end n (over n′ C′) t = rw (alone t) (claim-gives p D (y .recorded ++ ms) out (r .1) (r .2) part (part-named lane out (r .1) (r .2) refl (omega arith)) (claim-numbered number C′))
 
       go : (n : Next) → r .0 .next ≡ n
           → Good y′ × (not (eqb (replyNumberOf (replyOf n)) 0) ≡ true → p .mode ≡ 0 → Gives p (pulses (p .«min_steps») (y .recorded ++ ms)) (y .trains ++ new))
@@ -124,12 +140,12 @@ module _ (y : Yardstick) (D : InDomain (y .lane .settings)) (s : StepArgs) where
   len = leadLenOf (p .«min_steps»)
 
   wait-fine : Leading y → (fsk : List ℕ) → StepFine y (fillOf (y .lane) s ld ring, y .ook, fsk) []
-  unfolding StepFine Fine fillOf clearedOf
+  unfolding StepFine Fine fillOf stampOf clearedOf
   wait-fine L fsk = (
     in-lead refl D
         (record {
           unrecorded = append-nil (y .recorded) ∙ L .unrecorded;
-          no-trains = rw (L .no-trains) (given-none _ _ _ refl);
+          no-trains = rw (L .no-trains) (given-none _ _ refl);
           room = L .room;
         }),
     λ e. clash (sym e),
@@ -155,7 +171,7 @@ module _ (y : Yardstick) (D : InDomain (y .lane .settings)) (s : StepArgs) where
       go false = replay-fine L fsk
 
 -- an accepted step, in either phase
-step-fine : (y : Yardstick) (s : StepArgs) (fsk : List ℕ) → Good y → (y .lane .phase ≡ 0 → ⊥) → StepFine y (stepOf y s fsk) (stepSamples (y .lane) s (y .ook) fsk)
+step-fine : (y : Yardstick) (s : StepArgs) (fsk : List ℕ) → Good y → (y .lane .phase ≡ 0 → ⊥) → StepFine y (advanceOf (y .lane) s (y .ook) fsk) (stepSamples (y .lane) s (y .ook) fsk)
 unfolding advanceOf stepSamples
 step-fine y s fsk G h = go G
   where
@@ -179,7 +195,7 @@ step-fine y s fsk G h = go G
     go (in-burst q D R) = subst In (sym q) (burst-fine y D s fsk R)
 
 pub call-fine : (y : Yardstick) (c : Call) (b : Bool) → accepts y c ≡ b → Good y → Fine (advanced b y c) (ends b y c)
-unfolding Fine StepFine advanced ends refusal idleLane leadLane
+unfolding Fine StepFine advanced ends refusal stampOf idleLane leadLane
 call-fine y c false q G = (G, λ e. clash (sym e))
 call-fine y (opening p) true q G = (at-rest refl, λ e. clash (sym e))
 call-fine y (begin b ook fsk) true q G =

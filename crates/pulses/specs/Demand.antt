@@ -18,6 +18,7 @@ use Rattle.lane.specs.declared.Answer.{Answer}
 use Rattle.lane.specs.declared.BeginArgs.{BeginArgs}
 use Rattle.lane.specs.declared.StepArgs.{StepArgs}
 use Rattle.lane.specs.Step.{newLane, opened, begun, stepped}
+use Rattle.lane.specs.Part.{partOf}
 use Rattle.slots.specs.Slots.{slotsOf}
 use Rattle.pulses.specs.Runs.{Pulse, pulses, edges, pulseWidth}
 use Rattle.pulses.specs.Yardstick.{lent, Call, opening, begin, step, Given, givenBy, Yardstick, unused, accepts, advanced, ends, handedOn}
@@ -32,14 +33,16 @@ pub record Returned (L : Type 0) : Type 0 where
   pub fsk : List ℕ
 
 -- A program, right or hollow: lanes of any type, the one that never had settings, and the three calls. Opening returns a lane alone.
+-- "Fetching a part takes lane and record" (document 02, R-6), and both buffers.
 pub record Program : Type 1 where
   pub Lanes : Type 0
   pub new : Lanes
   pub opening : Lanes → Settings → Lanes
   pub begin : Lanes → BeginArgs → List ℕ → List ℕ → Returned Lanes
   pub step : Lanes → StepArgs → List ℕ → List ℕ → Returned Lanes
+  pub part : Lanes → Out → List ℕ → List ℕ → List ℕ
 
--- the program of this repository: the definitions that the contracts of `new_lane`, `open`, `begin` and `step` cite
+-- the program of this repository: the definitions that the contracts of `new_lane`, `open`, `begin`, `step` and `part` cite
 unfoldable pub returnedBy : Answer × List ℕ × List ℕ → Returned Lane
 returnedBy r = record { reply = r .0 .reply; lane = r .0 .lane; out = r .0 .lane .burst .«out_ook»; ook = r .1; fsk = r .2 }
 
@@ -50,6 +53,7 @@ theLane = record {
   opening = λ l p. opened l p .lane;
   begin = λ l b ook fsk. returnedBy (begun l b ook fsk, ook, fsk);
   step = λ l s ook fsk. returnedBy (stepped l s ook fsk);
+  part = partOf;
 }
 
 -- ---- lists of calls
@@ -66,12 +70,12 @@ module _ (W : Program) where
   start = record { lane = W .new; ook = []; trains = []; yard = unused }
 
   -- "A burst gives a train where a call of it returns an OOK record that decides one": begin or step c returned r, and earlier are the
-  -- trains that its burst had given before. A refusal returns its number alone.
+  -- trains that its burst had given before. The part is fetched by the lane that the call returned. A refusal returns its number alone.
   abbrev taken : Bool → Place W → Call → List Given → Returned (W .Lanes) → Place W
   taken a k c earlier r = record {
     lane = r .lane;
     ook = cond a (r .ook) (k .ook);
-    trains = cond a (earlier ++ givenBy (r .out) (r .ook) (r .fsk)) (k .trains);
+    trains = cond a (earlier ++ givenBy (r .out) (W .part (r .lane) (r .out) (r .ook) (r .fsk))) (k .trains);
     yard = advanced a (k .yard) c;
   }
 

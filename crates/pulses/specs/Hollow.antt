@@ -8,6 +8,7 @@ use Rattle.ook.specs.declared.Settings.{Settings}
 use Rattle.ook.specs.declared.Out.{Out}
 use Rattle.ook.specs.Counts.{bit}
 use Rattle.lane.specs.Idle.{noOut}
+use Rattle.lane.specs.Serial.{stampOf}
 use Rattle.lane.specs.declared.Lane.{Lane}
 use Rattle.lane.specs.declared.Reply.{Reply}
 use Rattle.lane.specs.Answers.{replyNumberOf}
@@ -27,14 +28,14 @@ withSlots ook r = record { reply = r .reply; lane = r .lane; out = r .out; ook =
 
 -- a record that decides a train of so many pairs, with this cut mark
 abbrev train : ℕ → ℕ → Out → Out
-train pairs cut o = record { index = o .index; end = o .end; state = 1; cut = cut; pairs = pairs; level = o .level; fsk = o .fsk; carrier = o .carrier }
+train pairs cut o = record { index = o .index; end = o .end; state = 1; cut = cut; pairs = pairs; level = o .level; fsk = o .fsk; carrier = o .carrier; serial = o .serial }
 
 abbrev decides : Returned Lane → Bool
 decides r = eqb (r .out .state) 1
 
 -- what a step returns is changed, and the same where it decides a train
 abbrev changed : (Returned Lane → Returned Lane) → Program
-changed f = record { Lanes = Lane; new = theLane .new; opening = theLane .opening; begin = theLane .begin; step = λ l s ook fsk. f (theLane .step l s ook fsk) }
+changed f = record { Lanes = Lane; new = theLane .new; opening = theLane .opening; begin = theLane .begin; step = λ l s ook fsk. f (theLane .step l s ook fsk); part = theLane .part }
 
 abbrev trainChanged : (Returned Lane → Returned Lane) → Program
 trainChanged f = changed (λ r. cond (decides r) (f r) r)
@@ -47,6 +48,7 @@ opensWith f = record {
   opening = λ l p. theLane .opening l (f p);
   begin = theLane .begin;
   step = λ l s ook fsk. alone (theLane .step l s ook fsk);
+  part = theLane .part;
 }
   where
     alone : Returned Lane → Returned Lane
@@ -87,7 +89,7 @@ withCarry carry p =
 -- ---- document 01's table
 -- "stays for ever and writes no slot", "refuses each call": whatever it replies, it gives no train
 unfoldable pub silent : Reply → Program
-silent reply = record { Lanes = Unit {0}; new = tt; opening = λ l p. tt; begin = λ l b ook fsk. nothing ook fsk; step = λ l s ook fsk. nothing ook fsk }
+silent reply = record { Lanes = Unit {0}; new = tt; opening = λ l p. tt; begin = λ l b ook fsk. nothing ook fsk; step = λ l s ook fsk. nothing ook fsk; part = λ l o ook fsk. [] }
   where
     nothing : List ℕ → List ℕ → Returned (Unit {0})
     nothing ook fsk = record { reply = reply; lane = tt; out = noOut; ook = ook; fsk = fsk }
@@ -104,6 +106,7 @@ first-only = record {
   opening = λ l p. (theLane .opening (l .0) p, l .1);
   begin = λ l b ook fsk. once (l .1) (theLane .begin (l .0) b ook fsk);
   step = λ l s ook fsk. once (l .1) (theLane .step (l .0) s ook fsk);
+  part = λ l o ook fsk. theLane .part (l .0) o ook fsk;
 }
   where
     once : Bool → Returned Lane → Returned (Lane × Bool)
@@ -135,7 +138,7 @@ unfoldable pub other-kind : Program
 other-kind = trainChanged (λ r. withOut (fsk-kind (r .out)) r)
   where
     fsk-kind : Out → Out
-    fsk-kind o = record { index = o .index; end = o .end; state = o .state; cut = o .cut; pairs = o .pairs; level = o .level; fsk = 1; carrier = o .carrier }
+    fsk-kind o = record { index = o .index; end = o .end; state = o .state; cut = o .cut; pairs = o .pairs; level = o .level; fsk = 1; carrier = o .carrier; serial = o .serial }
 
 -- right widths, and each gap 0
 unfoldable pub gapless : Program
@@ -153,3 +156,15 @@ never-carries = opensWith (λ p. withCarry 0 p)
 
 unfoldable pub always-carries : Program
 always-carries = opensWith (λ p. withCarry 1 p)
+
+-- ---- the serial (document 02, R-6)
+-- "A part taken too late": by a lane that is an accepted call further on than the record. All else is as it should be
+unfoldable pub too-late : Program
+too-late = record {
+  Lanes = Lane;
+  new = theLane .new;
+  opening = theLane .opening;
+  begin = theLane .begin;
+  step = theLane .step;
+  part = λ l o ook fsk. theLane .part (stampOf (l .serial + 1) l) o ook fsk;
+}

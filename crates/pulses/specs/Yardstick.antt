@@ -18,18 +18,18 @@ use Rattle.burst.specs.declared.Burst.{Burst}
 use Rattle.burst.specs.declared.Lead.{Lead}
 use Rattle.burst.specs.declared.Sampled.{Sampled}
 use Rattle.burst.specs.Lead.{leadAddOf, largestOf, beginBurstOf, leadAtOf, onward, staying}
-use Rattle.refusals.specs.Domain.{settingsOk}
 use Rattle.lane.specs.declared.Lane.{Lane}
 use Rattle.lane.specs.declared.Answer.{Answer}
 use Rattle.lane.specs.declared.BeginArgs.{BeginArgs}
 use Rattle.lane.specs.declared.StepArgs.{StepArgs}
 use Rattle.lane.specs.Answers.{replyNumberOf}
-use Rattle.lane.specs.Refusals.{beginRefusal, stepRefusal}
+use Rattle.lane.specs.Refusals.{openRefusal, beginRefusal, stepRefusal}
 use Rattle.lane.specs.Idle.{idleLane}
 use Rattle.lane.specs.Begin.{ringOf, clearedOf, leadLane}
 use Rattle.lane.specs.Advance.{atOf, advanceOf}
+use Rattle.lane.specs.Serial.{stamped, stampedWith}
 use Rattle.lane.specs.Part.{partOf}
-use Rattle.lane.specs.Step.{newLane}
+use Rattle.lane.specs.Step.{stay, newLane}
 use Rattle.pulses.specs.Runs.{Sample, sample}
 
 -- ---- calls
@@ -48,14 +48,15 @@ pub data Call : Type 0 where
   begin : BeginArgs → List ℕ → List ℕ → Call
   step : StepArgs → Lent → List ℕ → Call
 
--- A train: the OOK record that decides it, and "that record's part of the OOK buffer, as the call leaves it".
+-- A train: the OOK record that decides it, and "that record's part of the OOK buffer, as the call leaves it", fetched by the lane that the
+-- call returned (document 02, R-6).
 pub record Given : Type 0 where
   pub out : Out
   pub part : List ℕ
 
--- "where a call of it returns an OOK record that decides one", state 1, and leaves these buffers
-unfoldable pub givenBy : Out → List ℕ → List ℕ → List Given
-givenBy out ook fsk = cond (eqb (out .state) 1) (record { out = out; part = partOf out ook fsk } ∷ []) []
+-- "where a call of it returns an OOK record that decides one", state 1, and this is the part fetched for it
+unfoldable pub givenBy : Out → List ℕ → List Given
+givenBy out part = cond (eqb (out .state) 1) (record { out = out; part = part } ∷ []) []
 
 -- ---- demand 2's definition, run by itself
 -- Its lane and OOK buffer, and of the last burst the record so far and the trains that the definition gives.
@@ -69,9 +70,9 @@ pub record Yardstick : Type 0 where
 unfoldable pub unused : Yardstick
 unused = record { lane = newLane; ook = []; recorded = []; trains = [] }
 
--- A call is accepted where none of document 01's refusals applies: the number of the first that does, or 0.
+-- A call is accepted where no refusal applies, of document 01's and 13 of document 02: the number of the first that does, or 0.
 unfoldable pub refusal : Yardstick → Call → ℕ
-refusal y (opening p) = cond (settingsOk p) 0 3
+refusal y (opening p) = openRefusal (y .lane) p
 refusal y (begin b ook fsk) = beginRefusal (y .lane) b (length ook) (length fsk)
 refusal y (step s o fsk) = stepRefusal (y .lane) s (length (lent o (y .ook))) (length fsk)
 
@@ -109,21 +110,25 @@ stepSamples l s ook fsk =
 
 -- demand 2's accepted step, on the yardstick's own OOK buffer
 abbrev pub stepOf : Yardstick → StepArgs → List ℕ → Answer × List ℕ × List ℕ
-stepOf y s fsk = advanceOf (y .lane) s (y .ook) fsk
+stepOf y s fsk = stampedWith (y .lane) (advanceOf (y .lane) s (y .ook) fsk)
+
+-- the train that its answer gives: "Fetching a part takes lane and record" (R-6), as the answer has both
+abbrev pub fetched : Answer × List ℕ × List ℕ → List Given
+fetched r = let out : Out = r .0 .lane .burst .«out_ook» in givenBy out (partOf (r .0 .lane) out (r .1) (r .2))
 
 -- After a call, accepted (true) or refused: "an accepted opening puts a new lane in its place, and a refused call leaves it as it was".
--- "A burst starts with an accepted begin."
+-- "A burst starts with an accepted begin." Each accepted call raises the serial by 1 (R-6).
 unfoldable pub advanced : Bool → Yardstick → Call → Yardstick
 advanced false y c = y
-advanced true y (opening p) = record { lane = idleLane 1 p; ook = y .ook; recorded = []; trains = [] }
-advanced true y (begin b ook fsk) = record { lane = leadLane (y .lane) b; ook = ook; recorded = []; trains = [] }
+advanced true y (opening p) = record { lane = stamped (y .lane) (stay (idleLane 1 p)) .lane; ook = y .ook; recorded = []; trains = [] }
+advanced true y (begin b ook fsk) = record { lane = stamped (y .lane) (stay (leadLane (y .lane) b)) .lane; ook = ook; recorded = []; trains = [] }
 advanced true y (step s o fsk) =
     let r : Answer × List ℕ × List ℕ = stepOf y s fsk in
     record {
       lane = r .0 .lane;
       ook = r .1;
       recorded = y .recorded ++ stepSamples (y .lane) s (y .ook) fsk;
-      trains = y .trains ++ givenBy (r .0 .lane .burst .«out_ook») (r .1) (r .2);
+      trains = y .trains ++ fetched r;
     }
 
 -- "The burst ends at the first sample whose stepping or replay answers idle or idle-at", numbers 1 and 2, and not stay, 0.

@@ -6,7 +6,8 @@ use native.Mathlib.Omega.{arith}
 use lib.Dec.{ltb, eqb}
 use lib.Ieee.{Float}
 use borrow.Author.Tests.{le-leb, lt-ltb, eqb-true}
-use Rattle.domain.specs.Limits.{maxCount, maxBound}
+use Rattle.domain.specs.Limits.{maxCount, maxBound, maxSerial}
+use Rattle.ook.specs.Core.{numbered}
 use Rattle.ook.specs.Params.{fskMinOf}
 use Rattle.ook.specs.Limits.{EnvWithin, TrainWithin, OutWithin}
 use Rattle.ook.specs.declared.Env.{Env}
@@ -15,6 +16,7 @@ use Rattle.ook.specs.declared.Out.{Out}
 use Rattle.ook.specs.declared.Settings.{Settings}
 use Rattle.fsk.specs.declared.Frame.{Frame}
 use Rattle.presence.specs.declared.Pres.{Pres}
+use Rattle.burst.specs.Makers.{withSerials}
 use Rattle.burst.specs.declared.Burst.{Burst}
 use Rattle.limits.specs.Fsk.{CommittedWithin, FrameWithin}
 use Rattle.limits.specs.Pairs.{Paired, BurstFits}
@@ -33,7 +35,7 @@ train-ok : (max : ℕ) (t : Train) → TrainWithin max t → trainOk max t ≡ t
 train-ok max t h = simp (le-leb (t .started) 1 (h .started-flag), le-leb (t .«open») 1 (h .open-flag), le-leb (t .truncated) 1 (h .truncated-flag), le-leb (t .«ook_n» + t .«open») max (h .pulses), le-leb (t .bound) maxBound (h .bounded))
 
 out-ok : (max : ℕ) (o : Out) → OutWithin max o → outOk o ≡ true
-out-ok max o h = simp (le-leb (o .state) 1 (h .state-flag), le-leb (o .cut) 1 (h .cut-flag), le-leb (o .fsk) 1 (h .kind-flag))
+out-ok max o h = simp (le-leb (o .state) 1 (h .state-flag), le-leb (o .cut) 1 (h .cut-flag), le-leb (o .fsk) 1 (h .kind-flag), le-leb (o .serial) maxSerial (h .numbered))
 
 pres-ok : (q : Pres) → PresWithin q → presOk q ≡ true
 pres-ok q h = simp (le-leb (q .«p_level») 1 (h .level-flag), le-leb (q .«p_confirmed») 1 (h .confirmed-flag))
@@ -78,7 +80,7 @@ cand-ok phase {p} {b} h = go (eqb phase 2) (eqb (b .frame .«fsk_phase») 0) ref
     go false f q = refl
 
 no-out : (max : ℕ) → OutWithin max noOut
-no-out max = record { state-flag = omega arith; cut-flag = omega arith; kind-flag = omega arith; room = omega arith }
+no-out max = record { state-flag = omega arith; cut-flag = omega arith; kind-flag = omega arith; room = omega arith; numbered = omega arith }
 
 none-done : (max m : ℕ) → CommittedWithin max m noneDone
 none-done max m = record { open-flag = omega arith; full-flag = omega arith; pairs = omega arith; runs-most = omega arith }
@@ -122,3 +124,22 @@ cleared-runs p b r = r
 
 pub factor-within : {p : Settings} {b : Burst} (f : Float) → BurstWithin p b → BurstWithin p (withFactor f b)
 factor-within f h = search
+
+-- the records get a serial that a lane may hold
+numbered-within : (max n : ℕ) (o : Out) → n ≤ maxSerial → OutWithin max o → OutWithin max (numbered n o)
+numbered-within max n o h w = record { state-flag = w .state-flag; cut-flag = w .cut-flag; kind-flag = w .kind-flag; room = w .room; numbered = h }
+
+pub serials-within : {p : Settings} {b : Burst} (n : ℕ) → n ≤ maxSerial → BurstWithin p b → BurstWithin p (withSerials n n b)
+serials-within {p} {b} n h w =
+    let f = w .fits in
+    record {
+      fits = record {
+        env-within = f .env-within;
+        train-within = f .train-within;
+        ook-within = numbered-within (p .«max_pulses») n (b .«out_ook») h (f .ook-within);
+        fsk-within = numbered-within (p .«max_pulses») n (b .«out_fsk») h (f .fsk-within);
+        pairs = f .pairs;
+      };
+      pres-within = w .pres-within;
+      frame-within = w .frame-within;
+    }

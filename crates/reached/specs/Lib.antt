@@ -2,3 +2,4 @@
 pub mod Kept
 pub mod Reached
 pub mod Records
+pub mod Serials

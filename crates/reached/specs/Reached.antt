@@ -1,39 +1,42 @@
 -- The lanes that calls hand back, from the lane that never had settings on, pass refusal 4's check: so no list of calls meets refusal 4.
-use Prim.Native.Nat.{ℕ, _<_, _≤_}
+use Prim.Native.Nat.{ℕ, _+_, _<_, _≤_}
 use mathlib.Core.Bool.{Bool, true, false, cond, not, _&&_, _||_}
-use mathlib.Core.Path.{_≡_, refl}
+use mathlib.Core.Path.{_≡_, refl, sym, ap, _∙_}
 use mathlib.Core.List.{List}
 use native.Mathlib.Omega.{arith}
 use lib.ListN.{length, getD}
-use lib.Dec.{leb, ltb, eqb}
+use lib.Dec.{leb, ltb, eqb, lit<}
 use lib.IntN.{pos}
 use lib.Ieee.{Float, nan, binary64, ofInt, ofBits, toBits}
 use borrow.Author.Tests.{leb-true, le-leb, lt-ltb, ltb-true, eqb-true, eqb-false, not-true}
-use Rattle.domain.specs.Limits.{maxIndex}
+use Rattle.domain.specs.Limits.{maxIndex, spentSerial, maxSerial}
 use Rattle.arith.specs.Leaves.{leadLenOf}
 use Rattle.ook.specs.declared.Settings.{Settings}
 use Rattle.ook.specs.Answers.{isStayOf}
 use Rattle.ook.specs.declared.Next.{Next}
 use Rattle.ook.specs.declared.Next.the-variants as next
+use Rattle.burst.specs.Makers.{withSerials}
 use Rattle.burst.specs.declared.Burst.{Burst}
 use Rattle.burst.specs.declared.Lead.{Lead}
 use Rattle.burst.specs.declared.Sampled.{Sampled}
 use Rattle.burst.specs.Lead.{leadAddOf, largestOf, beginBurstOf, staying, replayOf, leadFullOf}
 use Rattle.refusals.specs.Domain.{InDomain, settings-tell, settingsOk, unsetOk, indexOk, roomOk}
 use Rattle.refusals.specs.State.{burstOk, frameOk, leadOk, candOk}
-use Rattle.refusals.specs.Order.{firstFailed, none-failed}
+use Rattle.refusals.specs.Order.{firstFailed, passed, AllPassed, none-failed}
 use Rattle.ook.specs.Tests.{both-true}
 use Rattle.limits.specs.Burst.{BurstWithin, Runs, SampledWithin, sample-within, replay-within, begin-burst-within}
-use Rattle.reached.specs.Kept.{burst-ok, cand-ok, none-within, cleared-within, cleared-runs, factor-within}
+use Rattle.reached.specs.Kept.{burst-ok, cand-ok, none-within, cleared-within, cleared-runs, factor-within, serials-within}
 use Rattle.lane.specs.declared.BeginArgs.{BeginArgs}
 use Rattle.lane.specs.declared.StepArgs.{StepArgs}
 use Rattle.lane.specs.declared.Lane.{Lane}
 use Rattle.lane.specs.declared.Reply.the-variants as reply
 use Rattle.lane.specs.Answers.{phaseOf}
-use Rattle.lane.specs.Refusals.{openedOk, laneOk, followsOf, beginFloatsOk, stepFloatsOk, beginRefusal, stepRefusal, passes-lane}
+use Rattle.refusals.specs.Serial.{serialLeft}
+use Rattle.lane.specs.Refusals.{openedOk, laneOk, followsOf, beginFloatsOk, stepFloatsOk, openRefusal, beginRefusal, stepRefusal, passes-lane}
 use Rattle.lane.specs.Idle.{noBurst, idleLane}
 use Rattle.lane.specs.Begin.{ringOf, clearedOf, beginLeadOf, leadLane, laneOf}
 use Rattle.lane.specs.Advance.{settleOf, fillOf, replayStep, leadStep, burstStep, advanceOf}
+use Rattle.lane.specs.Serial.{stampOf, stamped, stampedWith}
 use Rattle.lane.specs.Step.{refuse, stay, newLane, opened, begun, stepped}
 
 -- A lane that a list of calls hands back.
@@ -44,15 +47,22 @@ pub data Reached : Lane → Type 0 where
   stepping : {l : Lane} → Reached l → (s : StepArgs) (ook fsk : List ℕ) → Reached (stepped l s ook fsk .0 .lane)
 
 -- a lane with settings of the domain, and what its calls keep of it
-pub record Within (l : Lane) : Type 0 where
+pub record Kept (l : Lane) : Type 0 where
   pub had : l .opened ≡ 1
   pub domain : settingsOk (l .settings) ≡ true
-  pub kept : BurstWithin (l .settings) (l .burst)
+  pub held : BurstWithin (l .settings) (l .burst)
   pub going : l .phase ≡ 2 → Runs (l .settings) (l .burst)
   pub named : l .phase ≤ 2
   pub filled : l .phase ≡ 1 → l .lead .«lead_n» < leadLenOf (l .settings .«min_steps»)
   pub from : l .lead .«lead_at» ≤ maxIndex
   pub near : l .last ≤ maxIndex
+
+-- and of its serial (R-6): a begin takes it to spentSerial at most, and each step raises it and the index by 1; the records have the lane's
+pub record Within (l : Lane) : Type 0 where
+  pub kept : Kept l
+  pub counted : l .serial ≤ spentSerial + l .last
+  pub own-ook : l .burst .«out_ook» .serial ≡ l .serial
+  pub own-fsk : l .burst .«out_fsk» .serial ≡ l .serial
 
 -- the lane that never had settings, or one of those
 pub data Sound : Lane → Type 0 where
@@ -74,47 +84,71 @@ had-ok had phase p e h = rw e (rw h refl)
 pub sound-ok : {l : Lane} → Sound l → laneOk l ≡ true
 unfolding newLane idleLane noBurst laneOk openedOk unsetOk burstOk frameOk leadOk candOk ofBits toBits
 sound-ok unopened = refl
-sound-ok {l} (within h) =
+sound-ok {l} (within w) =
+    let h = w .kept in
     passes-lane l
     (record {
       had = had-ok (l .opened) (l .phase) (l .settings) (h .had) (h .domain);
       named = le-leb (l .phase) 2 (h .named);
-      within = burst-ok (settings-tell (l .settings) (h .domain)) (h .kept);
+      within = burst-ok (settings-tell (l .settings) (h .domain)) (h .held);
       filled = lead-ok (l .phase) (l .settings .«min_steps») (l .lead) (h .filled) (h .from);
-      waits = cand-ok (l .phase) (h .kept);
+      waits = cand-ok (l .phase) (h .held);
       near = le-leb (l .last) maxIndex (h .near);
+      counted = le-leb (l .serial) maxSerial (omega (arith, w .counted, h .near));
     })
 
--- opening
-idle-sound : (p : Settings) → settingsOk p ≡ true → Sound (idleLane 1 p)
-unfolding idleLane
-idle-sound p q =
-    let w : Within (idleLane 1 p) = record { had = refl; domain = q; kept = none-within p; going = λ e. absurd (omega arith); named = omega arith; filled = λ e. omega arith; from = omega arith; near = omega arith } in
+-- an accepted call raises the serial
+stamp-sound : {l : Lane} (n : ℕ) → Kept l → n ≤ spentSerial + l .last → Sound (stampOf n l)
+unfolding stampOf
+stamp-sound {l} n r c =
+    let k : Kept (stampOf n l) = record { had = r .had; domain = r .domain; held = serials-within n (omega (arith, c, r .near)) (r .held); going = r .going; named = r .named; filled = r .filled; from = r .from; near = r .near } in
+    let w : Within (stampOf n l) = record { kept = k; counted = c; own-ook = refl; own-fsk = refl } in
     within w
+
+-- opening
+idle-kept : (p : Settings) → settingsOk p ≡ true → Kept (idleLane 1 p)
+unfolding idleLane
+idle-kept p q =
+    record { had = refl; domain = q; held = none-within p; going = λ e. absurd (omega arith); named = omega arith; filled = λ e. omega arith; from = omega arith; near = omega arith }
+
+opening-passes : (l : Lane) (p : Settings) → openRefusal l p ≡ 0 → (settingsOk p ≡ true) × (l .serial < spentSerial)
+unfolding openRefusal
+opening-passes l p e =
+    let a = passed 3 (settingsOk p) _ (lit< tt) e in
+    (a .0, ltb-true (l .serial) spentSerial (passed 13 (serialLeft (l .serial)) 0 (lit< tt) (a .1) .0))
 
 pub open-sound : {l : Lane} (p : Settings) → Sound l → Sound (opened l p .lane)
 unfolding opened
-open-sound {l} p h = go (settingsOk p) refl
+open-sound {l} p h = go (eqb (openRefusal l p) 0) refl
   where
-    go : (b : Bool) → settingsOk p ≡ b → Sound (cond b (stay (idleLane 1 p)) (refuse 3 l) .lane)
-    go true q = idle-sound p q
+    go : (b : Bool) → eqb (openRefusal l p) 0 ≡ b → Sound (cond b (stamped l (stay (idleLane 1 p))) (refuse (openRefusal l p) l) .lane)
+    go true q =
+        let t = opening-passes l p (eqb-true (openRefusal l p) 0 q) in
+        stamp-sound (l .serial + 1) (idle-kept p (t .0)) (omega (arith, t .1))
     go false q = h
 
 -- begin
-lead-sound : {l : Lane} (b : BeginArgs) (m n : ℕ) → beginRefusal l b m n ≡ 0 → Sound l → Sound (leadLane l b)
-unfolding beginRefusal leadLane beginLeadOf newLane idleLane
-lead-sound b m n e unopened = let z : _≡_ {A = Bool} false true = none-failed false (laneOk newLane) true (indexOk (b .index)) (beginFloatsOk b) (roomOk (newLane .settings) m n) e .0 in absurd (let y : _≡_ {A = ℕ} 0 1 = cc in omega arith)
-lead-sound {l} b m n e (within h) =
-    let t : b .index ≤ maxIndex = leb-true (b .index) maxIndex (none-failed (not (eqb (l .opened) 0)) (laneOk l) (eqb (l .phase) 0) (indexOk (b .index)) (beginFloatsOk b) (roomOk (l .settings) m n) e .3) in
+begin-passes : (l : Lane) (b : BeginArgs) (m n : ℕ) → beginRefusal l b m n ≡ 0
+    → AllPassed (not (eqb (l .opened) 0)) (laneOk l) (eqb (l .phase) 0) (serialLeft (l .serial)) (indexOk (b .index)) (beginFloatsOk b) (roomOk (l .settings) m n)
+unfolding beginRefusal
+begin-passes l b m n e = none-failed (not (eqb (l .opened) 0)) (laneOk l) (eqb (l .phase) 0) (serialLeft (l .serial)) (indexOk (b .index)) (beginFloatsOk b) (roomOk (l .settings) m n) e
+
+lead-sound : {l : Lane} (b : BeginArgs) (m n : ℕ) → beginRefusal l b m n ≡ 0 → Sound l → Sound (stampOf (l .serial + 1) (leadLane l b))
+unfolding leadLane beginLeadOf newLane idleLane
+lead-sound b m n e unopened = let z : _≡_ {A = Bool} false true = begin-passes newLane b m n e .settings-ok in absurd (let y : _≡_ {A = ℕ} 0 1 = cc in omega arith)
+lead-sound {l} b m n e (within w) =
+    let h = w .kept in
+    let t = begin-passes l b m n e in
+    let i : b .index ≤ maxIndex = leb-true (b .index) maxIndex (t .index-ok) in
     let d : InDomain (l .settings) = settings-tell (l .settings) (h .domain) in
-    let w : Within (leadLane l b) = record { had = h .had; domain = h .domain; kept = factor-within (b .factor) (cleared-within (h .kept)); going = λ q. absurd (omega arith); named = omega arith; filled = λ q. omega (arith, d .min-steps .0, d .min-steps .1); from = t; near = t } in
-    within w
+    let r : Kept (leadLane l b) = record { had = h .had; domain = h .domain; held = factor-within (b .factor) (cleared-within (h .held)); going = λ q. absurd (omega arith); named = omega arith; filled = λ q. omega (arith, d .min-steps .0, d .min-steps .1); from = i; near = i } in
+    stamp-sound (l .serial + 1) r (omega (arith, ltb-true (l .serial) spentSerial (t .serial-ok)))
 
 pub begin-sound : {l : Lane} (b : BeginArgs) (ook fsk : List ℕ) → Sound l → Sound (begun l b ook fsk .lane)
 unfolding begun
 begin-sound {l} b ook fsk h = go (eqb (beginRefusal l b (length ook) (length fsk)) 0) refl
   where
-    go : (c : Bool) → eqb (beginRefusal l b (length ook) (length fsk)) 0 ≡ c → Sound (cond c (stay (leadLane l b)) (refuse (beginRefusal l b (length ook) (length fsk)) l) .lane)
+    go : (c : Bool) → eqb (beginRefusal l b (length ook) (length fsk)) 0 ≡ c → Sound (cond c (stamped l (stay (leadLane l b))) (refuse (beginRefusal l b (length ook) (length fsk)) l) .lane)
     go true q = lead-sound b (length ook) (length fsk) (eqb-true (beginRefusal l b (length ook) (length fsk)) 0 q) h
     go false q = h
 
@@ -133,58 +167,92 @@ phase-ends next.Stay = (omega arith, λ e. omega arith, λ e. refl)
 phase-ends next.Idle = (omega arith, λ e. omega arith, λ e. absurd (omega arith))
 phase-ends (next.IdleAt x) = (omega arith, λ e. omega arith, λ e. absurd (omega arith))
 
-settled-sound : {l : Lane} (s : StepArgs) (ld : Lead) (ring : List Float) (r : Sampled) → Within l → SampledWithin (l .settings) r
-    → ld .«lead_at» ≤ maxIndex → s .index ≤ maxIndex → Sound (settleOf l s ld ring r .lane)
-unfolding settleOf
-settled-sound {l} s ld ring r h g a i =
-    let t : (phaseOf (r .next) ≤ 2) × (phaseOf (r .next) ≡ 1 → ⊥) × (phaseOf (r .next) ≡ 2 → isStayOf (r .next) ≡ true) = phase-ends (r .next) in
-    let w : Within (laneOf l (phaseOf (r .next)) (s .index) (s .x) ld ring (r .burst)) = record { had = h .had; domain = h .domain; kept = g .within; going = λ e. g .running (t .2 e); named = t .0; filled = λ e. absurd (t .1 e); from = a; near = i } in
-    within w
+-- an accepted step has the index after the last, and raises the serial with it
+record Steps (l : Lane) (s : StepArgs) : Type 0 where
+  was : Within l
+  index-most : s .index ≤ maxIndex
+  next : s .index ≡ l .last + 1
 
-lead-step-sound : {l : Lane} (s : StepArgs) (ring : List Float) (ook fsk : List ℕ) → Within l → s .index ≤ maxIndex → Sound (leadStep l s ring ook fsk .0 .lane)
-unfolding leadStep replayStep fillOf leadAddOf
-lead-step-sound {l} s ring ook fsk h i = go (ltb (ld .«lead_n») (leadLenOf (l .settings .«min_steps»))) refl
-  where
-    ld : Lead
-    ld = leadAddOf (l .lead) (s .envelope) (s .x)
+module _ {l : Lane} (s : StepArgs) (k : Steps l s) where
+  counts : (phase : ℕ) (ld : Lead) (ring : List Float) (b : Burst) → Kept (laneOf l phase (s .index) (s .x) ld ring b) → Sound (stampOf (l .serial + 1) (laneOf l phase (s .index) (s .x) ld ring b))
+  counts phase ld ring b r = stamp-sound (l .serial + 1) r (omega (arith, k .was .counted, k .next))
 
-    go : (b : Bool) → ltb (ld .«lead_n») (leadLenOf (l .settings .«min_steps»)) ≡ b → Sound (cond b (fillOf l s ld ring, ook, fsk) (replayStep l s ld ring ook fsk) .0 .lane)
-    go true n =
-        let w : Within (laneOf l 1 (s .index) (s .x) ld ring (clearedOf (l .burst))) = record { had = h .had; domain = h .domain; kept = cleared-within (h .kept); going = λ e. absurd (omega arith); named = omega arith; filled = λ e. ltb-true (ld .«lead_n») (leadLenOf (l .settings .«min_steps»)) n; from = h .from; near = i } in
-        within w
-    go false n = settled-sound s ld ring _ h (lead-within (l .settings) (s .noise) ring ld (clearedOf (l .burst)) ook fsk (settings-tell (l .settings) (h .domain)) (cleared-within (h .kept))) (h .from) i
+  settled-sound : (ld : Lead) (ring : List Float) (r : Sampled) → SampledWithin (l .settings) r → ld .«lead_at» ≤ maxIndex → Sound (stampOf (l .serial + 1) (settleOf l s ld ring r .lane))
+  unfolding settleOf
+  settled-sound ld ring r g a =
+      let h = k .was .kept in
+      let t : (phaseOf (r .next) ≤ 2) × (phaseOf (r .next) ≡ 1 → ⊥) × (phaseOf (r .next) ≡ 2 → isStayOf (r .next) ≡ true) = phase-ends (r .next) in
+      counts (phaseOf (r .next)) ld ring (r .burst)
+      (record { had = h .had; domain = h .domain; held = g .within; going = λ e. g .running (t .2 e); named = t .0; filled = λ e. absurd (t .1 e); from = a; near = k .index-most })
 
-burst-step-sound : {l : Lane} (s : StepArgs) (ring : List Float) (ook fsk : List ℕ) → Within l → l .phase ≡ 2 → s .index ≤ maxIndex → Sound (burstStep l s ring ook fsk .0 .lane)
-unfolding burstStep
-burst-step-sound {l} s ring ook fsk h e i =
-    let d : InDomain (l .settings) = settings-tell (l .settings) (h .domain) in
-    settled-sound s (l .lead) ring _ h (sample-within (l .settings) (omega (arith, d .max-pulses .1)) (d .long-steps .1) _ ring (clearedOf (l .burst)) ook fsk (cleared-within (h .kept)) (cleared-runs (l .settings) (l .burst) (h .going e))) (h .from) i
+  lead-step-sound : (ring : List Float) (ook fsk : List ℕ) → Sound (stampOf (l .serial + 1) (leadStep l s ring ook fsk .0 .lane))
+  unfolding leadStep replayStep fillOf leadAddOf
+  lead-step-sound ring ook fsk = go (ltb (ld .«lead_n») (leadLenOf (l .settings .«min_steps»))) refl
+    where
+      h : Kept l
+      h = k .was .kept
 
-advance-sound : {l : Lane} (s : StepArgs) (ook fsk : List ℕ) → Within l → (l .phase ≡ 0 → ⊥) → s .index ≤ maxIndex → Sound (advanceOf l s ook fsk .0 .lane)
-unfolding advanceOf
-advance-sound {l} s ook fsk h busy i = go (eqb (l .phase) 1) refl
-  where
-    ring : List Float
-    ring = ringOf (l .ring) (s .index) (s .envelope)
+      ld : Lead
+      ld = leadAddOf (l .lead) (s .envelope) (s .x)
 
-    go : (b : Bool) → eqb (l .phase) 1 ≡ b → Sound (cond b (leadStep l s ring ook fsk) (burstStep l s ring ook fsk) .0 .lane)
-    go true q = lead-step-sound s ring ook fsk h i
-    go false q = burst-step-sound s ring ook fsk h (omega (arith, h .named, busy, eqb-false (l .phase) 1 q)) i
+      go : (b : Bool) → ltb (ld .«lead_n») (leadLenOf (l .settings .«min_steps»)) ≡ b → Sound (stampOf (l .serial + 1) (cond b (fillOf l s ld ring, ook, fsk) (replayStep l s ld ring ook fsk) .0 .lane))
+      go true n =
+          counts 1 ld ring (clearedOf (l .burst))
+          (record { had = h .had; domain = h .domain; held = cleared-within (h .held); going = λ e. absurd (omega arith); named = omega arith; filled = λ e. ltb-true (ld .«lead_n») (leadLenOf (l .settings .«min_steps»)) n; from = h .from; near = k .index-most })
+      go false n = settled-sound ld ring _ (lead-within (l .settings) (s .noise) ring ld (clearedOf (l .burst)) ook fsk (settings-tell (l .settings) (h .domain)) (cleared-within (h .held))) (h .from)
 
-accepted-sound : {l : Lane} (s : StepArgs) (ook fsk : List ℕ) → stepRefusal l s (length ook) (length fsk) ≡ 0 → Sound l → Sound (advanceOf l s ook fsk .0 .lane)
-unfolding stepRefusal newLane idleLane
-accepted-sound s ook fsk e unopened = let z : _≡_ {A = Bool} false true = none-failed true (laneOk newLane) false (indexOk (s .index) && followsOf 0 (s .index)) (stepFloatsOk s) (roomOk (newLane .settings) (length ook) (length fsk)) e .2 in absurd (let y : _≡_ {A = ℕ} 0 1 = cc in omega arith)
+  burst-step-sound : (ring : List Float) (ook fsk : List ℕ) → l .phase ≡ 2 → Sound (stampOf (l .serial + 1) (burstStep l s ring ook fsk .0 .lane))
+  unfolding burstStep
+  burst-step-sound ring ook fsk e =
+      let h = k .was .kept in
+      let d : InDomain (l .settings) = settings-tell (l .settings) (h .domain) in
+      settled-sound (l .lead) ring _ (sample-within (l .settings) (omega (arith, d .max-pulses .1)) (d .long-steps .1) _ ring (clearedOf (l .burst)) ook fsk (cleared-within (h .held)) (cleared-runs (l .settings) (l .burst) (h .going e))) (h .from)
+
+  advance-sound : (ook fsk : List ℕ) → (l .phase ≡ 0 → ⊥) → Sound (stampOf (l .serial + 1) (advanceOf l s ook fsk .0 .lane))
+  unfolding advanceOf
+  advance-sound ook fsk busy = go (eqb (l .phase) 1) refl
+    where
+      ring : List Float
+      ring = ringOf (l .ring) (s .index) (s .envelope)
+
+      go : (b : Bool) → eqb (l .phase) 1 ≡ b → Sound (stampOf (l .serial + 1) (cond b (leadStep l s ring ook fsk) (burstStep l s ring ook fsk) .0 .lane))
+      go true q = lead-step-sound ring ook fsk
+      go false q = burst-step-sound ring ook fsk (omega (arith, k .was .kept .named, busy, eqb-false (l .phase) 1 q))
+
+pub step-passes : (l : Lane) (s : StepArgs) (m n : ℕ) → stepRefusal l s m n ≡ 0
+    → AllPassed true (laneOk l) (not (eqb (l .phase) 0)) true (indexOk (s .index) && followsOf (l .last) (s .index)) (stepFloatsOk s) (roomOk (l .settings) m n)
+unfolding stepRefusal
+step-passes l s m n e = none-failed true (laneOk l) (not (eqb (l .phase) 0)) true (indexOk (s .index) && followsOf (l .last) (s .index)) (stepFloatsOk s) (roomOk (l .settings) m n) e
+
+follows-is : (last index : ℕ) → followsOf last index ≡ true → index ≡ last + 1
+unfolding followsOf
+follows-is last index q = eqb-true index (last + 1) q
+
+accepted-sound : {l : Lane} (s : StepArgs) (ook fsk : List ℕ) → stepRefusal l s (length ook) (length fsk) ≡ 0 → Sound l → Sound (stampOf (l .serial + 1) (advanceOf l s ook fsk .0 .lane))
+unfolding newLane idleLane
+accepted-sound s ook fsk e unopened = let z : _≡_ {A = Bool} false true = step-passes newLane s (length ook) (length fsk) e .phase-ok in absurd (let y : _≡_ {A = ℕ} 0 1 = cc in omega arith)
 accepted-sound {l} s ook fsk e (within h) =
-    let t = none-failed true (laneOk l) (not (eqb (l .phase) 0)) (indexOk (s .index) && followsOf (l .last) (s .index)) (stepFloatsOk s) (roomOk (l .settings) (length ook) (length fsk)) e in
-    advance-sound s ook fsk h (eqb-false (l .phase) 0 (not-true (eqb (l .phase) 0) (t .2))) (leb-true (s .index) maxIndex (both-true (indexOk (s .index)) (followsOf (l .last) (s .index)) (t .3) .0))
+    let t = step-passes l s (length ook) (length fsk) e in
+    let i = both-true (indexOk (s .index)) (followsOf (l .last) (s .index)) (t .index-ok) in
+    advance-sound s (record { was = h; index-most = leb-true (s .index) maxIndex (i .0); next = follows-is (l .last) (s .index) (i .1) }) ook fsk (eqb-false (l .phase) 0 (not-true (eqb (l .phase) 0) (t .phase-ok)))
 
 pub step-sound : {l : Lane} (s : StepArgs) (ook fsk : List ℕ) → Sound l → Sound (stepped l s ook fsk .0 .lane)
 unfolding stepped
 step-sound {l} s ook fsk h = go (eqb (stepRefusal l s (length ook) (length fsk)) 0) refl
   where
-    go : (c : Bool) → eqb (stepRefusal l s (length ook) (length fsk)) 0 ≡ c → Sound (cond c (advanceOf l s ook fsk) (refuse (stepRefusal l s (length ook) (length fsk)) l, ook, fsk) .0 .lane)
+    go : (c : Bool) → eqb (stepRefusal l s (length ook) (length fsk)) 0 ≡ c → Sound (cond c (stampedWith l (advanceOf l s ook fsk)) (refuse (stepRefusal l s (length ook) (length fsk)) l, ook, fsk) .0 .lane)
     go true q = accepted-sound s ook fsk (eqb-true (stepRefusal l s (length ook) (length fsk)) 0 q) h
     go false q = h
+
+-- the records of a sound lane have its serial
+pub own-records : {l : Lane} → Sound l → stampOf (l .serial) l ≡ l
+unfolding stampOf newLane idleLane noBurst
+own-records unopened = refl
+own-records {l} (within w) =
+    ap (λ (n : ℕ). withBurst l (withSerials n (l .serial) (l .burst))) (sym (w .own-ook)) ∙ ap (λ (n : ℕ). withBurst l (withSerials (l .burst .«out_ook» .serial) n (l .burst))) (sym (w .own-fsk))
+  where
+    withBurst : Lane → Burst → Lane
+    withBurst l b = record { opened = l .opened; settings = l .settings; phase = l .phase; last = l .last; «x_prev» = l .«x_prev»; lead = l .lead; ring = l .ring; burst = b; serial = l .serial }
 
 reached-sound : {l : Lane} → Reached l → Sound l
 reached-sound new = unopened
@@ -197,21 +265,22 @@ pub reached-ok : {l : Lane} → Reached l → laneOk l ≡ true
 reached-ok r = sound-ok (reached-sound r)
 
 -- where the lane passes its check, the first refusal is another one than 4
-not-four : (s l p i f r : Bool) → l ≡ true → firstFailed s l p i f r ≡ 4 → ⊥
+not-four : (s l p n i f r : Bool) → l ≡ true → firstFailed s l p n i f r ≡ 4 → ⊥
 unfolding firstFailed
-not-four s false p i f r q e = let y : _≡_ {A = ℕ} 0 1 = cc in omega arith
-not-four false true p i f r q e = omega arith
-not-four true true false i f r q e = omega arith
-not-four true true true false f r q e = omega arith
-not-four true true true true false r q e = omega arith
-not-four true true true true true false q e = omega arith
-not-four true true true true true true q e = omega arith
+not-four s false p n i f r q e = let y : _≡_ {A = ℕ} 0 1 = cc in omega arith
+not-four false true p n i f r q e = omega arith
+not-four true true false n i f r q e = omega arith
+not-four true true true false i f r q e = omega arith
+not-four true true true true false f r q e = omega arith
+not-four true true true true true false r q e = omega arith
+not-four true true true true true true false q e = omega arith
+not-four true true true true true true true q e = omega arith
 
--- no list of calls meets refusal 4; an opening has no refusal but 3
+-- no list of calls meets refusal 4; an opening has no refusal but 3 and 13
 pub begin-not-four : {l : Lane} → Reached l → (b : BeginArgs) (ook fsk : ℕ) → beginRefusal l b ook fsk ≡ 4 → ⊥
 unfolding beginRefusal
-begin-not-four {l} r b ook fsk = not-four (not (eqb (l .opened) 0)) (laneOk l) (eqb (l .phase) 0) (indexOk (b .index)) (beginFloatsOk b) (roomOk (l .settings) ook fsk) (reached-ok r)
+begin-not-four {l} r b ook fsk = not-four (not (eqb (l .opened) 0)) (laneOk l) (eqb (l .phase) 0) (serialLeft (l .serial)) (indexOk (b .index)) (beginFloatsOk b) (roomOk (l .settings) ook fsk) (reached-ok r)
 
 pub step-not-four : {l : Lane} → Reached l → (s : StepArgs) (ook fsk : ℕ) → stepRefusal l s ook fsk ≡ 4 → ⊥
 unfolding stepRefusal
-step-not-four {l} r s ook fsk = not-four true (laneOk l) (not (eqb (l .phase) 0)) (indexOk (s .index) && followsOf (l .last) (s .index)) (stepFloatsOk s) (roomOk (l .settings) ook fsk) (reached-ok r)
+step-not-four {l} r s ook fsk = not-four true (laneOk l) (not (eqb (l .phase) 0)) true (indexOk (s .index) && followsOf (l .last) (s .index)) (stepFloatsOk s) (roomOk (l .settings) ook fsk) (reached-ok r)

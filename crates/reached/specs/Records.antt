@@ -25,21 +25,22 @@ use Rattle.burst.specs.declared.Burst.{Burst}
 use Rattle.burst.specs.declared.Lead.{Lead}
 use Rattle.burst.specs.Lead.{leadAddOf, largestOf, beginBurstOf, staying, replayOf, leadFullOf}
 use Rattle.limits.specs.Pairs.{Paired, BurstFits, SampledFits, sample-fits, replay-fits, begin-burst-fits}
-use Rattle.refusals.specs.Domain.{InDomain, settings-tell, settingsOk, indexOk, roomOk}
+use Rattle.refusals.specs.Domain.{InDomain, settings-tell}
 use Rattle.refusals.specs.State.{flag, envOk, trainOk, runsOk, committedOk, outOk, presOk, frameOk, burstOk}
-use Rattle.refusals.specs.Order.{none-failed}
 use Rattle.reached.specs.Kept.{cleared-fits}
 use Rattle.lane.specs.declared.BeginArgs.{BeginArgs}
 use Rattle.lane.specs.declared.StepArgs.{StepArgs}
 use Rattle.lane.specs.declared.Lane.{Lane}
 use Rattle.lane.specs.declared.Answer.{Answer}
 use Rattle.lane.specs.Answers.{replyNumberOf}
-use Rattle.lane.specs.Refusals.{openedOk, opened-tells, laneOk, followsOf, stepFloatsOk, beginRefusal, stepRefusal, Passes, lane-passes}
-use Rattle.lane.specs.Idle.{noOut, noBurst, idleLane}
+use Rattle.lane.specs.Refusals.{openedOk, opened-tells, laneOk, openRefusal, beginRefusal, stepRefusal, Passes, lane-passes}
+use Rattle.lane.specs.Idle.{noBurst, idleLane}
 use Rattle.lane.specs.Begin.{ringOf, clearedOf, leadLane}
 use Rattle.lane.specs.Advance.{settleOf, fillOf, replayStep, leadStep, atOf, burstStep, advanceOf}
+use Rattle.lane.specs.Serial.{stampOf, stamped, stampedWith}
 use Rattle.lane.specs.Step.{refuse, stay, opened, begun, stepped}
-use Rattle.lane.specs.Part.{front, partOf}
+use Rattle.lane.specs.Part.{front, namedOf, partRefusal, partOf}
+use Rattle.reached.specs.Reached.{step-passes}
 
 -- ---- what refusal 4's check says of the train and of the frame's pairs
 
@@ -92,11 +93,10 @@ domain-tells had phase p busy h = settings-tell p (opened-tells had phase p h (g
     go false b q = refl
 
 ready : (l : Lane) (s : StepArgs) (m n : ℕ) → stepRefusal l s m n ≡ 0 → Ready l
-unfolding stepRefusal
 ready l s m n e =
-    let t = none-failed true (laneOk l) (not (eqb (l .phase) 0)) (indexOk (s .index) && followsOf (l .last) (s .index)) (stepFloatsOk s) (roomOk (l .settings) m n) e in
-    let k : Passes l = lane-passes l (t .1) in
-    record { domain = domain-tells (l .opened) (l .phase) (l .settings) (not-true (eqb (l .phase) 0) (t .2)) (k .had); fits = burst-tells (l .settings .«max_pulses») (l .burst) (k .within) }
+    let t = step-passes l s m n e in
+    let k : Passes l = lane-passes l (t .lane-ok) in
+    record { domain = domain-tells (l .opened) (l .phase) (l .settings) (not-true (eqb (l .phase) 0) (t .phase-ok)) (k .had); fits = burst-tells (l .settings .«max_pulses») (l .burst) (k .within) }
 
 abbrev AnswerFits : ℕ → Answer × List ℕ × List ℕ → Type 0
 AnswerFits max q = BurstFits max (q .0 .lane .burst)
@@ -128,59 +128,59 @@ pub record RecordsFit (max : ℕ) (b : Burst) : Type 0 where
   pub ook-pairs : b .«out_ook» .pairs ≤ max
   pub fsk-pairs : b .«out_fsk» .pairs ≤ max
 
--- both records are cleared: neither decides
+-- both records are cleared: neither decides, and neither has a pair
 pub record NoRecords (b : Burst) : Type 0 where
-  pub ook-none : b .«out_ook» ≡ noOut
-  pub fsk-none : b .«out_fsk» ≡ noOut
+  pub ook-none : b .«out_ook» .pairs ≡ 0
+  pub fsk-none : b .«out_fsk» .pairs ≡ 0
 
 pub records-fit-step : (l : Lane) (s : StepArgs) (ook fsk : List ℕ) → stepRefusal l s (length ook) (length fsk) ≡ 0 → RecordsFit (l .settings .«max_pulses») (stepped l s ook fsk .0 .lane .burst)
-unfolding stepped
+unfolding stepped stampOf
 records-fit-step l s ook fsk e =
     let f : AnswerFits (l .settings .«max_pulses») (advanceOf l s ook fsk) = advance-fits l s (ready l s (length ook) (length fsk) e) ook fsk in
     rw e (record { ook-pairs = f .ook-within .room; fsk-pairs = f .fsk-within .room })
 
 pub records-none-begin : (l : Lane) (b : BeginArgs) (ook fsk : List ℕ) → beginRefusal l b (length ook) (length fsk) ≡ 0 → NoRecords (begun l b ook fsk .lane .burst)
-unfolding begun leadLane clearedOf
+unfolding begun leadLane clearedOf stampOf
 records-none-begin l b ook fsk e = rw e (record { ook-none = refl; fsk-none = refl })
 
-pub records-none-open : (l : Lane) (p : Settings) → settingsOk p ≡ true → NoRecords (opened l p .lane .burst)
-unfolding opened idleLane noBurst
+pub records-none-open : (l : Lane) (p : Settings) → openRefusal l p ≡ 0 → NoRecords (opened l p .lane .burst)
+unfolding opened idleLane noBurst stampOf
 records-none-open l p e = rw e (record { ook-none = refl; fsk-none = refl })
 
 -- ---- their slots
 
--- of the buffers ook and fsk at most `most` slots belong to either record
-pub record PartsFit (most : ℕ) (b : Burst) (ook fsk : List ℕ) : Type 0 where
-  pub ook-part : length (partOf (b .«out_ook») ook fsk) ≤ most
-  pub fsk-part : length (partOf (b .«out_fsk») ook fsk) ≤ most
+-- of the buffers ook and fsk at most `most` slots belong to either record of the lane
+pub record PartsFit (most : ℕ) (l : Lane) (ook fsk : List ℕ) : Type 0 where
+  pub ook-part : length (partOf l (l .burst .«out_ook») ook fsk) ≤ most
+  pub fsk-part : length (partOf l (l .burst .«out_fsk») ook fsk) ≤ most
 
 front-most : (n : ℕ) (s : List ℕ) → length (front n s) ≤ n
 unfolding front
 front-most n s = either (λ (q : List ℕ). length q ≤ n) (leb n (length s)) (omega (arith, length-take n s)) (omega arith)
 
-part-most : (most : ℕ) (r : Out) (ook fsk : List ℕ) → 2 * r .pairs ≤ most → length (partOf r ook fsk) ≤ most
-unfolding partOf
-part-most most r ook fsk h =
+part-most : (most : ℕ) (l : Lane) (r : Out) (ook fsk : List ℕ) → 2 * r .pairs ≤ most → length (partOf l r ook fsk) ≤ most
+unfolding partOf namedOf
+part-most most l r ook fsk h =
     let short : List ℕ → Type 0 = λ (q : List ℕ). length q ≤ most in
-    either short (eqb (r .state) 1)
+    either short (eqb (partRefusal l r) 0)
+    (either short (eqb (r .state) 1)
     (either short (eqb (r .fsk) 1) (omega (arith, front-most (2 * r .pairs) fsk)) (omega (arith, front-most (2 * r .pairs) ook)))
+    (omega arith))
     (omega arith)
 
-pub parts-fit-step : (l : Lane) (s : StepArgs) (ook fsk : List ℕ) → stepRefusal l s (length ook) (length fsk) ≡ 0 → (x y : List ℕ) → PartsFit (2 * l .settings .«max_pulses») (stepped l s ook fsk .0 .lane .burst) x y
+pub parts-fit-step : (l : Lane) (s : StepArgs) (ook fsk : List ℕ) → stepRefusal l s (length ook) (length fsk) ≡ 0 → (x y : List ℕ) → PartsFit (2 * l .settings .«max_pulses») (stepped l s ook fsk .0 .lane) x y
 parts-fit-step l s ook fsk e x y =
     let f = records-fit-step l s ook fsk e in
-    record { ook-part = part-most _ _ x y (omega (arith, f .ook-pairs)); fsk-part = part-most _ _ x y (omega (arith, f .fsk-pairs)) }
+    record { ook-part = part-most _ _ _ x y (omega (arith, f .ook-pairs)); fsk-part = part-most _ _ _ x y (omega (arith, f .fsk-pairs)) }
 
-none-most : (most : ℕ) (b : Burst) → NoRecords b → (x y : List ℕ) → PartsFit most b x y
-none-most most b n x y =
-    let z : length (partOf noOut x y) ≤ most = part-most most noOut x y (omega arith) in
-    record { ook-part = rw (n .ook-none) z; fsk-part = rw (n .fsk-none) z }
+none-most : (most : ℕ) (l : Lane) → NoRecords (l .burst) → (x y : List ℕ) → PartsFit most l x y
+none-most most l n x y = record { ook-part = part-most most l _ x y (omega (arith, n .ook-none)); fsk-part = part-most most l _ x y (omega (arith, n .fsk-none)) }
 
-pub parts-fit-begin : (l : Lane) (b : BeginArgs) (ook fsk : List ℕ) → beginRefusal l b (length ook) (length fsk) ≡ 0 → (most : ℕ) (x y : List ℕ) → PartsFit most (begun l b ook fsk .lane .burst) x y
-parts-fit-begin l b ook fsk e most = none-most most (begun l b ook fsk .lane .burst) (records-none-begin l b ook fsk e)
+pub parts-fit-begin : (l : Lane) (b : BeginArgs) (ook fsk : List ℕ) → beginRefusal l b (length ook) (length fsk) ≡ 0 → (most : ℕ) (x y : List ℕ) → PartsFit most (begun l b ook fsk .lane) x y
+parts-fit-begin l b ook fsk e most = none-most most (begun l b ook fsk .lane) (records-none-begin l b ook fsk e)
 
-pub parts-fit-open : (l : Lane) (p : Settings) → settingsOk p ≡ true → (most : ℕ) (x y : List ℕ) → PartsFit most (opened l p .lane .burst) x y
-parts-fit-open l p e most = none-most most (opened l p .lane .burst) (records-none-open l p e)
+pub parts-fit-open : (l : Lane) (p : Settings) → openRefusal l p ≡ 0 → (most : ℕ) (x y : List ℕ) → PartsFit most (opened l p .lane) x y
+parts-fit-open l p e most = none-most most (opened l p .lane) (records-none-open l p e)
 
 -- an accepted step has settings of the domain
 pub domain-step : (l : Lane) (s : StepArgs) (m n : ℕ) → stepRefusal l s m n ≡ 0 → InDomain (l .settings)
@@ -194,7 +194,7 @@ pub answered-step : (l : Lane) (s : StepArgs) (ook fsk : List ℕ) → (replyNum
 unfolding stepped
 answered-step l s ook fsk = go (stepRefusal l s (length ook) (length fsk)) (eqb (stepRefusal l s (length ook) (length fsk)) 0) refl
   where
-    go : (k : ℕ) (b : Bool) → eqb k 0 ≡ b → (replyNumberOf (cond b (advanceOf l s ook fsk) (refuse k l, ook, fsk) .0 .reply) ≡ 3 → ⊥) → k ≡ 0
+    go : (k : ℕ) (b : Bool) → eqb k 0 ≡ b → (replyNumberOf (cond b (stampedWith l (advanceOf l s ook fsk)) (refuse k l, ook, fsk) .0 .reply) ≡ 3 → ⊥) → k ≡ 0
     go k true q h = eqb-true k 0 q
     go k false q h = absurd (h refl)
 
@@ -202,14 +202,14 @@ pub answered-begin : (l : Lane) (b : BeginArgs) (ook fsk : List ℕ) → (replyN
 unfolding begun
 answered-begin l b ook fsk = go (beginRefusal l b (length ook) (length fsk)) (eqb (beginRefusal l b (length ook) (length fsk)) 0) refl
   where
-    go : (k : ℕ) (c : Bool) → eqb k 0 ≡ c → (replyNumberOf (cond c (stay (leadLane l b)) (refuse k l) .reply) ≡ 3 → ⊥) → k ≡ 0
+    go : (k : ℕ) (c : Bool) → eqb k 0 ≡ c → (replyNumberOf (cond c (stamped l (stay (leadLane l b))) (refuse k l) .reply) ≡ 3 → ⊥) → k ≡ 0
     go k true q h = eqb-true k 0 q
     go k false q h = absurd (h refl)
 
-pub answered-open : (l : Lane) (p : Settings) → (replyNumberOf (opened l p .reply) ≡ 3 → ⊥) → settingsOk p ≡ true
+pub answered-open : (l : Lane) (p : Settings) → (replyNumberOf (opened l p .reply) ≡ 3 → ⊥) → openRefusal l p ≡ 0
 unfolding opened
-answered-open l p = go (settingsOk p)
+answered-open l p = go (openRefusal l p) (eqb (openRefusal l p) 0) refl
   where
-    go : (b : Bool) → (replyNumberOf (cond b (stay (idleLane 1 p)) (refuse 3 l) .reply) ≡ 3 → ⊥) → b ≡ true
-    go true h = refl
-    go false h = absurd (h refl)
+    go : (k : ℕ) (b : Bool) → eqb k 0 ≡ b → (replyNumberOf (cond b (stamped l (stay (idleLane 1 p))) (refuse k l) .reply) ≡ 3 → ⊥) → k ≡ 0
+    go k true q h = eqb-true k 0 q
+    go k false q h = absurd (h refl)

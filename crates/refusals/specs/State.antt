@@ -15,6 +15,7 @@ use Rattle.fsk.specs.declared.Frame.{Frame}
 use Rattle.presence.specs.declared.Pres.{Pres}
 use Rattle.burst.specs.declared.Burst.{Burst}
 use Rattle.burst.specs.declared.Lead.{Lead}
+use Rattle.refusals.specs.Serial.{serialOk}
 
 abbrev pub flag : ℕ → Bool
 flag n = leb n 1
@@ -43,7 +44,7 @@ frameOk max f =
     && runsOk (f .runs) && committedOk max (f .done)
 
 abbrev pub outOk : Out → Bool
-outOk o = flag (o .state) && flag (o .cut) && flag (o .fsk)
+outOk o = flag (o .state) && flag (o .cut) && flag (o .fsk) && serialOk (o .serial)
 
 unfoldable pub burstOk : ℕ → Burst → Bool
 burstOk max b =

@@ -2,6 +2,7 @@
 ghost use mathlib.Core.Path.{_≡_};
 ghost use Prim.Native.Nat.{_+_};
 ghost use lib.Dec.{leb};
+ghost use Rattle.refusals.specs.Serial.{serialOk, serialLeft, serialsMatch};
 ghost use Rattle.refusals.specs.Domain.{within, between, settingsOk, unsetOk, factorOk, envelopeOk, sampleOk, indexOk, roomOk};
 ghost use Rattle.refusals.specs.State.{flag, envOk, trainOk, presOk, runsOk, committedOk, frameOk, outOk, burstOk, leadOk, candOk};
 ghost use Rattle.refusals.specs.Order.{check, firstFailed};
@@ -88,6 +89,20 @@ pub fn index_ok(i: u64) -> bool
     i <= domain::MAX_INDEX
 }
 
+// Refusal 13 of begin and opening: the serial is not spent.
+pub fn serial_left(serial: u64) -> bool
+    ensures { λ r. ⌜ r ≡ serialLeft serial ⌝ }
+{
+    serial < domain::SPENT_SERIAL
+}
+
+// Refusal 13 of fetching a part: the record is of the lane's last accepted call, and so not of none, 0.
+pub fn serials_match(lane: u64, out: u64) -> bool
+    ensures { λ r. ⌜ r ≡ serialsMatch lane out ⌝ }
+{
+    (out != 0) & (out == lane)
+}
+
 // Refusal 8: the buffers have two slots for each pulse, the FSK buffer outside OOK mode only.
 pub fn room_ok(p: Settings, ook: usize, fsk: usize) -> bool
     ensures { λ r. ⌜ r ≡ roomOk p ook fsk ⌝ }
@@ -153,10 +168,17 @@ fn frame_ok(max: u32, f: Frame) -> bool
         & committed_ok(max, done)
 }
 
+// Refusal 4's bound of a serial, the lane's and its records'.
+pub fn serial_ok(serial: u64) -> bool
+    ensures { λ r. ⌜ r ≡ serialOk serial ⌝ }
+{
+    serial <= domain::MAX_SERIAL
+}
+
 fn out_ok(o: Out) -> bool
     ensures { λ r. ⌜ r ≡ outOk o ⌝ }
 {
-    (o.state <= 1) & (o.cut <= 1) & (o.fsk <= 1)
+    (o.state <= 1) & (o.cut <= 1) & (o.fsk <= 1) & serial_ok(o.serial)
 }
 
 pub fn burst_ok(max: u32, b: Burst) -> bool
@@ -189,7 +211,7 @@ pub fn cand_ok(phase: u32, min_steps: u32, f: Frame) -> bool
 }
 
 // k where a check fails, and else what the later checks give.
-fn check(k: u32, ok: bool, rest: u32) -> u32
+pub fn check(k: u32, ok: bool, rest: u32) -> u32
     ensures { λ r. ⌜ r ≡ check k ok rest ⌝ }
 {
     if ok {
@@ -203,23 +225,14 @@ pub fn first_failed(
     settings: bool,
     lane: bool,
     phase: bool,
+    serial: bool,
     index: bool,
     floats: bool,
     room: bool,
 ) -> u32
-    ensures { λ r. ⌜ r ≡ firstFailed settings lane phase index floats room ⌝ }
+    ensures { λ r. ⌜ r ≡ firstFailed settings lane phase serial index floats room ⌝ }
 {
-    check(
-        3,
-        settings,
-        check(
-            4,
-            lane,
-            check(
-                5,
-                phase,
-                check(6, index, check(7, floats, check(8, room, 0))),
-            ),
-        ),
-    )
+    let values = check(7, floats, check(8, room, 0));
+    let numbers = check(13, serial, check(6, index, values));
+    check(3, settings, check(4, lane, check(5, phase, numbers)))
 }

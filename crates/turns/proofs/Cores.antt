@@ -7,31 +7,40 @@ use native.Mathlib.Omega.{arith}
 use lib.Dec.{eqb}
 use lib.Ieee.{Float}
 use Rattle.arith.specs.Leaves.{leadLenOf}
+use borrow.Author.Tests.{leb-true}
+use Rattle.domain.specs.Limits.{maxSerial}
 use Rattle.refusals.specs.Domain.{settings-tell}
 use Rattle.lane.specs.declared.Core.{Core}
 use Rattle.lane.specs.declared.Lane.{Lane}
 use Rattle.lane.specs.declared.Reply.{Reply}
 use Rattle.lane.specs.Core.{zipOf, zip-parts, realsOf, imaginariesOf, joinedOf}
+use Rattle.lane.specs.Refusals.{lane-passes}
+use Rattle.lane.specs.Serial.{stampOf}
 use Rattle.lane.specs.Step.{newLane}
 use Rattle.lane.specs.Idle.{idleLane}
-use Rattle.reached.specs.Reached.{Sound, unopened, within}
+use Rattle.reached.specs.Reached.{Sound, unopened, within, sound-ok, own-records}
 use Rattle.turns.specs.declared.Past.{Past}
 use Rattle.turns.specs.Turn.{State}
 use Rattle.turns.specs.Steps.{Passed}
 
-pub joined-back : (l : Lane) (c : Core) (es re im : List Float)
-    → ((re im : List Float) → zipOf re im ≡ l .lead .«lead_x» → joinedOf c (l .lead .«lead_e») re im (l .ring) (l .burst .frame .cand .«cand_f») ≡ l)
+-- a sound lane's records have its serial, so that its core and arrays join to it
+pub joined-back : (l : Lane) (c : Core) (es re im : List Float) → Sound l
+    → ((re im : List Float) → zipOf re im ≡ l .lead .«lead_x» → joinedOf c (l .lead .«lead_e») re im (l .ring) (l .burst .frame .cand .«cand_f») ≡ stampOf (l .serial) l)
     → es ≡ l .lead .«lead_e» → re ≡ realsOf (l .lead .«lead_x») → im ≡ imaginariesOf (l .lead .«lead_x»)
     → joinedOf c es re im (l .ring) (l .burst .frame .cand .«cand_f») ≡ l
-joined-back l c es re im parts is-es is-re is-im =
+joined-back l c es re im sound parts is-es is-re is-im =
     ap (λ (x : List Float). joinedOf c x re im (l .ring) (l .burst .frame .cand .«cand_f»)) is-es
     ∙ parts re im (ap (λ (x : List Float). zipOf x im) is-re ∙ ap (zipOf (realsOf (l .lead .«lead_x»))) is-im ∙ zip-parts (l .lead .«lead_x»))
+    ∙ own-records sound
 
 -- the lead-in of a sound lane has a place at least
 pub sound-lead : {l : Lane} → Sound l → eqb (l .phase) 1 ≡ true → 1 ≤ leadLenOf (l .settings .«min_steps»)
 unfolding newLane idleLane
 sound-lead unopened e = let z : _≡_ {A = Bool} false true = e in absurd (let y : _≡_ {A = ℕ} 0 1 = cc in omega arith)
-sound-lead {l} (within h) e = let d = settings-tell (l .settings) (h .domain) in omega (arith, d .min-steps .0, d .min-steps .1)
+sound-lead {l} (within h) e = let d = settings-tell (l .settings) (h .kept .domain) in omega (arith, d .min-steps .0, d .min-steps .1)
+
+pub sound-serial : {l : Lane} → Sound l → l .serial ≤ maxSerial
+sound-serial {l} h = leb-true (l .serial) maxSerial (lane-passes l (sound-ok h) .counted)
 
 abbrev pub pastOf : Lane → ℕ → Reply → ℕ → Past
 pastOf l used r index = record { lane = l; used = used; reply = r; index = index }

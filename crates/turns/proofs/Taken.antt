@@ -22,6 +22,7 @@ use Rattle.lane.specs.Core.{answerOf}
 use Rattle.lane.specs.Refusals.{stepRefusalBy, stepRefusal}
 use Rattle.lane.specs.Begin.{ringOf}
 use Rattle.lane.specs.Advance.{settleOf, fillOf, replayStep, leadStep, burstStep, advanceOf}
+use Rattle.lane.specs.Serial.{stampOf, stampedWith}
 use Rattle.lane.specs.Step.{refuse, steppedBy, stepped}
 use Rattle.reached.specs.Reached.{Sound, sound-ok, open-sound, begin-sound, step-sound}
 use Rattle.commands.specs.declared.Command.{Command}
@@ -136,12 +137,16 @@ passed-one p s from k r q size inside sound is-k ready is-size is-index is-used 
 
 -- ---- steps one after another
 
-silent : (r : Reply) (f o : Out) (ook fsk : List ℕ) (index : ℕ) → quietOf r (f .state) (o .state) ≡ true → answerText r f o ook fsk index ≡ []
+silent : (r : Reply) (l : Lane) (ook fsk : List ℕ) (index : ℕ) → quietOf r (l .burst .«out_fsk» .state) (l .burst .«out_ook» .state) ≡ true → answerText r l ook fsk index ≡ []
 unfolding answerText callText recordLine
-silent (reply.Refused k) f o ook fsk index h = let z : _≡_ {A = Bool} false true = h in cc
-silent reply.Stay f o ook fsk index h = let b = both-true (not (eqb (f .state) 1)) (not (eqb (o .state) 1)) h in simp (not-true (eqb (f .state) 1) (b .0), not-true (eqb (o .state) 1) (b .1))
-silent reply.Idle f o ook fsk index h = let z : _≡_ {A = Bool} false true = h in cc
-silent (reply.IdleAt e) f o ook fsk index h = let z : _≡_ {A = Bool} false true = h in cc
+silent (reply.Refused k) l ook fsk index h = let z : _≡_ {A = Bool} false true = h in cc
+silent reply.Stay l ook fsk index h =
+    let f = l .burst .«out_fsk» in
+    let o = l .burst .«out_ook» in
+    let b = both-true (not (eqb (f .state) 1)) (not (eqb (o .state) 1)) h in
+    simp (not-true (eqb (f .state) 1) (b .0), not-true (eqb (o .state) 1) (b .1))
+silent reply.Idle l ook fsk index h = let z : _≡_ {A = Bool} false true = h in cc
+silent (reply.IdleAt e) l ook fsk index h = let z : _≡_ {A = Bool} false true = h in cc
 
 -- the last call prints nothing
 abbrev pub Quiet : Past → State → Type 0
@@ -168,7 +173,7 @@ passed-then p s from r q z n h up quiet keeps sees on g =
         (ne-eqb (z .used) from (λ e. omega (arith, e)) ∙ sym (ne-eqb (z .used) (r .used) (λ e. omega (arith, e))))
         ∙ g .same t (sees t)
         ∙ sym
-        (ap (λ (w : List ℕ). w ++ cond (eqb (r .used) from) [] (listing q (drop (r .used) s ++ t))) (silent (r .reply) (q .0 .burst .«out_fsk») (q .0 .burst .«out_ook») (q .1) (q .2) (r .index) quiet)
+        (ap (λ (w : List ℕ). w ++ cond (eqb (r .used) from) [] (listing q (drop (r .used) s ++ t))) (silent (r .reply) (q .0) (q .1) (q .2) (r .index) quiet)
         ∙ ap (λ (b : Bool). cond b [] (listing q (drop (r .used) s ++ t))) (ne-eqb (r .used) from (λ e. omega (arith, e))))
         ∙ h .same t seen
 
@@ -225,7 +230,7 @@ steps-kept (none e d) = record { settings = ap (λ (q : State). q .0 .settings) 
 steps-kept (some up quiet keeps g) = keeps
 
 step-settings : (l : Lane) (a : StepArgs) (ook fsk : List ℕ) → stepped l a ook fsk .0 .lane .settings ≡ l .settings
-unfolding stepped advanceOf leadStep fillOf replayStep burstStep settleOf
+unfolding stepped stampOf advanceOf leadStep fillOf replayStep burstStep settleOf
 step-settings l a ook fsk = go (eqb (stepRefusal l a (length ook) (length fsk)) 0) (eqb (l .phase) 1) (ltb (ld .«lead_n») (leadLenOf (l .settings .«min_steps»)))
   where
     ring : List Float
@@ -234,7 +239,7 @@ step-settings l a ook fsk = go (eqb (stepRefusal l a (length ook) (length fsk)) 
     ld : Lead
     ld = leadAddOf (l .lead) (a .envelope) (a .x)
 
-    go : (b d e : Bool) → cond b (cond d (cond e (fillOf l a ld ring, ook, fsk) (replayStep l a ld ring ook fsk)) (burstStep l a ring ook fsk)) (refuse (stepRefusal l a (length ook) (length fsk)) l, ook, fsk) .0 .lane .settings ≡ l .settings
+    go : (b d e : Bool) → cond b (stampedWith l (cond d (cond e (fillOf l a ld ring, ook, fsk) (replayStep l a ld ring ook fsk)) (burstStep l a ring ook fsk))) (refuse (stepRefusal l a (length ook) (length fsk)) l, ook, fsk) .0 .lane .settings ≡ l .settings
     go true true true = refl
     go true true false = refl
     go true false e = refl

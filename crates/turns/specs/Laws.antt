@@ -9,12 +9,13 @@ use lib.Seq.{sets}
 use lib.Dec.{eqb, ltb, leb}
 use borrow.Author.Tests.{ltb-false, leb-false, le-ltb, le-leb}
 use Rattle.ook.specs.declared.Out.{Out}
+use Rattle.lane.specs.declared.Lane.{Lane}
 use Rattle.lane.specs.declared.Reply.{Reply}
 use Rattle.lane.specs.declared.Reply.the-variants.{Refused, Stay, Idle, IdleAt}
 use Rattle.lane.specs.Answers.{replyNumberOf}
 use Rattle.lane.specs.declared.StepArgs.{StepArgs}
 use Rattle.lane.specs.Step.{stepped}
-use Rattle.lane.specs.Part.{front, partOf}
+use Rattle.lane.specs.Part.{front, namedOf, partRefusal, partOf}
 use Rattle.commands.specs.declared.Command.{Command}
 use Rattle.commands.specs.declared.Command.the-variants.{End, Open, Begin, Step, Unknown, Short}
 use Rattle.commands.specs.Command.{sizeOf}
@@ -35,14 +36,15 @@ front-short n most s h = go (leb n (length s))
     go true = omega (arith, length-take n s)
     go false = omega arith
 
-part-short : (r : Out) (ook fsk : List ℕ) (most : ℕ) → length ook ≤ most → length fsk ≤ most → length (partOf r ook fsk) ≤ most
-unfolding partOf
-part-short r ook fsk most h g = go (eqb (r .state) 1) (eqb (r .fsk) 1)
+part-short : (l : Lane) (r : Out) (ook fsk : List ℕ) (most : ℕ) → length ook ≤ most → length fsk ≤ most → length (partOf l r ook fsk) ≤ most
+unfolding partOf namedOf
+part-short l r ook fsk most h g = go (eqb (partRefusal l r) 0) (eqb (r .state) 1) (eqb (r .fsk) 1)
   where
-    go : (b d : Bool) → length (cond b (cond d (front (2 * r .pairs) fsk) (front (2 * r .pairs) ook)) (take 0 ook)) ≤ most
-    go true true = front-short (2 * r .pairs) most fsk g
-    go true false = front-short (2 * r .pairs) most ook h
-    go false d = omega arith
+    go : (a b d : Bool) → length (cond a (cond b (cond d (front (2 * r .pairs) fsk) (front (2 * r .pairs) ook)) (take 0 ook)) (take 0 ook)) ≤ most
+    go true true true = front-short (2 * r .pairs) most fsk g
+    go true true false = front-short (2 * r .pairs) most ook h
+    go true false d = omega arith
+    go false b d = omega arith
 
 larger-short : (n m most : ℕ) → n ≤ most → m ≤ most → largerOf n m ≤ most
 larger-short n m most h g = go (ltb n m)
@@ -89,22 +91,22 @@ too-few-left p len at h e =
     omega (arith, leb-false (callRoom (mostOf p)) (len - at) few, h)
 
 -- a record's part, where the call is not refused
-shown-by : (r : Reply) (o : Out) (ook fsk : List ℕ) (most : ℕ) → ((replyNumberOf r ≡ 3 → ⊥) → length (partOf o ook fsk) ≤ most) → length (shownOf r o ook fsk) ≤ most
-shown-by (Refused n) o ook fsk most h = omega arith
-shown-by Stay o ook fsk most h = h (λ e. omega (arith, e))
-shown-by Idle o ook fsk most h = h (λ e. omega (arith, e))
-shown-by (IdleAt x) o ook fsk most h = h (λ e. omega (arith, e))
+shown-by : (r : Reply) (l : Lane) (o : Out) (ook fsk : List ℕ) (most : ℕ) → ((replyNumberOf r ≡ 3 → ⊥) → length (partOf l o ook fsk) ≤ most) → length (shownOf r l o ook fsk) ≤ most
+shown-by (Refused n) l o ook fsk most h = omega arith
+shown-by Stay l o ook fsk most h = h (λ e. omega (arith, e))
+shown-by Idle l o ook fsk most h = h (λ e. omega (arith, e))
+shown-by (IdleAt x) l o ook fsk most h = h (λ e. omega (arith, e))
 
 -- both parts that a call prints have at most `most` slots
 pub record Shown (c : Called) (most : ℕ) : Type 0 where
-  pub fsk-shown : length (shownOf (c .0 .reply) (c .0 .lane .burst .«out_fsk») (c .1) (c .2)) ≤ most
-  pub ook-shown : length (shownOf (c .0 .reply) (c .0 .lane .burst .«out_ook») (c .1) (c .2)) ≤ most
+  pub fsk-shown : length (shownOf (c .0 .reply) (c .0 .lane) (c .0 .lane .burst .«out_fsk») (c .1) (c .2)) ≤ most
+  pub ook-shown : length (shownOf (c .0 .reply) (c .0 .lane) (c .0 .lane .burst .«out_ook») (c .1) (c .2)) ≤ most
 
-shown-fits : (c : Called) (most : ℕ) → ((replyNumberOf (c .0 .reply) ≡ 3 → ⊥) → PartsFit most (c .0 .lane .burst) (c .1) (c .2)) → Shown c most
+shown-fits : (c : Called) (most : ℕ) → ((replyNumberOf (c .0 .reply) ≡ 3 → ⊥) → PartsFit most (c .0 .lane) (c .1) (c .2)) → Shown c most
 shown-fits c most h =
     record {
-      fsk-shown = shown-by (c .0 .reply) (c .0 .lane .burst .«out_fsk») (c .1) (c .2) most (λ n. h n .fsk-part);
-      ook-shown = shown-by (c .0 .reply) (c .0 .lane .burst .«out_ook») (c .1) (c .2) most (λ n. h n .ook-part);
+      fsk-shown = shown-by (c .0 .reply) (c .0 .lane) (c .0 .lane .burst .«out_fsk») (c .1) (c .2) most (λ n. h n .fsk-part);
+      ook-shown = shown-by (c .0 .reply) (c .0 .lane) (c .0 .lane .burst .«out_ook») (c .1) (c .2) most (λ n. h n .ook-part);
     }
 
 -- a step that is accepted has its parts in two slots for each pulse, in the buffers, and in document 01's 65,536 pulses
@@ -119,10 +121,11 @@ step-shown p s h g =
     let e = answered-step (p .0) s (p .1) (p .2) n in
     let f = parts-fit-step (p .0) s (p .1) (p .2) e (c .1) (c .2) in
     let d = slots-step (p .0) s (length (p .1)) (length (p .2)) e in
-    let short : (o : Out) → length (partOf o (c .1) (c .2)) ≤ larger = λ o. part-short o (c .1) (c .2) larger (omega (arith, h, left)) (omega (arith, g, right)) in
-    let within : (o : Out) → length (partOf o (c .1) (c .2)) ≤ 2 * p .0 .settings .«max_pulses» → length (partOf o (c .1) (c .2)) ≤ mostOf p =
+    let l = c .0 .lane in
+    let short : (o : Out) → length (partOf l o (c .1) (c .2)) ≤ larger = λ o. part-short l o (c .1) (c .2) larger (omega (arith, h, left)) (omega (arith, g, right)) in
+    let within : (o : Out) → length (partOf l o (c .1) (c .2)) ≤ 2 * p .0 .settings .«max_pulses» → length (partOf l o (c .1) (c .2)) ≤ mostOf p =
     λ o k. smaller-most _ _ maxSlots (smaller-most _ (2 * p .0 .settings .«max_pulses») larger k (short o)) (omega (arith, k, d)) in
-    record { ook-part = within (c .0 .lane .burst .«out_ook») (f .ook-part); fsk-part = within (c .0 .lane .burst .«out_fsk») (f .fsk-part) })
+    record { ook-part = within (l .burst .«out_ook») (f .ook-part); fsk-part = within (l .burst .«out_fsk») (f .fsk-part) })
 
 -- no part that a call prints has more slots than `mostOf` says; nothing is said where there is no command
 pub shown-most : (p : State) (k : Command) → waits true k ≡ false → length (called p k .1) ≡ length (p .1) → length (called p k .2) ≡ length (p .2) → Shown (called p k) (mostOf p)
@@ -135,36 +138,38 @@ shown-most p Unknown w h g = record { fsk-shown = omega arith; ook-shown = omega
 shown-most p Short w h g = record { fsk-shown = omega arith; ook-shown = omega arith }
 
 -- a refused call prints no record, so that its lines are those without the parts
-shown-text : (r : Reply) (f o : Out) (ook fsk : List ℕ) (index : ℕ) → callText r (recordLine f (shownOf r f ook fsk) ++ recordLine o (shownOf r o ook fsk)) index ≡ answerText r f o ook fsk index
+shown-text : (r : Reply) (l : Lane) (ook fsk : List ℕ) (index : ℕ)
+    → callText r (recordLine (l .burst .«out_fsk») (shownOf r l (l .burst .«out_fsk») ook fsk) ++ recordLine (l .burst .«out_ook») (shownOf r l (l .burst .«out_ook») ook fsk)) index ≡ answerText r l ook fsk index
 unfolding answerText callText
-shown-text (Refused n) f o ook fsk index = refl
-shown-text Stay f o ook fsk index = refl
-shown-text Idle f o ook fsk index = refl
-shown-text (IdleAt e) f o ook fsk index = refl
+shown-text (Refused n) l ook fsk index = refl
+shown-text Stay l ook fsk index = refl
+shown-text Idle l ook fsk index = refl
+shown-text (IdleAt e) l ook fsk index = refl
 
-pub answered : (r : Reply) (f o : Out) (ook fsk fs os x y : List ℕ) (index at e : ℕ) (w : Written)
-    → hasRoom (largerOf (length (shownOf r f ook fsk)) (length (shownOf r o ook fsk))) (length x) at ≡ true
-    → fs ≡ shownOf r f ook fsk → os ≡ shownOf r o ook fsk
-    → _≡_ {A = Written × List ℕ} (w, y) (writtenCall r f fs o os index at x) → e ≡ placeOf w at
-    → _≡_ {A = ℕ × List ℕ} (e, y) (put (answerText r f o ook fsk index) (at, x))
+pub answered : (r : Reply) (l : Lane) (ook fsk fs os x y : List ℕ) (index at e : ℕ) (w : Written)
+    → hasRoom (largerOf (length (shownOf r l (l .burst .«out_fsk») ook fsk)) (length (shownOf r l (l .burst .«out_ook») ook fsk))) (length x) at ≡ true
+    → fs ≡ shownOf r l (l .burst .«out_fsk») ook fsk → os ≡ shownOf r l (l .burst .«out_ook») ook fsk
+    → _≡_ {A = Written × List ℕ} (w, y) (writtenCall r (l .burst .«out_fsk») fs (l .burst .«out_ook») os index at x) → e ≡ placeOf w at
+    → _≡_ {A = ℕ × List ℕ} (e, y) (put (answerText r l ook fsk index) (at, x))
 unfolding writtenCall put
-answered r f o ook fsk fs os x y index at e w room df dg q de =
-    ap (λ (n : ℕ). (n, y)) de ∙ ap (λ (z : Written × List ℕ). (placeOf (z .0) at, z .1)) q ∙ rw (df, dg) (rw room (ap (λ (v : List ℕ). (at + length v, sets x at v)) (shown-text r f o ook fsk index)))
+answered r l ook fsk fs os x y index at e w room df dg q de =
+    ap (λ (n : ℕ). (n, y)) de ∙ ap (λ (z : Written × List ℕ). (placeOf (z .0) at, z .1)) q ∙ rw (df, dg) (rw room (ap (λ (v : List ℕ). (at + length v, sets x at v)) (shown-text r l ook fsk index)))
 
 -- the room that a turn has is room for the parts of its call
 pub room-shown : (c : Called) (most len at : ℕ) → Shown c most → hasRoom most len at ≡ true
-    → hasRoom (largerOf (length (shownOf (c .0 .reply) (c .0 .lane .burst .«out_fsk») (c .1) (c .2))) (length (shownOf (c .0 .reply) (c .0 .lane .burst .«out_ook») (c .1) (c .2)))) len at ≡ true
+    → hasRoom (largerOf (length (shownOf (c .0 .reply) (c .0 .lane) (c .0 .lane .burst .«out_fsk») (c .1) (c .2))) (length (shownOf (c .0 .reply) (c .0 .lane) (c .0 .lane .burst .«out_ook») (c .1) (c .2)))) len at ≡ true
 room-shown c most len at h room = room-less _ most len at (larger-short _ _ most (h .fsk-shown) (h .ook-shown)) room
 
 pub called-short : (c : Called) (index most : ℕ) → Shown c most → length (calledText c index) ≤ callRoom most
 called-short c index most h =
     let r = c .0 .reply in
-    let f = c .0 .lane .burst .«out_fsk» in
-    let o = c .0 .lane .burst .«out_ook» in
+    let l = c .0 .lane in
+    let f = l .burst .«out_fsk» in
+    let o = l .burst .«out_ook» in
     omega (
       arith,
-      ap length (shown-text r f o (c .1) (c .2) index),
-      length-call r f (shownOf r f (c .1) (c .2)) o (shownOf r o (c .1) (c .2)) index,
+      ap length (shown-text r l (c .1) (c .2) index),
+      length-call r f (shownOf r l f (c .1) (c .2)) o (shownOf r l o (c .1) (c .2)) index,
       h .fsk-shown,
       h .ook-shown,
     )

@@ -58,17 +58,21 @@ refusedOf Stay = false
 refusedOf Idle = false
 refusedOf (IdleAt e) = false
 
--- the part of a record that a call prints: none where it is refused, whatever the lane still holds
-abbrev pub shownOf : Reply → Out → List ℕ → List ℕ → List ℕ
-shownOf r o ook fsk = cond (refusedOf r) (take 0 ook) (partOf o ook fsk)
+-- the part of a record that a call prints, fetched by the lane that it returned: none where it is refused, whatever the lane still holds
+abbrev pub shownOf : Reply → Lane → Out → List ℕ → List ℕ → List ℕ
+shownOf r l o ook fsk = cond (refusedOf r) (take 0 ook) (partOf l o ook fsk)
 
--- the lines of a reply with its two records, each with its part of the buffers
-unfoldable pub answerText : Reply → Out → Out → List ℕ → List ℕ → ℕ → List ℕ
-answerText r f o ook fsk index = callText r (recordLine f (partOf f ook fsk) ++ recordLine o (partOf o ook fsk)) index
+-- the line of a record of the lane, with its part of the buffers
+abbrev pub recordText : Lane → Out → List ℕ → List ℕ → List ℕ
+recordText l o ook fsk = recordLine o (partOf l o ook fsk)
+
+-- the lines of a reply with the two records of the lane
+unfoldable pub answerText : Reply → Lane → List ℕ → List ℕ → ℕ → List ℕ
+answerText r l ook fsk index = callText r (recordText l (l .burst .«out_fsk») ook fsk ++ recordText l (l .burst .«out_ook») ook fsk) index
 
 -- the lines of a call
 abbrev pub calledText : Called → ℕ → List ℕ
-calledText c index = answerText (c .0 .reply) (c .0 .lane .burst .«out_fsk») (c .0 .lane .burst .«out_ook») (c .1) (c .2) index
+calledText c index = answerText (c .0 .reply) (c .0 .lane) (c .1) (c .2) index
 
 -- what a command prints: nothing where there is none
 abbrev pub textOf : Command → Called → List ℕ

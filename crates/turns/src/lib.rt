@@ -133,32 +133,33 @@ fn is_refused(r: Reply) -> bool
 }
 
 // The part of a record that a call prints: none where it is refused, whatever the lane still holds.
-fn shown<'a>(r: Reply, o: Out, ook: &'a [u32], fsk: &'a [u32]) -> &'a [u32]
-    ensures { λ s. ⌜ now s ≡ shownOf r o (now (ook .entry)) (now (fsk .entry)) ⌝ }
+fn shown<'a>(r: Reply, l: Lane, o: Out, ook: &'a [u32], fsk: &'a [u32]) -> &'a [u32]
+    ensures { λ s. ⌜ now s ≡ shownOf r l o (now (ook .entry)) (now (fsk .entry)) ⌝ }
 {
     let refused = is_refused(r);
     if refused {
         return &ook[..0];
     }
-    lane::part(o, ook, fsk)
+    lane::part(l, o, ook, fsk)
 }
 
-// Writes the lines of a call: its reply, and its two records with their parts of the buffers.
+// Writes the lines of a call: its reply, and the two records of the lane that it returned with their parts of the buffers.
 fn put_answer<'a>(
     r: Reply,
-    f: Out,
-    o: Out,
+    l: Lane,
     index: u64,
     ook: &'a [u32],
     fsk: &'a [u32],
     text: &mut [u8],
     at: usize,
 ) -> usize
-    requires { ⌜ hasRoom (largerOf (length (shownOf r f (now ook) (now fsk))) (length (shownOf r o (now ook) (now fsk)))) (length (now text)) at ≡ true ⌝ }
-    ensures { λ e. ⌜ _≡_ {A = ℕ × List ℕ} (e, now (text .exit)) (put (answerText r f o (now (ook .entry)) (now (fsk .entry)) index) (at, now (text .entry))) ⌝ }
+    requires { ⌜ hasRoom (largerOf (length (shownOf r l (l .burst .«out_fsk») (now ook) (now fsk))) (length (shownOf r l (l .burst .«out_ook») (now ook) (now fsk)))) (length (now text)) at ≡ true ⌝ }
+    ensures { λ e. ⌜ _≡_ {A = ℕ × List ℕ} (e, now (text .exit)) (put (answerText r l (now (ook .entry)) (now (fsk .entry)) index) (at, now (text .entry))) ⌝ }
 {
-    let fs = shown(r, f, ook, fsk);
-    let os = shown(r, o, ook, fsk);
+    let f = l.burst.out_fsk;
+    let o = l.burst.out_ook;
+    let fs = shown(r, l, f, ook, fsk);
+    let os = shown(r, l, o, ook, fsk);
     let w = lines::call_lines(r, f, fs, o, os, index, text, at);
     place_of(w, at)
 }
@@ -283,9 +284,7 @@ fn turn(
     let g = pass(l, k, s, from, ook, fsk);
     let n = g.lane;
     let r = g.reply;
-    let f = n.burst.out_fsk;
-    let o = n.burst.out_ook;
-    let e = put_answer(r, f, o, g.index, ook, fsk, text, at);
+    let e = put_answer(r, n, g.index, ook, fsk, text, at);
     Turned {
         lane: n,
         used: g.used,

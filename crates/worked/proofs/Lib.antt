@@ -1,3 +1,4 @@
--- The proofs of the worked examples and of refusal 4 at its limits.
+-- The proofs of the worked examples of refusal 4 at its limits, and of the serials.
 pub mod Table
 pub mod Limits
+pub mod Serials

@@ -26,8 +26,9 @@ use Rattle.lane.specs.Advance.{settleOf, fillOf, replayStep, leadStep, burstSte
 use Rattle.lane.specs.Answers.{replyOf, phaseOf}
 use Rattle.lane.specs.Begin.{historyOf, beginLeadOf, clearedOf, leadLane}
 use Rattle.lane.specs.Idle.{noBurst, idleLane}
-use Rattle.lane.specs.Part.{front, partOf}
-use Rattle.lane.specs.Refusals.{openedOk, laneOk, historyOk, beginFloatsOk, stepFloatsOk, followsOf, beginRefusal, stepRefusal}
+use Rattle.lane.specs.Part.{front, namedOf, partOf}
+use Rattle.lane.specs.Refusals.{openedOk, laneOk, historyOk, beginFloatsOk, stepFloatsOk, followsOf, openRefusal, beginRefusal, stepRefusal}
+use Rattle.lane.specs.Serial.{stampOf}
 use Rattle.lane.specs.Step.{newLane, opened, begun, stepped}
 use Rattle.words.specs.Words.{u32At, u64At, encode}
 use Rattle.commands.specs.Command.{settingsOf, carrySettingsOf, historyOf as historyBytes, beginArgsOf, stepArgsOf, decoded}
@@ -90,5 +91,5 @@ burstWith e es = burstBy 1000 4 e es
 
 -- what is printed of commands, with the program's buffers
 unfoldable pub printed : List ℕ → List ℕ
-unfolding listed listing called answerText decoded settingsOf carrySettingsOf beginArgsOf stepArgsOf historyBytes u32At u64At encode callText recordLine trainLine widths idleLine carrierLine refusedLine decimal leading hex8 snapOf nearStartOf roundOf narrowOf wholeRoot roundExact exactOf sqrtOf absOf midpointOf flushOf crossOf nearestIn widthBy carriedAt boundOf satAddOf inc refineLevelOf refineLoOf excessOf splitFrom refineInOf refineOf lengthenOf rejoinOf beginRunOf beginsOf advanceRunOf zeroIf pacRunOf beginEnvOf pushPulseOf closeGapOf emptyTrainOf finishOf endTrainOf pulseDoneOf gapRatioExceededOf dueOf confirmIf riseOf fallOf confirmOf actOf thresholdOf onOf refineDueOf highOf pacOf seeOf carrierOf goneOf hasPulsesOf gapOverOf waitOf tailOf leadAddOf largestFrom beginBurstOf leadAtOf replayFrom replayOf leadFullOf snapIfOf lastOf restOf sampleOf settingsOk unsetOk firstFailed frameOk burstOk leadOk candOk settleOf fillOf replayStep leadStep burstStep advanceOf replyOf phaseOf historyOf beginLeadOf clearedOf leadLane noBurst idleLane front partOf openedOk laneOk historyOk beginFloatsOk stepFloatsOk followsOf beginRefusal stepRefusal newLane opened begun stepped add sub mul div neg lt le eq ofBits toBits ofInt toUnsigned isNan
+unfolding listed listing called answerText decoded settingsOf carrySettingsOf beginArgsOf stepArgsOf historyBytes u32At u64At encode callText recordLine trainLine widths idleLine carrierLine refusedLine decimal leading hex8 snapOf nearStartOf roundOf narrowOf wholeRoot roundExact exactOf sqrtOf absOf midpointOf flushOf crossOf nearestIn widthBy carriedAt boundOf satAddOf inc refineLevelOf refineLoOf excessOf splitFrom refineInOf refineOf lengthenOf rejoinOf beginRunOf beginsOf advanceRunOf zeroIf pacRunOf beginEnvOf pushPulseOf closeGapOf emptyTrainOf finishOf endTrainOf pulseDoneOf gapRatioExceededOf dueOf confirmIf riseOf fallOf confirmOf actOf thresholdOf onOf refineDueOf highOf pacOf seeOf carrierOf goneOf hasPulsesOf gapOverOf waitOf tailOf leadAddOf largestFrom beginBurstOf leadAtOf replayFrom replayOf leadFullOf snapIfOf lastOf restOf sampleOf settingsOk unsetOk firstFailed frameOk burstOk leadOk candOk settleOf fillOf replayStep leadStep burstStep advanceOf replyOf phaseOf historyOf beginLeadOf clearedOf leadLane noBurst idleLane front namedOf partOf openedOk laneOk historyOk beginFloatsOk stepFloatsOk followsOf openRefusal beginRefusal stepRefusal stampOf newLane opened begun stepped add sub mul div neg lt le eq ofBits toBits ofInt toUnsigned isNan
 printed commands = listing (newLane, replicate 4096 0, replicate 4096 0) commands

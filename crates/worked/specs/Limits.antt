@@ -45,6 +45,9 @@ pub data Field : Type 0 where
   «fsk_split» : Field
   carry : Field
   bound : Field
+  serial : Field
+  «ook_serial» : Field
+  «fsk_serial» : Field
 
 -- its place in the list of a lane's numbers
 abbrev place : Field → ℕ
@@ -74,10 +77,13 @@ place «fsk_delta» = 39
 place «fsk_split» = 40
 place carry = 41
 place bound = 42
+place serial = 43
+place «ook_serial» = 44
+place «fsk_serial» = 45
 
--- a record whose flags are numbered from k on
-abbrev outAt : (Field → ℕ) → ℕ → Out
-outAt v k = record { index = 0; end = 0; state = v (flag k); cut = v (flag (k + 1)); pairs = 0; level = zero32; fsk = v (flag (k + 2)); carrier = Angle zero32 }
+-- a record whose flags are numbered from k on, and whose serial is that field
+abbrev outAt : (Field → ℕ) → ℕ → Field → Out
+outAt v k f = record { index = 0; end = 0; state = v (flag k); cut = v (flag (k + 1)); pairs = 0; level = zero32; fsk = v (flag (k + 2)); carrier = Angle zero32; serial = v f }
 
 -- the settings' floats are given by their patterns; every other float and every number without a limit is 0
 unfoldable pub laneOf : List ℕ → Lane
@@ -103,7 +109,7 @@ laneOf ns =
         };
         pac = zeroC32;
         train = record { start = 0; «pulse_end» = 0; started = v (flag 3); «ook_n» = v «ook_n»; «open» = v «open»; longest = zeroSteps; truncated = v (flag 4); acc = zeroC32; origin = zero64; bound = v bound };
-        «out_ook» = outAt v 5;
+        «out_ook» = outAt v 5 «ook_serial»;
         frames = 0;
         pres = record { «p_t_run» = zero64; «p_t_prev» = zero64; «p_factor» = zero32; «p_level» = v (flag 8); «p_run» = 0; «p_confirmed» = v (flag 9); «p_prev» = 0 };
         frame = record {
@@ -116,13 +122,14 @@ laneOf ns =
           runs = record { «ft_run» = zero64; «ft_prev» = zero64; «fsk_level» = v (flag 11); «fsk_run» = 0; «fsk_confirmed» = v (flag 12); «fsk_prev» = 0; «fsk_has_prev» = v (flag 13) };
           done = record { «f_origin» = zero64; «f_last» = zero64; «fsk_open» = v «fsk_open»; «fsk_n» = v «fsk_n»; «fsk_runs» = v «fsk_runs»; «fsk_full» = v (flag 14) };
         };
-        «out_fsk» = outAt v 15;
+        «out_fsk» = outAt v 15 «fsk_serial»;
       };
+      serial = v serial;
     }
 
--- an idle lane of mode 2, 2, 4, 4, 1000, max_pulses 4, with some fields changed
-abbrev changed : List (Field × ℕ) → List ℕ
-changed [] = replicate 9 0 ++ (2 ∷ 2 ∷ 4 ∷ 4 ∷ 1000 ∷ 4 ∷ 1 ∷ replicate 27 0)
+-- an idle lane with serial 0 of mode 2, 2, 4, 4, 1000, max_pulses 4, with some fields changed
+abbrev pub changed : List (Field × ℕ) → List ℕ
+changed [] = replicate 9 0 ++ (2 ∷ 2 ∷ 4 ∷ 4 ∷ 1000 ∷ 4 ∷ 1 ∷ replicate 30 0)
 changed (c ∷ cs) = set (changed cs) (place (c .0)) (c .1)
 
 -- the changes that make it the lane that never had settings
@@ -179,6 +186,10 @@ limits =
     -- R-1: carry, and a held boundary
     ∷ limit [] carry 1
     ∷ limit [] bound (2 ^ 47)
+    -- R-6: every serial that the lane holds
+    ∷ limit [] serial (2 ^ 48 + 2 ^ 40)
+    ∷ limit [] «ook_serial» (2 ^ 48 + 2 ^ 40)
+    ∷ limit [] «fsk_serial» (2 ^ 48 + 2 ^ 40)
     ∷ flags 18
 
 -- lanes that a limit does not hold for, and lanes that another rule refuses

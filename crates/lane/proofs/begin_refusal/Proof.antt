@@ -6,9 +6,11 @@ use Rattle.lane.proofs.begin_refusal.Tie as tie
 
 returns : tie.Need-returns
 unfolding beginRefusal
-returns c = simp (← c .before .before .before .before .before .lane-ok .ensures, ← c .before .before .before .index-ok .ensures, ← c .before .before .begin-floats-ok .ensures, ← c .before .room-ok .ensures, ← c .first-failed .ensures)
+returns c =
+    let left = c .before .before .before .before in
+    simp (← left .before .before .lane-ok .ensures, ← left .serial-left .ensures, ← c .before .before .before .index-ok .ensures, ← c .before .before .begin-floats-ok .ensures, ← c .before .room-ok .ensures, ← c .first-failed .ensures)
 
 pub begin-refusal-spec : {M : Type 1} → statement M
 begin-refusal-spec =
     tie.close
-    (tie.spec (search needs) (search needs) (search needs) (search needs) (search needs) returns)
+    (tie.spec (search needs) (search needs) (search needs) (search needs) (search needs) (search needs) returns)

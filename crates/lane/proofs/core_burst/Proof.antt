@@ -1,6 +1,6 @@
 -- `lane::core_burst` meets its contract: the definition over what the calls ensure. Assumes nothing.
 use mathlib.Core.Path.{_≡_, ap, _∙_}
-use Rattle.ook.specs.Core.{wholeOut}
+use Rattle.ook.specs.Core.{wholeOut, numbered}
 use Rattle.ook.specs.declared.Out.{Out}
 use Rattle.ook.specs.declared.OutCore.{OutCore}
 use Rattle.fsk.specs.Core.{wholeFrame}
@@ -13,11 +13,11 @@ use Rattle.lane.proofs.core_burst.Statement.{statement}
 use Rattle.lane.proofs.core_burst.Tie as tie
 
 -- a burst is made of its own parts
-burst-back : (b : Burst) (f : FrameCore) (o g : OutCore) → wholeFrame (b .frame .cand .«cand_f») f ≡ b .frame → wholeOut o ≡ b .«out_ook» → wholeOut g ≡ b .«out_fsk»
-    → burstOf (b .high) (b .«e_prev») (b .env) (b .pac) (b .train) (wholeOut o) (b .frames) (b .pres) (wholeFrame (b .frame .cand .«cand_f») f) (wholeOut g) ≡ b
+burst-back : (b : Burst) (f : FrameCore) (o g : OutCore) → wholeFrame (b .frame .cand .«cand_f») f ≡ b .frame → numbered (b .«out_ook» .serial) (wholeOut o) ≡ b .«out_ook» → numbered (b .«out_fsk» .serial) (wholeOut g) ≡ b .«out_fsk»
+    → burstOf (b .high) (b .«e_prev») (b .env) (b .pac) (b .train) (numbered (b .«out_ook» .serial) (wholeOut o)) (b .frames) (b .pres) (wholeFrame (b .frame .cand .«cand_f») f) (numbered (b .«out_fsk» .serial) (wholeOut g)) ≡ b
 burst-back b f o g e₁ e₂ e₃ =
-    ap (λ (x : Frame). burstOf (b .high) (b .«e_prev») (b .env) (b .pac) (b .train) (wholeOut o) (b .frames) (b .pres) x (wholeOut g)) e₁
-    ∙ ap (λ (x : Out). burstOf (b .high) (b .«e_prev») (b .env) (b .pac) (b .train) x (b .frames) (b .pres) (b .frame) (wholeOut g)) e₂
+    ap (λ (x : Frame). burstOf (b .high) (b .«e_prev») (b .env) (b .pac) (b .train) (numbered (b .«out_ook» .serial) (wholeOut o)) (b .frames) (b .pres) x (numbered (b .«out_fsk» .serial) (wholeOut g))) e₁
+    ∙ ap (λ (x : Out). burstOf (b .high) (b .«e_prev») (b .env) (b .pac) (b .train) x (b .frames) (b .pres) (b .frame) (numbered (b .«out_fsk» .serial) (wholeOut g))) e₂
     ∙ ap (λ (x : Out). burstOf (b .high) (b .«e_prev») (b .env) (b .pac) (b .train) (b .«out_ook») (b .frames) (b .pres) (b .frame) x) e₃
 
 returns : tie.Need-returns

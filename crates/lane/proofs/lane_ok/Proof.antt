@@ -6,9 +6,11 @@ use Rattle.lane.proofs.lane_ok.Tie as tie
 
 returns : tie.Need-returns
 unfolding laneOk
-returns c = simp (← c .before .before .before .before .before .opened-ok .ensures, ← c .before .before .before .burst-ok .ensures, ← c .before .before .lead-ok .ensures, ← c .before .cand-ok .ensures, ← c .index-ok .ensures)
+returns c =
+    let last = c .before in
+    simp (← last .before .before .before .before .before .opened-ok .ensures, ← last .before .before .before .burst-ok .ensures, ← last .before .before .lead-ok .ensures, ← last .before .cand-ok .ensures, ← last .index-ok .ensures, ← c .serial-ok .ensures)
 
 pub lane-ok-spec : {M : Type 1} → statement M
 lane-ok-spec =
     tie.close
-    (tie.spec (search needs) (search needs) (search needs) (search needs) (search needs) returns)
+    (tie.spec (search needs) (search needs) (search needs) (search needs) (search needs) (search needs) returns)

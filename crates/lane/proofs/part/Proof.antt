@@ -1,4 +1,4 @@
--- `lane::part` meets its contract: by the state and the kind of the record. Assumes nothing.
+-- `lane::part` meets its contract: the definition by its refusal. Assumes nothing.
 use Rattle.lane.specs.Part.{partOf}
 use borrow.Author.Needs.{needs}
 use Rattle.lane.proofs.part.Statement.{statement}
@@ -6,18 +6,11 @@ use Rattle.lane.proofs.part.Tie as tie
 
 returns : tie.Need-returns
 unfolding partOf
-returns c = simp (c .before .before .before .before .if1 .taken, c .before .before .if2 .taken, ← c .first .ensures) (cc)
+returns c = simp (← c .before .before .part-refusal .ensures, c .before .if1 .taken, ← c .named .ensures) (cc)
 
 returns-2 : tie.Need-returns-2
 unfolding partOf
-returns-2 c = simp (c .before .before .before .before .if1 .taken, c .before .before .if2 .left, ← c .first2 .ensures) (cc)
-
-returns-3 : tie.Need-returns-3
-unfolding partOf
-returns-3 c = simp (c .before .if1 .left) (cc)
+returns-2 c = simp (← c .before .before .part-refusal .ensures, c .before .if1 .left) (cc)
 
 pub part-spec : {M : Type 1} → statement M
-part-spec =
-    tie.close
-    (tie.spec (search needs) (search needs) (search needs) returns (search needs) (search needs) (search needs) returns-2
-    (search needs) returns-3)
+part-spec = tie.close (tie.spec (search needs) (search needs) returns (search needs) returns-2)

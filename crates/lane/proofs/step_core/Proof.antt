@@ -25,8 +25,11 @@ due-some n h e = let z : n ≡ 0 = eqb-true n 0 (not-false (eqb n 0) h) in omega
 long : {xs ys : List Float} → xs ≡ ys → length xs ≡ length ys
 long e = ap (λ (x : List Float). length x) e
 
+add-m : tie.Need-add-m
+add-m c = let start = c .before .before .before .before .before .before .before .before .before .before .before .before in omega (arith, start .pre .4)
+
 lead-add-requires : tie.Need-lead-add-requires
-lead-add-requires c κs = let start = c .before .before .before .before .before .before .before .before .before .before .before .before .before .before .before .before in (start .pre .0, start .pre .1, start .pre .2)
+lead-add-requires c κs = let start = c .before .before .before .before .before .before .before .before .before .before .before .before .before .before .before .before .before in (start .pre .0, start .pre .1, start .pre .2)
 
 samples-requires : tie.Need-samples-requires
 samples-requires c κs =
@@ -37,7 +40,7 @@ returns : tie.Need-returns
 returns c =
     let sampled = c .before .before .before .before .before .before .before in
     let met = sampled .before .before .before .before .before .before .before .before .before .before in
-    let cleared = met .before .before in
+    let cleared = met .before .before .before in
     let read = cleared .before .before .before in
     let asked = read .before .before .before .before in
     let start = asked .before .before .before .before in
@@ -64,7 +67,7 @@ returns c =
 returns-2 : tie.Need-returns-2
 returns-2 c =
     let met = c .before in
-    let cleared = met .before .before in
+    let cleared = met .before .before .before in
     let put = cleared .before .before .before .before in
     let asked = put .before .before .before in
     let start = asked .before .before .before .before in
@@ -90,5 +93,5 @@ returns-3 c = (core-refuses _ _ _ _ _ _ _ _ _ _ _ (c .before .step-refusal .ensu
 pub step-core-spec : {M : Type 1} → statement M
 step-core-spec =
     tie.close
-    (tie.spec (search needs) (search needs) (search needs) (search needs) lead-add-requires (search needs) (search needs)
+    (tie.spec (search needs) (search needs) (search needs) (search needs) add-m lead-add-requires (search needs) (search needs)
     (search needs) samples-requires (search needs) (search needs) (search needs) (search needs) returns returns-2 returns-3)

@@ -16,7 +16,7 @@ use Rattle.lane.specs.Core.{joinedOf}
 use Rattle.reached.specs.Reached.{Sound}
 use Rattle.turns.specs.Turn.{State}
 use Rattle.turns.proofs.Taken.{Steps, none, steps-sound, steps-kept, step-on, steps-more, steps-end, steps-onward, step-room}
-use Rattle.turns.proofs.Cores.{pastOf, joined-back, sound-lead, met, of-lanes}
+use Rattle.turns.proofs.Cores.{pastOf, joined-back, sound-lead, sound-serial, met, of-lanes}
 use Rattle.turns.proofs.steps.Statement.{statement}
 use Rattle.turns.proofs.steps.Tie as tie
 
@@ -42,7 +42,7 @@ loop-holds c =
       re .ensures .1,
       im .ensures .1,
       omega (arith, start .pre .0),
-      subst Sound (sym (joined-back (start .args .lane) (c .before .before .before .before .before .core-of .result) (es .result) (re .result) (im .result) (c .before .before .before .before .before .core-of .ensures) (es .ensures .0) (re .ensures .0) (im .ensures .0))) (start .pre .2),
+      subst Sound (sym (joined-back (start .args .lane) (c .before .before .before .before .before .core-of .result) (es .result) (re .result) (im .result) (start .pre .2) (c .before .before .before .before .before .core-of .ensures) (es .ensures .0) (re .ensures .0) (im .ensures .0))) (start .pre .2),
       none refl refl,
     )
 
@@ -52,7 +52,8 @@ step-at-requires c κs = sym (c .before .is-step-at .ensures) ∙ not-false _ (c
 step-core-requires : tie.Need-step-core-requires Inv-loop μ-loop
 step-core-requires c κs =
     let v = c .before .before .before .before .before .before .before .before .before .before .before .loop .inv in
-    (v .0, v .1, v .2, sound-lead (steps-sound (v .4) (v .5)))
+    let sound = steps-sound (v .4) (v .5) in
+    (v .0, v .1, v .2, sound-lead sound, sound-serial sound)
 
 add-used : tie.Need-add-used Inv-loop μ-loop
 add-used c = record { fits = omega (arith, step-room (c .before .before .before .before .before .before .before .before .before .before .before .before .before .before .before .before .before .before .before .before .before .before .before .before .before .before .before .args .s .now) (c .before .before .before .before .before .before .before .before .before .before .before .before .before .before .before .before .before .loop .used) (c .before .before .before .before .before .before .before .before .before .before .before .before .before .step-at .result) (c .before .before .before .before .before .before .before .before .before .before .before .before .before .step-at .ensures), c .before .before .before .before .before .before .before .before .before .before .before .before .before .before .before .before .before .before .before .before .before .before .before .before .before .before .before .good .1) }
@@ -97,7 +98,7 @@ returns c =
     let re = c .before .before .before .before .before .before .reals in
     let im = c .before .before .before .before .before .imaginaries in
     let core = c .before .before .before .before .before .before .before .before .core-of in
-    let back = joined-back (start .args .lane) (core .result) (es .result) (re .result) (im .result) (core .ensures) (es .ensures .0) (re .ensures .0) (im .ensures .0) in
+    let back = joined-back (start .args .lane) (core .result) (es .result) (re .result) (im .result) (start .pre .2) (core .ensures) (es .ensures .0) (re .ensures .0) (im .ensures .0) in
     of-lanes back (c .joined .ensures)
     (⊎-elim
     (λ w. met (w .1) (w .2) (w .3) (w .4) (w .5) (w .6) (w .7) (w .8) (w .9) (w .10) (w .11) (steps-end (v .inv .5) (λ e. omega (arith, e, w .0 .left, start .pre .0))))

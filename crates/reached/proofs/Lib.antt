@@ -1,0 +1,2 @@
+-- The law of the serials.
+pub mod Serials

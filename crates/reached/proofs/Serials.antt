@@ -1,0 +1,119 @@
+-- An accepted call raises the serial by 1, whatever the lane, and puts it in both records; a refused one leaves the lane. So along a list the
+-- serials count up. Assumes nothing.
+use Prim.Native.Nat.{ℕ, zero, suc, _+_, _<_}
+use mathlib.Core.Bool.{Bool, true, false, cond, not}
+use mathlib.Core.Path.{_≡_, refl, sym, ap, _∙_, subst}
+use mathlib.Core.List.{List, [], _∷_, _++_}
+use native.Mathlib.Nat.{not-suc-le-zero}
+use native.Mathlib.Omega.{arith}
+use lib.Dec.{ltb, eqb}
+use lib.Ieee.{Float}
+use Rattle.arith.specs.Leaves.{leadLenOf}
+use Rattle.ook.specs.declared.Next.{Next}
+use Rattle.ook.specs.declared.Next.the-variants as next
+use Rattle.burst.specs.declared.Lead.{Lead}
+use Rattle.burst.specs.Lead.{leadAddOf}
+use lib.ListN.{length, getD}
+use Rattle.lane.specs.declared.Answer.{Answer}
+use Rattle.lane.specs.declared.Lane.{Lane}
+use Rattle.lane.specs.declared.StepArgs.{StepArgs}
+use Rattle.lane.specs.Advance.{advanceOf, leadStep, fillOf, replayStep, burstStep, settleOf}
+use Rattle.lane.specs.Answers.{replyNumberOf, replyOf}
+use Rattle.lane.specs.Begin.{ringOf, leadLane}
+use Rattle.lane.specs.Idle.{idleLane}
+use Rattle.lane.specs.Part.{part-named}
+use Rattle.lane.specs.Refusals.{openRefusal, beginRefusal, stepRefusal}
+use Rattle.lane.specs.Serial.{stampOf, stamped, stampedWith}
+use Rattle.lane.specs.Step.{newLane, refuse, stay, opened, begun, stepped}
+use Rattle.reached.specs.Serials.{Call, opening, begin, step, answerTo, accepted, serials, countFrom, Counted, NoTwoAlike, InBoth, BothFetched}
+
+-- a stamped answer to l, or a refusal of it
+data Answers (l : Lane) (a : Answer) : Type 0 where
+  raises : (b : Answer) → accepted b ≡ true → a ≡ stamped l b → Answers l a
+  refuses : (k : ℕ) → a ≡ refuse k l → Answers l a
+
+either-way : (l : Lane) (c : Bool) (k : ℕ) (b : Answer) → accepted b ≡ true → Answers l (cond c (stamped l b) (refuse k l))
+either-way l true k b t = raises b t refl
+either-way l false k b t = refuses k refl
+
+step-way : (l : Lane) (c : Bool) (k : ℕ) (r : Answer × List ℕ × List ℕ) (ook fsk : List ℕ) → accepted (r .0) ≡ true → Answers l (cond c (stampedWith l r) (refuse k l, ook, fsk) .0)
+step-way l true k r ook fsk t = raises (r .0) t refl
+step-way l false k r ook fsk t = refuses k refl
+
+-- a sample is never answered by a refusal
+next-accepted : (n : Next) → not (eqb (replyNumberOf (replyOf n)) 3) ≡ true
+unfolding replyOf
+next-accepted next.Stay = refl
+next-accepted next.Idle = refl
+next-accepted (next.IdleAt e) = refl
+
+advance-accepted : (l : Lane) (s : StepArgs) (ook fsk : List ℕ) → accepted (advanceOf l s ook fsk .0) ≡ true
+unfolding advanceOf leadStep fillOf replayStep burstStep settleOf
+advance-accepted l s ook fsk = go (eqb (l .phase) 1) (ltb (ld .«lead_n») (leadLenOf (l .settings .«min_steps»)))
+  where
+    ring : List Float
+    ring = ringOf (l .ring) (s .index) (s .envelope)
+
+    ld : Lead
+    ld = leadAddOf (l .lead) (s .envelope) (s .x)
+
+    go : (b d : Bool) → accepted (cond b (cond d (fillOf l s ld ring, ook, fsk) (replayStep l s ld ring ook fsk)) (burstStep l s ring ook fsk) .0) ≡ true
+    go true true = refl
+    go true false = next-accepted _
+    go false d = next-accepted _
+
+answers : (l : Lane) (c : Call) → Answers l (answerTo l c)
+unfolding opened begun stepped
+answers l (opening p) = either-way l (eqb (openRefusal l p) 0) (openRefusal l p) (stay (idleLane 1 p)) refl
+answers l (begin b ook fsk) = either-way l (eqb (beginRefusal l b (length ook) (length fsk)) 0) (beginRefusal l b (length ook) (length fsk)) (stay (leadLane l b)) refl
+answers l (step s ook fsk) = step-way l (eqb (stepRefusal l s (length ook) (length fsk)) 0) (stepRefusal l s (length ook) (length fsk)) (advanceOf l s ook fsk) ook fsk (advance-accepted l s ook fsk)
+
+-- ---- one call
+
+pub in-both : (l : Lane) (c : Call) → accepted (answerTo l c) ≡ true → (answerTo l c .lane .serial ≡ l .serial + 1) × InBoth (answerTo l c .lane)
+unfolding stampOf
+in-both l c t = go (answerTo l c) (answers l c) t
+  where
+    go : (a : Answer) → Answers l a → accepted a ≡ true → (a .lane .serial ≡ l .serial + 1) × InBoth (a .lane)
+    go a (raises b y e) t = subst (λ (x : Answer). (x .lane .serial ≡ l .serial + 1) × InBoth (x .lane)) (sym e) (refl, record { ook = refl; fsk = refl })
+    go a (refuses k e) t = let z : _≡_ {A = Bool} true false = sym t ∙ ap accepted e in absurd (let y : _≡_ {A = ℕ} 0 1 = cc in omega arith)
+
+pub both-fetched : BothFetched
+both-fetched l c ook fsk t =
+    let h = in-both l c t in
+    let m = answerTo l c .lane in (
+      part-named m (m .burst .«out_ook») ook fsk (h .1 .ook) (omega (arith, h .0, h .1 .ook)),
+      part-named m (m .burst .«out_fsk») ook fsk (h .1 .fsk) (omega (arith, h .0, h .1 .fsk)),
+    )
+
+-- ---- a list of calls
+
+count : (cs : List Call) (l : Lane) → serials l cs ≡ countFrom (l .serial + 1) (length (serials l cs))
+unfolding serials countFrom stampOf
+count [] l = refl
+count (c ∷ cs) l = go (answerTo l c) (answers l c) (count cs)
+  where
+    more : Answer → List ℕ
+    more a = cond (accepted a) (a .lane .serial ∷ []) [] ++ serials (a .lane) cs
+
+    go : (a : Answer) → Answers l a → ((m : Lane) → serials m cs ≡ countFrom (m .serial + 1) (length (serials m cs))) → more a ≡ countFrom (l .serial + 1) (length (more a))
+    go a (raises b t e) rest =
+        subst (λ (x : Answer). more x ≡ countFrom (l .serial + 1) (length (more x))) (sym e)
+        (simp t (ap (λ (ns : List ℕ). (l .serial + 1) ∷ ns) (rest (stampOf (l .serial + 1) (b .lane)))))
+    go a (refuses k e) rest = subst (λ (x : Answer). more x ≡ countFrom (l .serial + 1) (length (more x))) (sym e) (rest l)
+
+pub counted : Counted
+unfolding newLane idleLane
+counted cs = count cs newLane
+
+at-place : (n k i : ℕ) → i < k → getD (countFrom n k) i 0 ≡ n + i
+unfolding countFrom
+at-place n zero i h = absurd (not-suc-le-zero h)
+at-place n (suc k) zero h = omega arith
+at-place n (suc k) (suc i) h = let e : getD (countFrom (n + 1) k) i 0 ≡ n + 1 + i = at-place (n + 1) k i (omega arith) in omega (arith, e)
+
+pub no-two-alike : NoTwoAlike
+no-two-alike cs i j h g e =
+    let k = length (serials newLane cs) in
+    let at : (i : ℕ) → i < k → getD (serials newLane cs) i 0 ≡ 1 + i = λ i h. ap (λ (ns : List ℕ). getD ns i 0) (counted cs) ∙ at-place 1 k i h in
+    omega (arith, at i h, at j g, e)
