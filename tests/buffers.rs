@@ -1,8 +1,9 @@
 //! The two pulse buffers, whole, after every call of seeded command streams: as `lane_buffers` and `lane_buffers_lent` of
 //! target/staticlib/libbuffers.a leave them, which make the calls of a list of commands from the lane that never had settings,
 //! a step by value or on the lane lent for change, and as the reference does.
-//! The buffers hold any numbers before the first call; some are too short for the settings, and longer than they need. The openings
-//! of every second stream are commands 01 and 04, those of the others 01 alone.
+//! The buffers hold any numbers before the first call; some are too short for the settings, and longer than they need. The streams of
+//! even seeds have openings 01 and 04, those of the others 01 alone; the streams of the seeds 2 and 3 more than a multiple of 4 have
+//! closes.
 //!
 //!     buffers [--streams N] [--calls N] [--first SEED]
 //!     buffers --long SLOTS [--first SEED]      bursts that fill 65,536 pairs and that pass them, in buffers of so many slots, instead;
@@ -18,10 +19,11 @@ mod receiver;
 mod signal;
 mod verdict;
 
-use generator::{carried, stream};
+use generator::by_seed;
 use long::Long;
 use random::Random;
 use receiver::{Receiver, Reply};
+use signal::CLOSE;
 use verdict::{Census, at_least};
 
 /// Room for the lines of a stream.
@@ -30,11 +32,23 @@ const TEXT: usize = 1 << 24;
 /// The most pairs of a train.
 const PAIRS_MOST: u64 = 65_536;
 
-/// What a run must have compared, at the least: after how many calls, and after how many that left a slot other than it was; and
-/// trains in carry mode.
-const LEAST: [(&str, u64); 4] =
-    [("calls", 100_000), ("calls that write", 3000), ("carry train", 60), ("carry train with other widths", 10)];
-const LEAST_LONG: [(&str, u64); 3] = [("calls", 10), ("calls that write", 10), ("carry train with other widths", 1)];
+/// What a run must have compared, at the least: after how many calls, and after how many that left a slot other than it was; trains in
+/// carry mode; and closes, of which one that drops a frame writes nothing to the FSK buffer.
+const LEAST: [(&str, u64); 11] = [
+    ("calls", 100_000),
+    ("calls that write", 3000),
+    ("carry train", 60),
+    ("carry train with other widths", 10),
+    ("close in lead", 70),
+    ("close with no pulse held", 80),
+    ("close with an open gap", 25),
+    ("close with a closed gap", 13),
+    ("close that drops a whole frame", 35),
+    ("close with a train within a frame", 15),
+    ("close beside a short FSK buffer", 5),
+];
+const LEAST_LONG: [(&str, u64); 4] =
+    [("calls", 10), ("calls that write", 10), ("carry train with other widths", 1), ("close that gives a train", 1)];
 
 unsafe extern "C" {
     fn lane_buffers(
@@ -133,12 +147,14 @@ impl Case {
             if rest.is_empty() {
                 break;
             }
+            let found = if rest.starts_with(&CLOSE) { receiver.found() } else { Vec::new() };
             let reply = receiver.call(&mut rest);
             let taken = self.commands.len() - rest.len();
             if stops(n, &reply) {
                 let front = if reply.ends() { &self.commands[..] } else { &self.commands[..taken] };
                 self.compared(front, taken, &receiver, run)?;
                 run.carried(&receiver, &reply);
+                run.closed(&found, &receiver, &reply);
             }
             if reply.ends() {
                 break;
@@ -172,6 +188,15 @@ impl Run {
         }
     }
 
+    /// Counts a close, by what it found and what it gave. In OOK mode the FSK buffer may be too short for the settings.
+    fn closed(&mut self, found: &[&str], receiver: &Receiver, reply: &Reply) {
+        found.iter().for_each(|kind| self.count(kind, 1));
+        if let Reply::Closed { .. } = reply {
+            self.count("close that gives a train", u64::from(receiver.decided().is_some()));
+            self.count("close beside a short FSK buffer", u64::from(receiver.short_of_fsk()));
+        }
+    }
+
     fn ended(&self, least: &[(&str, u64)]) -> Result<String, String> {
         let figures = format!("both buffers equal, by value and by lending, after {}", verdict::words(&self.census));
         at_least(&self.census, least).map_err(|e| format!("{figures}\n{e}"))?;
@@ -184,7 +209,7 @@ fn seeded(streams: u64, calls: u64, first: u64) -> Result<String, String> {
     for seed in first..first + streams {
         let mut r = Random::new(!seed);
         let start = [any_buffer(&mut r), any_buffer(&mut r)];
-        let s = if seed % 2 == 0 { carried(seed, calls, None) } else { stream(seed, calls, None) };
+        let s = by_seed(seed, calls, None);
         let case = Case { commands: s.bytes, start };
         case.followed(calls, |_, _| true, &mut run).map_err(|e| format!("seed {seed}, {e}"))?;
         run.count("streams", 1);
@@ -200,7 +225,8 @@ fn long_burst(burst: &Long, slots: usize, seed: u64, run: &mut Run) -> Result<()
     let s = burst.stream(seed, Receiver::with_buffers(ook, fsk))?;
     let quarter = s.calls / 4;
     let case = Case { commands: s.bytes, start };
-    let stops = |n, reply: &Reply| matches!(reply, Reply::Idle { .. }) || n > 0 && n % quarter == 0;
+    let ends = |reply: &Reply| matches!(reply, Reply::Idle { .. } | Reply::Closed { .. });
+    let stops = |n, reply: &Reply| ends(reply) || n > 0 && n % quarter == 0;
     run.count("streams", 1);
     case.followed(s.calls, stops, run).map_err(|e| format!("{}: {e}", burst.name()))
 }
@@ -209,10 +235,11 @@ fn long_burst(burst: &Long, slots: usize, seed: u64, run: &mut Run) -> Result<()
 fn bursts(slots: usize) -> Vec<Long> {
     let [_, full, over, frame, frame_over, _, auto_over, auto_frame_over, both] = long::filling(PAIRS_MOST);
     let [carry_full, carry_over, ..] = long::carrying(PAIRS_MOST);
+    let [closed, _, _, _, both_closed] = long::closing(PAIRS_MOST);
     if slots as u64 > 2 * PAIRS_MOST {
-        return vec![over, frame, carry_full];
+        return vec![over, frame, carry_full, closed];
     }
-    vec![full, over, frame, frame_over, auto_over, auto_frame_over, both, carry_over]
+    vec![full, over, frame, frame_over, auto_over, auto_frame_over, both, carry_over, closed, both_closed]
 }
 
 fn long_bursts(slots: usize, seed: u64) -> Result<String, String> {

@@ -1,5 +1,5 @@
-//! Runs a listing program on seeded command streams and compares what it prints with the reference receiver. The openings of every
-//! second stream are commands 01 and 04, those of the others 01 alone.
+//! Runs a listing program on seeded command streams and compares what it prints with the reference receiver. The streams of even
+//! seeds have openings 01 and 04, those of the others 01 alone; the streams of the seeds 2 and 3 more than a multiple of 4 have closes.
 //!
 //!     compare PROGRAM [--streams N] [--calls N] [--first SEED] [--kind KIND]
 //!     compare PROGRAM --long [--first SEED]      long bursts instead: trains that fill the program's buffers, and that pass them
@@ -19,7 +19,7 @@ mod receiver;
 mod signal;
 mod verdict;
 
-use generator::{Stream, carried, stream};
+use generator::{Stream, by_seed};
 use program::{printed, shortened};
 use receiver::{Receiver, Reply};
 use signal::{KINDS, Kind};
@@ -32,7 +32,7 @@ const SHRINKING: Duration = Duration::from_secs(20);
 const SHOWN: usize = 60;
 
 /// What a run of streams of every kind must have seen, at the least; one of a single kind sees fewer.
-const LEAST: [(&str, u64); 23] = [
+const LEAST: [(&str, u64); 46] = [
     ("opening", 4000),
     ("begin", 15_000),
     ("step", 2_500_000),
@@ -56,10 +56,38 @@ const LEAST: [(&str, u64); 23] = [
     ("carry train with other widths", 350),
     ("carry train held back", 25),
     ("refused by carry alone", 800),
+    ("call of a stream with closes", 2_000_000),
+    ("close before any settings", 15),
+    ("close of an idle lane", 2500),
+    ("close in lead", 1600),
+    ("close in lead in OOK mode", 600),
+    ("close in lead in FSK mode", 700),
+    ("close in lead in Auto mode", 350),
+    ("close in burst", 4500),
+    ("close in burst in OOK mode", 1200),
+    ("close in burst in FSK mode", 1900),
+    ("close in burst in Auto mode", 1300),
+    ("close with no pulse held", 3000),
+    ("close with an open gap", 800),
+    ("close with a closed gap", 500),
+    ("close right after a pulse", 200),
+    ("close within a pulse", 3000),
+    ("close with a full train", 50),
+    ("close within a frame", 2700),
+    ("close that drops a whole frame", 1600),
+    ("close with a train within a frame", 450),
+    ("close that gives a train", 1200),
+    ("close that gives other widths by carry", 50),
+    ("close as the last byte", 40),
 ];
 
 /// What a run of long bursts must have seen, at the least.
-const LEAST_LONG: [(&str, u64); 2] = [("carry train", 18), ("carry train with other widths", 5)];
+const LEAST_LONG: [(&str, u64); 4] = [
+    ("carry train", 18),
+    ("carry train with other widths", 5),
+    ("close that gives a train", 8),
+    ("close that drops a whole frame", 4),
+];
 
 /// What the reference prints.
 fn reference(mut input: &[u8]) -> Vec<u8> {
@@ -145,7 +173,7 @@ fn shrunken(program: &str, mut kept: Vec<Call>) -> Vec<Call> {
 
 /// A command in words: its byte, then numbers and the bits of floats.
 fn words(bytes: &[u8]) -> String {
-    let whole = matches!((bytes[0], bytes.len()), (1, 38) | (2, 61) | (3, 25) | (4, 39));
+    let whole = matches!((bytes[0], bytes.len()), (1, 38) | (2, 61) | (3, 25) | (4, 39) | (5, 1));
     if !whole {
         return format!("{bytes:02x?}");
     }
@@ -154,6 +182,9 @@ fn words(bytes: &[u8]) -> String {
         let each = (from..end).step_by(4).map(|i| f32::from_bits(u32_at(i)));
         each.map(|x| format!(" {x:?}")).collect::<String>()
     };
+    if bytes[0] == 5 {
+        return "05".to_string();
+    }
     if bytes[0] == 1 || bytes[0] == 4 {
         let counts: String = (2..22).step_by(4).map(|i| format!(" {}", u32_at(i))).collect();
         let carry = bytes.get(38).map_or(String::new(), |c| format!(" carry {c}"));
@@ -217,9 +248,12 @@ fn agrees(o: &Options, seed: u64, s: &Stream) -> Result<(), String> {
 fn seeded(o: &Options) -> Result<String, String> {
     let (mut calls, mut census) = (0, Census::new());
     for seed in o.first..o.first + o.streams {
-        let s = if seed % 2 == 0 { carried(seed, o.calls, o.kind) } else { stream(seed, o.calls, o.kind) };
+        let s = by_seed(seed, o.calls, o.kind);
         agrees(o, seed, &s)?;
         calls += s.calls;
+        if s.census.contains_key("close") {
+            *census.entry("call of a stream with closes".to_string()).or_default() += s.calls;
+        }
         for (what, n) in s.census {
             // Trains by kind, refusals by number.
             let what = what.split(',').next().unwrap_or_default().to_string();
@@ -243,9 +277,9 @@ fn long_bursts(o: &Options) -> Result<String, String> {
         s.census.into_iter().for_each(|(what, n)| *census.entry(what).or_default() += n);
     }
     at_least(&census, &LEAST_LONG)?;
-    census.retain(|what, _| what.starts_with("carry"));
-    let (count, carry) = (bursts.len(), verdict::words(&census));
-    Ok(format!("{count} long bursts of {calls} calls agree, the longest train of {longest} pairs; {carry}"))
+    census.retain(|what, _| what.starts_with("carry") || what.starts_with("close that"));
+    let (count, kinds) = (bursts.len(), verdict::words(&census));
+    Ok(format!("{count} long bursts of {calls} calls agree, the longest train of {longest} pairs; {kinds}"))
 }
 
 fn main() -> ExitCode {

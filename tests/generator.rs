@@ -1,11 +1,14 @@
 //! Command streams from a seed: openings, bursts of every kind of signal, refused commands in between, damaged ones. A reference
 //! receiver follows the stream, so that a burst is begun where the lane is idle and stepped until it is idle again. The openings of
-//! `stream` are commands 01; those of `carried` are 01 and 04, with carry on and off in turn.
+//! `stream` are commands 01; those of `carried` are 01 and 04, with carry on and off in turn. `closed` and `carried_closed` are
+//! such streams with closes, commands 05. Each program uses a part of it.
+
+#![allow(dead_code)]
 
 use crate::random::Random;
 use crate::receiver::{Receiver, Reply, refused_by_carry};
 use crate::signal::{
-    AT_EDGES, Generator, KINDS, Kind, OUTSIDE, Tick, WORKED, begin_command, part, step_command, value,
+    AT_EDGES, CLOSE, Generator, KINDS, Kind, OUTSIDE, Tick, WORKED, begin_command, part, step_command, value,
 };
 use crate::verdict::Census;
 
@@ -33,6 +36,14 @@ pub struct Stream {
     receiver: Receiver,
     pub calls: u64,
     ended: bool,
+    /// What decides on closes, a sequence of its own; none where nothing is drawn for them.
+    closing: Option<Random>,
+    /// A seeded stream without closes: a byte 05 that damage puts where a command starts stops it as an unknown command does, so that
+    /// its bytes do not depend on closes. The calls from there on are made at its end.
+    stops_at_close: bool,
+    stopped: bool,
+    /// The calls after which a close may be the last byte.
+    last_close: u64,
     /// How often each kind of call and reply came.
     pub census: Census,
     pub decided: Vec<Decided>,
@@ -41,7 +52,24 @@ pub struct Stream {
 impl Stream {
     pub fn new(receiver: Receiver) -> Self {
         let (bytes, census, decided) = (Vec::new(), Census::new(), Vec::new());
-        Self { bytes, taken: 0, receiver, calls: 0, ended: false, census, decided }
+        let (closing, last_close, stops_at_close, stopped) = (None, 0, false, false);
+        Self {
+            bytes,
+            taken: 0,
+            receiver,
+            calls: 0,
+            ended: false,
+            closing,
+            stops_at_close,
+            stopped,
+            last_close,
+            census,
+            decided,
+        }
+    }
+
+    fn over(&self) -> bool {
+        self.ended || self.stopped
     }
 
     fn count(&mut self, what: &str) {
@@ -52,14 +80,22 @@ impl Stream {
     pub fn send(&mut self, bytes: &[u8]) -> bool {
         let mut accepted = false;
         self.bytes.extend(bytes);
-        while !self.ended && self.bytes.len() - self.taken >= size(self.bytes[self.taken..].first()) {
+        self.stopped |= self.stops_at_close && self.at_close();
+        while !self.over() && self.bytes.len() - self.taken >= size(self.bytes[self.taken..].first()) {
             accepted = self.call();
+            self.stopped |= self.stops_at_close && self.at_close();
         }
         accepted
     }
 
+    /// True where the next command is a close.
+    fn at_close(&self) -> bool {
+        self.bytes[self.taken..].starts_with(&CLOSE)
+    }
+
     fn call(&mut self) -> bool {
         self.calls += 1;
+        let found = if self.at_close() { self.receiver.found() } else { Vec::new() };
         let (before, mut rest) = (self.taken, &self.bytes[self.taken..]);
         let reply = self.receiver.call(&mut rest);
         self.taken = self.bytes.len() - rest.len();
@@ -68,7 +104,20 @@ impl Stream {
         self.receiver.lines(&reply, &mut lines).unwrap();
         self.counted(&String::from_utf8(lines).unwrap(), &reply);
         self.counted_carry(before, &reply);
+        self.counted_close(&found, &reply);
         !matches!(reply, Reply::Refused(_))
+    }
+
+    /// A close, by what it found and what it gave.
+    fn counted_close(&mut self, found: &[&str], reply: &Reply) {
+        found.iter().for_each(|kind| self.count(kind));
+        if let Reply::Closed { .. } = reply {
+            let train = self.receiver.decided().is_some();
+            self.count(if train { "close that gives a train" } else { "close that gives no train" });
+            if self.receiver.carried().contains(&"carry train with other widths") {
+                self.count("close that gives other widths by carry");
+            }
+        }
     }
 
     /// What the call that starts at this byte has to do with carry.
@@ -80,8 +129,11 @@ impl Stream {
         }
     }
 
-    /// Bytes of a command that is not whole end the stream by refusal 2.
+    /// Makes the calls that are left. Bytes of a command that is not whole end the stream by refusal 2.
     fn finish(&mut self) {
+        while self.stopped && !self.ended && self.bytes.len() - self.taken >= size(self.bytes[self.taken..].first()) {
+            self.call();
+        }
         if !self.ended && self.taken < self.bytes.len() {
             self.call();
         }
@@ -91,6 +143,7 @@ impl Stream {
         match reply {
             Reply::Opened => self.count("opening"),
             Reply::Begun => self.count("begin"),
+            Reply::Closed { .. } => self.count("close"),
             Reply::Refused(_) => {}
             _ => self.count("step"),
         }
@@ -151,6 +204,7 @@ fn burst(g: &mut Generator, s: &mut Stream) {
         _ if last + 1000 > INDEX_MOST => g.r.below(1 << 20),
         _ => last + g.r.from_to(1, 200),
     };
+    let mut aim = s.aim(g.settings.mode, ticks.len() as u64);
     let before = [value(g.r.unit()), part(-g.r.unit())];
     let mut earlier = [0.0; 7];
     for e in &mut earlier {
@@ -166,9 +220,10 @@ fn burst(g: &mut Generator, s: &mut Stream) {
         // The begin was refused or damaged.
         return;
     }
+    close_at(s, &mut aim);
     let broken_off = g.r.once_in(25).then(|| g.r.below(ticks.len() as u64));
     for (i, t) in ticks[1..].iter().enumerate() {
-        if s.ended || s.receiver.idle() || broken_off == Some(i as u64) {
+        if s.over() || s.receiver.idle() || broken_off == Some(i as u64) {
             break;
         }
         index = s.receiver.last() + 1;
@@ -177,6 +232,77 @@ fn burst(g: &mut Generator, s: &mut Stream) {
             break;
         }
         send_disturbed(g, s, &step_command(index, t));
+        close_at(s, &mut aim);
+    }
+}
+
+/// Where a burst is closed: the kind of close that is wanted, or any, and how many calls before it could have been one.
+struct Aim {
+    kind: Option<&'static str>,
+    after: u64,
+}
+
+/// Kinds of closes, with a number that the calls before lie below: first those that only pulses have, last those that only frames
+/// have, and those that take both.
+const AIMS: [(&str, u64); 9] = [
+    ("close with an open gap", 30),
+    ("close right after a pulse", 4),
+    ("close with a closed gap", 10),
+    ("close with a full train", 2),
+    ("close in lead", 15),
+    ("close with no pulse held", 10),
+    ("close within a frame", 40),
+    ("close that drops a whole frame", 20),
+    ("close with a train within a frame", 10),
+];
+
+impl Stream {
+    /// Whether the next burst, of so many samples in this mode, is closed, and where. The samples may end before the place is found.
+    fn aim(&mut self, mode: u8, samples: u64) -> Option<Aim> {
+        let r = self.closing.as_mut()?;
+        if r.once_in(3) {
+            return None;
+        }
+        if r.once_in(8) {
+            return Some(Aim { kind: None, after: r.below(samples) });
+        }
+        let (kind, most) = match mode {
+            0 => r.pick(&AIMS[..6]),
+            1 => r.pick(&AIMS[4..8]),
+            _ => r.pick(&AIMS),
+        };
+        Some(Aim { kind: Some(kind), after: r.below(most) })
+    }
+
+    /// True once in `n` in a stream with closes.
+    fn closes_once_in(&mut self, n: u64) -> bool {
+        self.closing.as_mut().is_some_and(|r| r.once_in(n))
+    }
+}
+
+/// Closes the burst where that is aimed at; then now and then once more, and with a step behind it. A stream may end there.
+fn close_at(s: &mut Stream, aim: &mut Option<Aim>) {
+    let Some(Aim { kind, after }) = aim else { return };
+    if s.over() || s.receiver.idle() || kind.is_some_and(|k| !s.receiver.found().contains(&k)) {
+        return;
+    }
+    if *after > 0 {
+        *after -= 1;
+        return;
+    }
+    *aim = None;
+    s.send(&CLOSE);
+    if s.calls >= s.last_close && s.closes_once_in(3) {
+        s.count("close as the last byte");
+        s.stopped = true;
+        return;
+    }
+    if s.closes_once_in(4) {
+        s.send(&CLOSE);
+    }
+    if s.closes_once_in(8) {
+        let index = s.receiver.last() + 1;
+        s.send(&step_command(index, &Tick { noise: 0.0, envelope: 8.0, sample: [1.0, 0.0] }));
     }
 }
 
@@ -190,6 +316,9 @@ fn send_disturbed(g: &mut Generator, s: &mut Stream, command: &[u8]) {
     if g.r.once_in(often) {
         let other = disturbance(g, s, command);
         s.send(&other);
+    }
+    if s.closes_once_in(often * 4) {
+        s.send(&CLOSE);
     }
     if g.kind == Kind::Damaged && g.r.once_in(3000) {
         let cut = g.r.below(command.len() as u64) as usize;
@@ -263,33 +392,69 @@ fn damaged(r: &mut Random, command: &[u8], how: u64) -> Vec<u8> {
 
 /// The stream of a seed, of about `calls` calls; its kind by the seed where none is given. Its openings are commands 01.
 pub fn stream(seed: u64, calls: u64, kind: Option<Kind>) -> Stream {
-    made(seed, calls, kind, None)
+    made(seed, calls, kind, [false, false])
 }
 
 /// Such a stream with openings 01 and 04.
 pub fn carried(seed: u64, calls: u64, kind: Option<Kind>) -> Stream {
-    made(seed, calls, kind, Some(Random::new(seed ^ (1 << 63))))
+    made(seed, calls, kind, [true, false])
 }
 
-fn made(seed: u64, calls: u64, kind: Option<Kind>, carry: Option<Random>) -> Stream {
+/// A stream with openings 01, and closes.
+pub fn closed(seed: u64, calls: u64, kind: Option<Kind>) -> Stream {
+    made(seed, calls, kind, [false, true])
+}
+
+/// A stream with openings 01 and 04, and closes.
+pub fn carried_closed(seed: u64, calls: u64, kind: Option<Kind>) -> Stream {
+    made(seed, calls, kind, [true, true])
+}
+
+/// Makes a stream of a seed.
+pub type Made = fn(u64, u64, Option<Kind>) -> Stream;
+
+/// The four sorts of streams.
+pub const SORTS: [(&str, Made); 4] = [
+    ("01 and 04", carried),
+    ("01 alone", stream),
+    ("01 and 04, with closes", carried_closed),
+    ("01 alone, with closes", closed),
+];
+
+/// The stream of a seed, whose remainder by 4 is the place of its sort: those of even seeds have openings 01 and 04, and those of
+/// the seeds 2 and 3 more than a multiple of 4 have closes.
+pub fn by_seed(seed: u64, calls: u64, kind: Option<Kind>) -> Stream {
+    SORTS[seed as usize % SORTS.len()].1(seed, calls, kind)
+}
+
+fn made(seed: u64, calls: u64, kind: Option<Kind>, [carry, close]: [bool; 2]) -> Stream {
+    // What is drawn for carry and for closes is drawn apart.
+    let carry = carry.then(|| Random::new(seed ^ (1 << 63)));
+    let closing = close.then(|| Random::new(seed ^ (1 << 62)));
     let mut r = Random::new(seed);
     let by_seed = KINDS[r.below(KINDS.len() as u64) as usize].1;
     let kind = kind.unwrap_or(by_seed);
     let mut g = Generator { r, kind, settings: WORKED, carry };
-    let mut s = Stream::new(Receiver::new());
+    let mut s = Stream { closing, stops_at_close: !close, last_close: calls / 10 * 9, ..Stream::new(Receiver::new()) };
+    if s.closes_once_in(4) {
+        s.send(&CLOSE);
+    }
     if g.r.once_in(4) {
         // Before any settings.
         burst(&mut g, &mut s);
         s.send(&step_command(1, &Tick { noise: 0.0, envelope: 0.0, sample: [0.0; 2] }));
     }
-    while !s.ended && s.calls < calls {
+    while !s.over() && s.calls < calls {
         let next = g.settings();
         if s.send(&next.command()) {
             g.settings = next;
         }
         for _ in 0..g.r.from_to(1, 8) {
-            if s.ended || !s.receiver.idle() {
+            if s.over() || !s.receiver.idle() {
                 break;
+            }
+            if s.closes_once_in(10) {
+                s.send(&CLOSE);
             }
             if let Some(again) = g.carry_changed() {
                 s.send(&again.command());
@@ -297,9 +462,12 @@ fn made(seed: u64, calls: u64, kind: Option<Kind>, carry: Option<Random>) -> Str
             burst(&mut g, &mut s);
         }
     }
-    if !s.ended && g.r.once_in(3) {
+    if !s.over() && g.r.once_in(3) {
         let command = g.settings.command();
         s.send(&command[..g.r.from_to(1, command.len() as u64 - 1) as usize]);
+    }
+    if !s.over() && s.closes_once_in(4) {
+        s.send(&CLOSE);
     }
     s.finish();
     s

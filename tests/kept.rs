@@ -23,9 +23,18 @@ const FRONT: &str = "ook 11 15 0 4 41000000 vector 40800000 00000000 1 4 0\nidle
                      ook 11 23 0 12 41fe7965 vector 41000000 00000000 2 0 3 6 0\nidle 27\n\
                      ook 11 16 0 5 41000000 vector 40800000 00000000 2 2 3 2 0\nidle 21\n";
 
+/// Bursts of R-13 (document 02) come among the others: closes of an idle lane, in lead, in a pulse, in a gap, in the next pulse, twice,
+/// in carry mode, in a frame, after one, and of a train within a frame.
+const CLOSED: &str = "\nrefused 5\nidle 15\nidle 17\n\
+                      ook 11 14 0 3 41000000 vector 40400000 00000000 1 3 0\nidle 16\n\
+                      ook 11 14 0 3 41000000 vector 40400000 00000000 1 3 3\nidle 19\nrefused 5\n\
+                      ook 11 16 0 5 41000000 vector 40800000 00000000 2 2 2 2 2\nidle 20\nidle 17\n\
+                      fsk 10 14 0 4 41000000 vector 40400000 00000000 1 3 0\nidle 16\n\
+                      ook 11 14 0 3 41000000 vector 40400000 00000000 1 3 3\nidle 37\n";
+
 /// What the stream and its listing must have, with the least number of each. No list of calls meets refusal 4, refusals 1 and 2
 /// end a stream, and refusal 9 is not a command's.
-const LEAST: [(&str, u64); 33] = [
+const LEAST: [(&str, u64); 38] = [
     ("opening, mode 0", 2),
     ("opening, mode 1", 2),
     ("opening, mode 2", 2),
@@ -36,6 +45,11 @@ const LEAST: [(&str, u64); 33] = [
     ("opening, mode 2, carry 1", 5),
     ("opening, carry above 1", 10),
     ("begin", 300),
+    ("close after 01", 1),
+    ("close after 02", 1),
+    ("close after 03", 50),
+    ("close after 04", 1),
+    ("close after 05", 5),
     ("train", 300),
     ("ook vector", 50),
     ("fsk angle", 20),
@@ -100,12 +114,14 @@ fn line(line: &str) -> Vec<String> {
 /// The commands of the stream, accepted or not, and the number of bytes after the last whole one.
 fn commands(mut rest: &[u8]) -> (Vec<String>, usize) {
     let mut kinds = Vec::new();
+    let mut before = 0;
     loop {
         let size = match rest.first() {
             Some(1) => 38,
             Some(2) => 61,
             Some(3) => 25,
             Some(4) => 39,
+            Some(5) => 1,
             _ => return (kinds, rest.len()),
         };
         if rest.len() < size {
@@ -116,8 +132,10 @@ fn commands(mut rest: &[u8]) -> (Vec<String>, usize) {
             4 if rest[38] > 1 => "opening, carry above 1".to_string(),
             4 => format!("opening, mode {}, carry {}", rest[1], rest[38]),
             2 => "begin".to_string(),
+            5 => format!("close after {before:02x}"),
             _ => "step".to_string(),
         });
+        before = rest[0];
         rest = &rest[size..];
     }
 }
@@ -129,6 +147,9 @@ fn counted(stream: &[u8], listing: &str) -> Result<Census, String> {
     }
     if !listing.starts_with(FRONT) {
         return Err(format!("{LISTING}: M6, M7, M8 and R-1's bursts are not first"));
+    }
+    if !listing.contains(CLOSED) {
+        return Err(format!("{LISTING}: R-13's bursts are not in it"));
     }
     let mut census = Census::new();
     for kind in kinds.into_iter().chain(listing.lines().flat_map(line)) {

@@ -15,8 +15,8 @@ mod verdict;
 mod worked;
 
 use program::{Live, complaint, printed};
-use signal::{Settings, Tick, WORKED, begin_command, step_command};
-use worked::{HALVES, M6, M7, M8, MOST, begin, calls, carrying, opening, step};
+use signal::{CLOSE, Settings, Tick, WORKED, begin_command, step_command};
+use worked::{HALVES, HELD, M6, M7, M8, MOST, begin, calls, carrying, opening, step};
 
 /// A command and what it prints.
 type Call = (Vec<u8>, &'static str);
@@ -28,11 +28,18 @@ fn burst(index: u64, envelopes: &[f32], lines: &'static str) -> Vec<Call> {
     calls
 }
 
-/// Three bursts, and refused calls before, in and after them; then a burst in carry mode.
+/// The calls of a burst, and its close, which prints.
+fn closed(index: u64, envelopes: &[f32], lines: &'static str) -> Vec<Call> {
+    let calls = calls(index, envelopes).into_iter().map(|c| (c, ""));
+    calls.chain([(CLOSE.to_vec(), lines)]).collect()
+}
+
+/// Three bursts, and refused calls before, in and after them; then a burst in carry mode; then closed ones.
 fn script() -> Vec<Call> {
     let mut script = vec![
         (begin(0, 0.0), "refused 3\n"),
         (step(0, 0.0), "refused 5\n"),
+        (CLOSE.to_vec(), "refused 5\n"),
         (opening(0), "refused 3\n"),
         (opening(MOST), ""),
     ];
@@ -46,6 +53,10 @@ fn script() -> Vec<Call> {
     script.extend(last);
     script.extend([(carrying(1).command(), ""), (carrying(2).command(), "refused 3\n")]);
     script.extend(burst(60, &HALVES, "ook 61 66 0 5 41000000 vector 40800000 00000000 2 2 2 2 0\nidle 71\n"));
+    script.push((opening(MOST), ""));
+    script.extend(closed(80, &HELD, "ook 81 84 0 3 41000000 vector 40400000 00000000 1 3 3\nidle 89\n"));
+    script.push((CLOSE.to_vec(), "refused 5\n"));
+    script.extend(closed(90, &HELD[..6], "idle 95\n"));
     script.extend([(opening(2049), ""), (begin(80, 0.0), "refused 8\n"), (step(81, 0.0), "refused 5\n")]);
     script
 }

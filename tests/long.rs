@@ -1,12 +1,12 @@
 //! Long bursts, from a seed: the 300 pulses that a transmitter sends, and trains and frames that fill max_pulses and that pass it,
-//! without carry and in carry mode.
+//! without carry and in carry mode; some are closed.
 
 #![allow(dead_code)]
 
 use crate::generator::{Decided, Stream, whole_burst};
 use crate::random::Random;
 use crate::receiver::Receiver;
-use crate::signal::{Generator, Kind, Settings, Stretch, Tick};
+use crate::signal::{CLOSE, Generator, Kind, Settings, Stretch, Tick};
 
 /// A part of a burst.
 #[derive(Clone, Copy, Debug)]
@@ -26,6 +26,8 @@ pub struct Long {
     gives: Vec<Decided>,
     /// As in `Settings`.
     carry: Option<u8>,
+    /// Closed as soon as the last pulse is held, or in its last tone.
+    close: bool,
 }
 
 /// Bursts of every mode that just do not fill `most` pairs, fill them, and pass them. In Auto mode the train before a frame
@@ -38,6 +40,7 @@ pub fn filling(most: u64) -> [Long; 9] {
         parts: parts.to_vec(),
         gives: gives.to_vec(),
         carry: None,
+        close: false,
     };
     [
         burst(0, &[Pulses(less)], &[("ook", less, false)]),
@@ -54,7 +57,8 @@ pub fn filling(most: u64) -> [Long; 9] {
 
 /// The 300 pulses, and room for more.
 fn usual() -> Long {
-    Long { mode: 0, max_pulses: 2048, parts: vec![Pulses(300)], gives: vec![("ook", 300, false)], carry: None }
+    let gives = vec![("ook", 300, false)];
+    Long { mode: 0, max_pulses: 2048, parts: vec![Pulses(300)], gives, carry: None, close: false }
 }
 
 fn carried(burst: Long) -> Long {
@@ -67,10 +71,21 @@ pub fn carrying(most: u64) -> [Long; 4] {
     [full, over, auto_over, both].map(carried)
 }
 
+/// Bursts that are closed: trains that fill `most` pairs, in OOK mode and in Auto, and in carry mode; and frames that pass them, in
+/// FSK mode and after a train in Auto mode, which are dropped.
+pub fn closing(most: u64) -> [Long; 5] {
+    let [_, full, _, _, frame, auto_full, _, _, both] = filling(most);
+    let [carry_full, ..] = carrying(most);
+    let frame = Long { gives: Vec::new(), ..frame };
+    let both = Long { gives: vec![("ook", most - 1, false)], ..both };
+    [full, auto_full, carry_full, frame, both].map(|burst| Long { close: true, ..burst })
+}
+
 /// Those that the listing program's buffers hold, and that pass them.
 pub fn listed() -> Vec<Long> {
     let plain = std::iter::once(usual()).chain(filling(300)).chain(filling(2048));
-    plain.chain([carried(usual())]).chain(carrying(300)).chain(carrying(2048)).collect()
+    let carry = [carried(usual())].into_iter().chain(carrying(300)).chain(carrying(2048));
+    plain.chain(carry).chain(closing(300)).chain(closing(2048)).collect()
 }
 
 /// Those of the kept stream: the 300 pulses, trains and frames that fill 300 pairs or pass them, and a train that passes the
@@ -84,7 +99,8 @@ pub fn kept() -> [Long; 6] {
 impl Long {
     pub fn name(&self) -> String {
         let carry = if self.carry == Some(1) { ", carry" } else { "" };
-        format!("mode {}, max_pulses {}, {:?}{carry}", self.mode, self.max_pulses, self.parts)
+        let close = if self.close { ", closed" } else { "" };
+        format!("mode {}, max_pulses {}, {:?}{carry}{close}", self.mode, self.max_pulses, self.parts)
     }
 
     fn settings(&self, r: &mut Random) -> Settings {
@@ -113,13 +129,21 @@ impl Long {
         let ripple = if self.parts.len() > 1 && self.carry.is_none() { 0.0 } else { 0.1 };
         let index = g.r.below(1 << 39);
         let short = if self.mode == 1 { Tones(3) } else { Pulses(3) };
-        for (index, parts) in [(index, &self.parts[..]), (index + (1 << 30), &[short])] {
-            let plan = plan(&mut g.r, parts, u64::from(settings.min_steps));
+        for (index, parts, close) in [(index, &self.parts[..], self.close), (index + (1 << 30), &[short], false)] {
+            let mut plan = plan(&mut g.r, parts, u64::from(settings.min_steps));
+            if close {
+                plan.pop();
+                let len = if matches!(parts.last(), Some(Pulses(_))) { u64::from(settings.min_steps) } else { 0 };
+                plan.push(Stretch { len, on: false, turn: 0.0 });
+            }
             let (factor, mut ticks) = g.clear_samples(&plan, ripple);
             if self.carry.is_some() {
                 halve_ends(&plan, &mut ticks);
             }
             whole_burst(&mut s, index, factor, &ticks);
+            if close {
+                s.send(&CLOSE);
+            }
         }
         let kind = if self.mode == 1 { "fsk" } else { "ook" };
         let gives = [&self.gives[..], &[(kind, 3, false)]].concat();

@@ -1,7 +1,9 @@
 //! Tests the reference, and nothing of Rattle: demand 3 holds of the published lane. For every OOK burst that ends in a seeded stream,
-//! the pulses of its record, taken as document 01 defines them, are those of its train. In carry mode the slots up to the last pulse
-//! are the differences of R-1's boundaries, taken from the record's edges, and add up to the last pulse's rounded end. Long bursts
-//! come then, and last the widths of single rows of edges, some of which no list of calls has.
+//! the pulses of its record, taken as document 01 defines them, are those of its train, and its last gap is 0, or the gap before a
+//! pulse that starts behind the train. A close ends a burst with the last step, and in lead gives no train. Where a gap is under
+//! way, the train of a close, in any mode, is the one that the published lane gives where the gap has run out. In carry mode the slots
+//! up to the last pulse are the differences of R-1's boundaries, taken from the record's edges, and add up to the last pulse's rounded
+//! end. Long bursts come then, and last the widths of single rows of edges, some of which no list of calls has.
 //!
 //!     pulses [--streams N] [--calls N]
 
@@ -15,9 +17,9 @@ mod receiver;
 mod signal;
 mod verdict;
 
-use generator::{Stream, carried, stream};
+use generator::SORTS;
 use receiver::{Limits, Receiver, Reply, Sample, Train, carried_widths, width_between};
-use signal::Kind;
+use signal::{CLOSE, Kind};
 use verdict::{Census, at_least};
 
 /// A longest stretch of one level that has at least min_steps samples, with its edge at sample number min_steps.
@@ -32,8 +34,9 @@ fn counted_runs(record: &[Sample], min_steps: usize) -> Vec<Run> {
     counted.map(|s| Run { high: s[0].high, edge: s[min_steps - 1].edge }).collect()
 }
 
-/// The edges of each row of high runs that a low run closes: the first high run's and the low run's.
-fn pulses(record: &[Sample], min_steps: usize) -> Vec<[f64; 2]> {
+/// The edges of each row of high runs that a low run closes: the first high run's and the low run's; and the edge of a row that none
+/// closes.
+fn pulses(record: &[Sample], min_steps: usize) -> (Vec<[f64; 2]>, Option<f64>) {
     let mut first = None;
     let mut pulses = Vec::new();
     for run in counted_runs(record, min_steps) {
@@ -43,16 +46,16 @@ fn pulses(record: &[Sample], min_steps: usize) -> Vec<[f64; 2]> {
             pulses.push([edge, run.edge]);
         }
     }
-    pulses
+    (pulses, first)
 }
 
-/// R-1's boundaries of these pulses, the first edge's among them, in 64ths of a step; and how many edges lie below the boundary
+/// R-1's boundaries of these edges, the first one's among them, in 64ths of a step; and how many edges lie below the boundary
 /// before.
-fn boundaries(pulses: &[[f64; 2]]) -> (Vec<u64>, usize) {
+fn boundaries(edges: &[f64]) -> (Vec<u64>, usize) {
     let (mut boundaries, mut held) = (Vec::new(), 0);
-    for edge in pulses.as_flattened() {
+    for edge in edges {
         // Ties go away from zero. No list reaches 2^47, and its edges are numbers.
-        let here = ((edge - pulses[0][0]) * 64.0).round();
+        let here = ((edge - edges[0]) * 64.0).round();
         let before = boundaries.last().copied().unwrap_or(0);
         held += usize::from(here < before as f64);
         boundaries.push(before.max(here as u64));
@@ -66,7 +69,7 @@ fn rounded(boundary: u64) -> u64 {
 }
 
 /// What a run must have seen, at the least.
-const LEAST: [(&str, u64); 9] = [
+const LEAST: [(&str, u64); 16] = [
     ("bursts", 16_000),
     ("trains", 10_000),
     ("cut trains", 800),
@@ -76,12 +79,19 @@ const LEAST: [(&str, u64); 9] = [
     ("carry trains of 300 pairs or more", 5),
     ("carry trains with other widths", 600),
     ("carry trains held back", 40),
+    ("close in lead", 1300),
+    ("close with no pulse held", 1400),
+    ("close with an open gap", 1000),
+    ("close with a closed gap", 500),
+    ("close right after a pulse", 300),
+    ("close with a full train", 60),
+    ("closes as a gap that has run out", 1400),
 ];
 
 /// R-1 for a train in carry mode and the pulses of the record that it has.
 fn check_carried(c: &mut Census, kept: &[[f64; 2]], train: &Train) -> Result<(), String> {
     let slots = &train.slots[..2 * kept.len() - 1];
-    let (boundaries, held) = boundaries(kept);
+    let (boundaries, held) = boundaries(kept.as_flattened());
     let widths: Vec<u64> = boundaries.windows(2).map(|b| rounded(b[1]) - rounded(b[0])).collect();
     let most = u64::from(u32::MAX);
     if !slots.iter().map(|&w| u64::from(w)).eq(widths.iter().map(|&w| w.min(most))) {
@@ -103,9 +113,25 @@ fn check_carried(c: &mut Census, kept: &[[f64; 2]], train: &Train) -> Result<(),
     Ok(())
 }
 
+/// The last gap, which is not demand 3's: 0 where no pulse starts behind the last one of the train, and else the gap before it.
+fn check_last_gap(kept: &[[f64; 2]], next: Option<f64>, carry: bool, train: &Train) -> Result<(), String> {
+    let edges = [kept.as_flattened(), next.as_slice()].concat();
+    let [.., fall, rise] = edges[..] else { return Ok(()) };
+    let gap = match (next, carry) {
+        (None, _) => 0,
+        (_, false) => width_between(fall, rise),
+        _ => {
+            let (boundaries, _) = boundaries(&edges);
+            let [.., fall, rise] = boundaries[..] else { return Ok(()) };
+            (rounded(rise) - rounded(fall)).min(u64::from(u32::MAX)) as u32
+        }
+    };
+    if train.slots.last() == Some(&gap) { Ok(()) } else { Err(format!("train {:?}, last gap {gap}", train.slots)) }
+}
+
 /// Demand 3 for an ended burst and the trains that its calls gave.
 fn check(c: &mut Census, record: &[Sample], limits: Limits, trains: &[Train]) -> Result<(), String> {
-    let pulses = pulses(record, limits.min_steps);
+    let (pulses, under_way) = pulses(record, limits.min_steps);
     let mut count = |what: &str, n: usize| *c.entry(what.to_string()).or_default() += n as u64;
     count("bursts", 1);
     if pulses.is_empty() && trains.is_empty() {
@@ -123,6 +149,8 @@ fn check(c: &mut Census, record: &[Sample], limits: Limits, trains: &[Train]) ->
     if kept.is_empty() || pairs != kept.len() || train.cut != (pulses.len() > limits.max_pulses) {
         return Err(format!("pulses {pulses:?}, train {:?}, cut {}", train.slots, train.cut));
     }
+    let next = pulses.get(kept.len()).map(|p| p[0]).or(under_way);
+    check_last_gap(kept, next, limits.carry, train)?;
     if limits.carry {
         return check_carried(c, kept, train);
     }
@@ -133,18 +161,52 @@ fn check(c: &mut Census, record: &[Sample], limits: Limits, trains: &[Train]) ->
     Ok(())
 }
 
+/// R-13 for an accepted close: in lead it gives no train, and the record has no sample; where the envelope and the carrier are gone
+/// it gives what the published lane gives where the gap has run out; the phase line is of the last index.
+fn check_closed(
+    c: &mut Census,
+    receiver: &Receiver,
+    reply: &Reply,
+    phase: &str,
+    run_out: Option<Vec<u8>>,
+) -> Result<(), String> {
+    let mut lines = Vec::new();
+    receiver.lines(reply, &mut lines).map_err(|e| e.to_string())?;
+    let idle = format!("idle {}\n", receiver.last());
+    let right = match (phase, run_out) {
+        ("close in lead", _) if !receiver.record().is_empty() => {
+            return Err("a close in lead with a record".to_string());
+        }
+        ("close in lead", _) => idle.into_bytes(),
+        (_, Some(run_out)) => {
+            *c.entry("closes as a gap that has run out".to_string()).or_default() += 1;
+            [run_out, idle.into_bytes()].concat()
+        }
+        _ => return Ok(()),
+    };
+    let [got, right] = [lines, right].map(|l| String::from_utf8_lossy(&l).into_owned());
+    if got == right { Ok(()) } else { Err(format!("a close prints\n{got}and not\n{right}")) }
+}
+
 fn follow(c: &mut Census, mut input: &[u8]) -> Result<(), String> {
     let mut receiver = Receiver::new();
     let mut trains = Vec::new();
     while !input.is_empty() {
+        let found = if input.starts_with(&CLOSE) { receiver.found() } else { Vec::new() };
+        let run_out = found.first().and_then(|_| receiver.run_out());
         let reply = receiver.call(&mut input);
         match reply {
             Reply::Begun => trains.clear(),
             Reply::Refused(_) => {}
             _ => trains.extend(receiver.decided()),
         }
-        if let (Reply::Idle { .. } | Reply::Carrier { .. }, Some(limits)) = (&reply, receiver.in_ook_mode()) {
+        let ended = matches!(reply, Reply::Idle { .. } | Reply::Carrier { .. } | Reply::Closed { .. });
+        if let (true, Some(limits)) = (ended, receiver.in_ook_mode()) {
             check(c, receiver.record(), limits, &trains)?;
+            found.iter().for_each(|kind| *c.entry(kind.to_string()).or_default() += 1);
+        }
+        if let Reply::Closed { .. } = reply {
+            check_closed(c, &receiver, &reply, found[0], run_out)?;
         }
         if reply.ends() {
             break;
@@ -189,11 +251,6 @@ fn worked() -> Result<usize, String> {
     Ok(table.len())
 }
 
-/// Makes a stream.
-type Made = fn(u64, u64, Option<Kind>) -> Stream;
-
-const WAYS: [(&str, Made); 2] = [("01 alone", stream), ("01 and 04", carried)];
-
 fn run() -> Result<String, String> {
     let (mut streams, mut calls) = (40, 20_000);
     let mut args = std::env::args().skip(1);
@@ -208,7 +265,7 @@ fn run() -> Result<String, String> {
     let mut c = Census::new();
     for seed in 1..=streams {
         for kind in [Kind::Ook, Kind::Exact, Kind::Edges, Kind::Damaged] {
-            for (name, made) in WAYS {
+            for (name, made) in SORTS {
                 let s = made(seed, calls, Some(kind));
                 follow(&mut c, &s.bytes).map_err(|e| format!("seed {seed}, {kind:?}, {name}: {e}"))?;
             }

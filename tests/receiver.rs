@@ -1,6 +1,6 @@
 //! The reference receiver: the published lane, as tests/cut gives it, with what document 01 adds around it ("Added around
-//! the lane", "Commands", "Replies other than an answer") and R-1's carry mode (document 02; its widths are in carry.rs). All that
-//! is not the lane is written from these texts alone and reads no Rattle source.
+//! the lane", "Commands", "Replies other than an answer"), and of document 02 R-1's carry mode (its widths are in carry.rs) and R-13's
+//! close. All that is not the lane is written from these texts alone and reads no Rattle source.
 
 include!("../target/tests/published.rs");
 
@@ -16,7 +16,7 @@ const RATIO_MOST: f32 = 1e6;
 const VALUE_MOST: f32 = 1e18;
 const INDEX_MOST: u64 = 1 << 40;
 
-// Operand bytes of commands 01, 02 and 03; 04 has those of 01 and carry.
+// Operand bytes of commands 01, 02 and 03; 04 has those of 01 and carry, 05 has none.
 const OPENING_BYTES: usize = 37;
 const BEGIN_BYTES: usize = 60;
 const STEP_BYTES: usize = 24;
@@ -306,6 +306,23 @@ impl Receiver {
         }
         Ok(next)
     }
+
+    /// R-13. Where its gap has run out, `sample` ends a burst by `end_train`, which decides the train where pulses are held, and answers
+    /// idle; the frame's state stays behind, and the next burst clears it. In lead there is nothing to end, and no replay is made.
+    fn close(&mut self) -> Result<(), Refused> {
+        let Some(p) = self.settings.filter(|_| self.lane.mode != IDLE) else {
+            return Err(5);
+        };
+        if !self.room(&p) {
+            return Err(8);
+        }
+        self.lane.out = [Out::default(); 2];
+        if self.lane.mode == BURST {
+            self.lane.end_train(&mut LanePairs { ook: &mut self.ook, fsk: &mut self.fsk });
+        }
+        self.lane.mode = IDLE;
+        Ok(())
+    }
 }
 
 fn sample_of(lane: &Lane) -> Sample {
@@ -379,6 +396,73 @@ impl Receiver {
     }
 }
 
+/// The kinds of a close by the mode, in lead and in a burst.
+const IN_LEAD: [&str; 3] = ["close in lead in OOK mode", "close in lead in FSK mode", "close in lead in Auto mode"];
+const IN_BURST: [&str; 3] = ["close in burst in OOK mode", "close in burst in FSK mode", "close in burst in Auto mode"];
+
+/// What R-13 speaks of.
+impl Receiver {
+    /// The kinds of a close that would come now, by what it finds: the phase first.
+    pub fn found(&self) -> Vec<&'static str> {
+        let Some(p) = self.settings else { return vec!["close before any settings"] };
+        let l = &self.lane;
+        let mode = p.modulation as usize;
+        match l.mode {
+            IDLE => return vec!["close of an idle lane"],
+            LEAD => return vec!["close in lead", IN_LEAD[mode]],
+            _ => {}
+        }
+        let held = l.ook_n + l.open > 0;
+        // A presence, or an absence that is too short yet to end it.
+        let frame = mode != 0 && (l.p_level == 1 || l.p_confirmed == 0);
+        // `end_frame` writes nothing to buffers without a slot.
+        let end_frame = || { self.lane }.end_frame(&p, &mut LanePairs { ook: &mut [], fsk: &mut [] }, 0.0, 1.0);
+        let presence = if l.p_level == 1 { l.p_run } else { l.p_prev };
+        let whole = frame && presence >= p.min_steps && end_frame();
+        let kinds = [
+            ("close in burst", true),
+            (IN_BURST[mode], true),
+            ("close with no pulse held", !held),
+            ("close with an open gap", l.open == 1),
+            ("close with a closed gap", held && l.open == 0),
+            ("close right after a pulse", l.open == 1 && l.level == 0 && l.run_len == p.min_steps),
+            ("close within a pulse", l.level == 1),
+            ("close with a full train", l.ook_n == p.max_pulses),
+            ("close within a frame", frame),
+            ("close that drops a whole frame", whole),
+            ("close with a train within a frame", held && frame),
+        ];
+        kinds.into_iter().filter(|k| k.1).map(|k| k.0).collect()
+    }
+
+    /// The lines of the train that the published `sample` decides where the gap of the burst under way has run out: at one more low
+    /// sample, with limits for the gap that it passes. None outside a burst, and where neither envelope nor carrier is gone for
+    /// min_steps yet.
+    pub fn run_out(&self) -> Option<Vec<u8>> {
+        let mut p = self.settings?;
+        let mut lane = self.lane;
+        let gone = lane.level == 0 && lane.confirmed == 1 && lane.p_level == 0 && lane.p_confirmed == 1;
+        if lane.mode != BURST || !gone {
+            return None;
+        }
+        (p.gap_steps, p.pre_timeout) = (0, 0);
+        lane.out = [Out::default(); 2];
+        let (mut ook, mut fsk, zero) = (self.ook.clone(), self.fsk.clone(), C32::default());
+        let mut pairs = LanePairs { ook: &mut ook, fsk: &mut fsk };
+        let next = lane.sample(&p, 0.0, &mut pairs, 0.0, zero, zero, self.last + 1);
+        assert!(next == Next::Idle, "the gap has not run out: {next:?}");
+        let mut lines = Vec::new();
+        train(&mut lines, "fsk", &lane.out[1], &fsk).unwrap();
+        train(&mut lines, "ook", &lane.out[0], &ook).unwrap();
+        Some(lines)
+    }
+
+    /// True where the FSK buffer is too short for the settings, which OOK mode allows.
+    pub fn short_of_fsk(&self) -> bool {
+        self.settings.is_some_and(|p| self.fsk.len() < 2 * p.max_pulses as usize)
+    }
+}
+
 /// The width between two edges.
 pub fn width_between(a: f64, b: f64) -> u32 {
     width(a, b)
@@ -419,8 +503,17 @@ pub enum Reply {
     Opened,
     Begun,
     Stayed,
-    Idle { index: u64 },
-    Carrier { index: u64, envelope: f32 },
+    Idle {
+        index: u64,
+    },
+    Carrier {
+        index: u64,
+        envelope: f32,
+    },
+    /// With the index of the last accepted call before.
+    Closed {
+        index: u64,
+    },
     Refused(Refused),
 }
 
@@ -439,6 +532,7 @@ impl Receiver {
             n @ 2 => (n, BEGIN_BYTES),
             n @ 3 => (n, STEP_BYTES),
             n @ 4 => (n, OPENING_BYTES + 1),
+            n @ 5 => (n, 0),
             _ => return Reply::Refused(1),
         };
         let Some((operands, rest)) = input[1..].split_at_checked(size) else {
@@ -449,6 +543,7 @@ impl Receiver {
         let reply = match command {
             1 | 4 => self.open(&operands.opening()).map(|()| Reply::Opened),
             2 => self.begin(&operands.begin()).map(|()| Reply::Begun),
+            5 => self.close().map(|()| Reply::Closed { index: self.last }),
             _ => self.stepped(&operands.step()),
         };
         reply.unwrap_or_else(Reply::Refused)
@@ -471,7 +566,7 @@ impl Receiver {
         train(out, "fsk", &self.lane.out[1], &self.fsk)?;
         train(out, "ook", &self.lane.out[0], &self.ook)?;
         match reply {
-            Reply::Idle { index } => writeln!(out, "idle {index}"),
+            Reply::Idle { index } | Reply::Closed { index } => writeln!(out, "idle {index}"),
             Reply::Carrier { index, envelope } => {
                 writeln!(out, "carrier {index} {:08x}", bits(*envelope))
             }

@@ -98,6 +98,9 @@ pub fn step_command(index: u64, t: &Tick) -> Vec<u8> {
     c
 }
 
+/// Command 05 has no operands.
+pub const CLOSE: [u8; 1] = [5];
+
 /// Values at the ends of the domain and of the format.
 pub const AT_EDGES: [f32; 13] = [
     0.0,

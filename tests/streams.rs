@@ -1,13 +1,13 @@
 //! Writes a command stream for the listing program (document 01, "Commands") to standard output.
 //!
-//!     streams [--seed N] [--calls N] [--kind KIND] [--carry] [--census]
+//!     streams [--seed N] [--calls N] [--kind KIND] [--carry] [--close] [--census]
 //!     streams --long [--seed N]      the long bursts of the kept stream instead, a seed each
 //!     streams --short [--seed N] [--calls N]     bursts of short pulses instead, those of the benchmark
 //!
 //! Kinds: ook, fsk, auto (settings of that mode), exact (values that meet thresholds and ties exactly), edges (values and
 //! settings at and past the ends of the domain), damaged (commands with changed, lost or repeated bytes; such a stream may end
-//! early) and any (one of them, by the seed). With --carry openings are commands 01 and 04, elsewhere 01 alone. With --census the
-//! kinds of calls and replies are counted on standard error.
+//! early) and any (one of them, by the seed). With --carry openings are commands 01 and 04, elsewhere 01 alone. With --close there are
+//! closes, commands 05. With --census the kinds of calls and replies are counted on standard error.
 
 use std::io::{self, Write};
 
@@ -19,13 +19,13 @@ mod receiver;
 mod signal;
 mod verdict;
 
-use generator::{carried, stream};
+use generator::{carried, carried_closed, closed, stream};
 use receiver::Receiver;
 use signal::KINDS;
 
 fn main() -> io::Result<()> {
     let (mut seed, mut calls, mut kind) = (1u64, 10_000u64, None);
-    let (mut carry, mut census, mut long, mut short) = (false, false, false, false);
+    let (mut carry, mut close, mut census, mut long, mut short) = (false, false, false, false, false);
     let mut args = std::env::args().skip(1);
     while let Some(a) = args.next() {
         let mut value = || args.next().unwrap_or_else(|| usage());
@@ -34,6 +34,7 @@ fn main() -> io::Result<()> {
             "--calls" => calls = value().parse().unwrap_or_else(|_| usage()),
             "--kind" => kind = Some(value()),
             "--carry" => carry = true,
+            "--close" => close = true,
             "--census" => census = true,
             "--long" => long = true,
             "--short" => short = true,
@@ -49,11 +50,13 @@ fn main() -> io::Result<()> {
         let found = KINDS.iter().find(|(n, _)| *n == name);
         found.unwrap_or_else(|| usage()).1
     });
-    let s = match (short, carry) {
-        (true, _) => long::short_pulses(seed, calls),
-        (_, true) => carried(seed, calls, kind),
-        _ => stream(seed, calls, kind),
+    let made = match (carry, close) {
+        (false, false) => stream,
+        (true, false) => carried,
+        (false, true) => closed,
+        (true, true) => carried_closed,
     };
+    let s = if short { long::short_pulses(seed, calls) } else { made(seed, calls, kind) };
     if census {
         for (what, n) in &s.census {
             eprintln!("{n:9} {what}");
@@ -64,7 +67,8 @@ fn main() -> io::Result<()> {
 
 fn usage() -> ! {
     eprintln!(
-        "streams [--seed N] [--calls N] [--kind ook|fsk|auto|exact|edges|damaged|any] [--carry] [--census] [--long | --short]"
+        "streams [--seed N] [--calls N] [--kind ook|fsk|auto|exact|edges|damaged|any] [--carry] [--close] [--census] \
+         [--long | --short]"
     );
     std::process::exit(2)
 }

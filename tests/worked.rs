@@ -1,5 +1,6 @@
 //! Document 01's worked bursts M6 to M8 as commands: samples (1, 0), noise 0, factor 1, history 0. Beside them bursts of document 02:
-//! of R-1, whose widths are others with carry, and of R-2, most of whose spans are not the sum of their widths.
+//! of R-1, whose widths are others with carry, of R-2, most of whose spans are not the sum of their widths, and of R-13, which are
+//! closed.
 
 #![allow(dead_code)]
 
@@ -28,6 +29,32 @@ pub const TIE: [f32; 9] = [0.0, 126.0, 254.0, 254.0, 0.0, 0.0, 0.0, 0.0, 0.0];
 /// R-1's 300 pulses, each with the gap after it, and the samples that end the burst.
 pub fn three_hundred() -> Vec<f32> {
     [vec![0.0], [8.0, 4.0, 0.0, 0.0].repeat(300), vec![0.0; 3]].concat()
+}
+
+/// a pulse, the gap after it and a pulse under way, of which the lead, the first seven samples, has all but the last three; a
+/// pulse of which the low run after it is too short yet to count.
+pub const HELD: [f32; 10] = [0.0, 8.0, 8.0, 8.0, 0.0, 0.0, 0.0, 8.0, 8.0, 8.0];
+pub const UNFINISHED: [f32; 8] = [0.0, 8.0, 8.0, 8.0, 8.0, 8.0, 8.0, 0.0];
+
+/// Two pulses as in `HALVES`, and a third that closes the gap after the second.
+pub const HALVES_HELD: [f32; 11] = [0.0, 8.0, 4.0, 0.0, 0.0, 8.0, 4.0, 0.0, 0.0, 8.0, 8.0];
+
+/// With noise 1: the same pulses as in `HELD`, with a carrier in the gap between them.
+pub const PRESENT: [f32; 10] = [0.0, 8.0, 8.0, 8.0, 2.0, 2.0, 2.0, 8.0, 8.0, 8.0];
+
+/// `PRESENT` in Auto mode with alpha 1, and after it as many samples of the last pulse as six runs of two tones take, a quarter turn
+/// up and one down for each sample, of three samples each. Each presence with more than three runs is a frame, and this one is not
+/// over.
+pub fn tones() -> Vec<u8> {
+    let settings = Settings { mode: 2, floats: [1.0, 100.0, 0.0, 0.0], ..WORKED };
+    let turns = [[1.0, 0.0], [0.0, 1.0], [-1.0, 0.0], [0.0, -1.0]];
+    let up = [1, 2, 3, 2, 1, 0].iter().cycle().take(18);
+    let samples = PRESENT.iter().map(|&e| (e, 0)).chain(up.map(|&turn| (8.0, turn)));
+    let mut ticks = samples.map(|(envelope, turn)| Tick { noise: 1.0, envelope, sample: turns[turn] });
+    let first = ticks.next().unwrap();
+    let begin = begin_command(10, 1.0, &first, [1.0, 0.0], &[0.0; 7]);
+    let steps = (11..).zip(ticks).flat_map(|(i, t)| step_command(i, &t));
+    settings.command().into_iter().chain(begin).chain(steps).collect()
 }
 
 /// The settings of M6 to M8 by command 04, with this carry.
@@ -60,7 +87,8 @@ pub fn calls(index: u64, envelopes: &[f32]) -> Vec<Vec<u8>> {
     noisy_calls(index, 0.0, envelopes)
 }
 
-fn noisy_calls(index: u64, noise: f32, envelopes: &[f32]) -> Vec<Vec<u8>> {
+/// The same with this noise.
+pub fn noisy_calls(index: u64, noise: f32, envelopes: &[f32]) -> Vec<Vec<u8>> {
     let steps = (index + 1..).zip(&envelopes[1..]).map(|(i, e)| step_command(i, &tick(noise, *e)));
     std::iter::once(begin(index, envelopes[0])).chain(steps).collect()
 }

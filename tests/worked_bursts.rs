@@ -1,7 +1,9 @@
-//! Document 01's worked bursts M6 to M8, M10 and the replies that it names, R-1's carry and R-2's spans, through a listing program.
+//! Document 01's worked bursts M6 to M8, M10 and the replies that it names, R-1's carry, R-2's spans and R-13's closes, through a
+//! listing program.
 //!
-//!     worked_bursts PROGRAM      compare
-//!     worked_bursts --write      print M6, M7, M8 and bursts of R-1 as one command stream
+//!     worked_bursts PROGRAM             compare
+//!     worked_bursts --write             print M6, M7, M8 and bursts of R-1 as one command stream
+//!     worked_bursts --write-closed      print bursts of R-13 as one command stream
 
 use std::io::Write;
 use std::process::ExitCode;
@@ -14,10 +16,10 @@ mod verdict;
 mod worked;
 
 use program::printed;
-use signal::{Settings, WORKED};
+use signal::{CLOSE, Settings, WORKED};
 use worked::{
-    BACK, BACKWARD, CARRIED, HALVES, M6, M7, M8, MOST, TIE, TWO, begin, burst, burst_by, calls, carrying, opening,
-    step, three_hundred,
+    BACK, BACKWARD, CARRIED, HALVES, HALVES_HELD, HELD, M6, M7, M8, MOST, PRESENT, TIE, TWO, UNFINISHED, begin, burst,
+    burst_by, calls, carrying, noisy_calls, opening, step, three_hundred, tones,
 };
 
 /// A name, its commands, and what the program must print.
@@ -122,6 +124,109 @@ fn spans() -> Vec<Row> {
     ])
 }
 
+/// R-13's close after these commands.
+fn then_close(commands: &[u8]) -> Vec<u8> {
+    [commands, &CLOSE].concat()
+}
+
+fn closed(envelopes: &[f32]) -> Vec<u8> {
+    then_close(&burst(envelopes))
+}
+
+fn closed_by(settings: Settings, noise: f32, envelopes: &[f32]) -> Vec<u8> {
+    then_close(&burst_by(settings, noise, envelopes))
+}
+
+/// What a close prints that finds the first pulse of `HELD`, by the gap behind it and the last index.
+fn held(gap: u32, index: u64) -> String {
+    format!("ook 11 14 0 3 41000000 vector 40400000 00000000 1 3 {gap}\nidle {index}\n")
+}
+
+/// where a close meets refusal 5, and what it prints in lead and in a burst that holds no pulse: the last accepted index and
+/// nothing else. No close of a list meets refusal 8, since begin meets it for the same settings and buffers.
+fn closes() -> Vec<Row> {
+    let quiet = Settings { gap_steps: 20, pre_timeout: 20, ..WORKED };
+    let refused = [burst(&[0.0]), step(12, 0.0), step(11, f32::NAN), begin(11, 0.0)].concat();
+    let dropped = [burst(&HELD), opening(MOST)].concat();
+    let no_room = [opening(2049), begin(0, 0.0)].concat();
+    let m6 = "ook 11 15 0 4 41000000 vector 40800000 00000000 1 4 0\nidle 19\nrefused 5\n";
+    rows([
+        ("05 before settings", CLOSE.to_vec(), "refused 5\n"),
+        ("05 after an opening", then_close(&opening(MOST)), "refused 5\n"),
+        ("05 after an opening in a burst", then_close(&dropped), "refused 5\n"),
+        ("05 after a refused begin", then_close(&no_room), "refused 8\nrefused 5\n"),
+        ("05 after M6", closed(&M6), m6),
+        ("05 after begin", closed(&HELD[..1]), "idle 10\n"),
+        ("05 at the highest index", then_close(&[opening(MOST), begin(1 << 40, 0.0)].concat()), "idle 1099511627776\n"),
+        ("05 in lead after a pulse", closed(&HELD[..6]), "idle 15\n"),
+        ("05 in lead after refused calls", then_close(&refused), "refused 6\nrefused 7\nrefused 5\nidle 10\n"),
+        ("05 after low samples", closed_by(quiet, 0.0, &[0.0; 8]), "idle 17\n"),
+        ("05 in the first pulse", closed(&UNFINISHED[..7]), "idle 16\n"),
+        ("05 after a low sample behind it", closed(&UNFINISHED), "idle 17\n"),
+        ("05 and another command", [closed(&HELD[..1]), vec![9]].concat(), "idle 10\nrefused 1\n"),
+        ("05 and a cut command", [closed(&HELD[..1]), vec![1, 0]].concat(), "idle 10\nrefused 2\n"),
+    ])
+}
+
+/// closes of a burst that holds a train. A pulse is held from the second low sample behind it on, and the second sample of the
+/// next pulse closes its gap.
+fn closed_trains() -> Vec<Row> {
+    let full = Settings { max_pulses: 1, ..WORKED };
+    let two = "ook 11 20 0 9 41000000 vector 40c00000 00000000 2 3 3 3 0\nidle 21\n";
+    let refused = [burst(&HELD[..7]), step(16, 0.0), step(17, f32::NAN), begin(17, 0.0)].concat();
+    vec![
+        ("05 in a gap", closed(&HELD[..7]), held(0, 16)),
+        (
+            "05 in a gap after refused calls",
+            then_close(&refused),
+            "refused 6\nrefused 7\nrefused 5\n".to_string() + &held(0, 16),
+        ),
+        ("05 after a high sample", closed(&HELD[..8]), held(0, 17)),
+        ("05 in the next pulse", closed(&HELD), held(3, 19)),
+        ("05 after a low sample behind the next pulse", closed(&TWO[..11]), held(3, 20)),
+        ("05 after two low samples behind it", closed(&TWO), two.to_string()),
+        ("05 with a full train", closed_by(full, 0.0, &HELD), held(3, 19)),
+        ("05 twice", then_close(&closed(&HELD)), held(3, 19) + "refused 5\n"),
+    ]
+}
+
+/// an unfinished frame is dropped, and a train held is decided all the same; a frame that the step before gave is not given
+/// again. A train has the widths of the carry mode.
+fn closed_modes() -> Vec<Row> {
+    let by = |mode| Settings { mode, ..WORKED };
+    let carry = |carry, envelopes: &[f32]| closed_by(Settings { carry, ..WORKED }, 0.0, envelopes);
+    let at = |index: u64, widths: &str| halves(widths).replace("idle 21", &format!("idle {index}"));
+    let frame = "fsk 10 14 0 4 41000000 vector 40400000 00000000 1 3 0\nidle 16\n";
+    vec![
+        ("FSK mode, 05 in lead", closed_by(by(1), 1.0, &HELD[..6]), "idle 15\n".to_string()),
+        ("FSK mode, 05 in a frame", closed_by(by(1), 1.0, &UNFINISHED), "idle 17\n".to_string()),
+        ("FSK mode, 05 after a frame", closed_by(by(1), 1.0, &HELD[..7]), frame.to_string()),
+        ("Auto mode, 05 in lead", closed_by(by(2), 1.0, &HELD[..6]), "idle 15\n".to_string()),
+        ("Auto mode, 05 in a gap", closed_by(by(2), 1.0, &HELD[..7]), held(0, 16)),
+        ("Auto mode, 05 in a presence", closed_by(by(2), 1.0, &PRESENT), held(3, 19)),
+        ("Auto mode, 05 in a frame", then_close(&tones()), held(3, 37)),
+        ("half steps by 01, 05 in a gap", carry(None, &HALVES[..9]), at(18, PLAIN)),
+        ("half steps by 04, 05 in a gap", carry(Some(1), &HALVES[..9]), at(18, CARRY)),
+        ("half steps by 01, 05 in the next pulse", carry(None, &HALVES_HELD), at(20, "2 3 2 3")),
+        ("half steps by 04, 05 in the next pulse", carry(Some(1), &HALVES_HELD), at(20, "2 2 2 2")),
+    ]
+}
+
+/// after a close a step meets refusal 5, and the next burst is as after any other end.
+fn after_closes() -> Vec<Row> {
+    let then = |noise, commands| [then_close(commands), step(20, 0.0), noisy_calls(40, noise, &M6).concat()].concat();
+    let then_m6 = |lines: &str| {
+        let m6 = "ook 41 45 0 4 41000000 vector 40800000 00000000 1 4 0\nidle 49\n";
+        format!("{lines}refused 5\n{m6}")
+    };
+    vec![
+        ("M6 after a close in lead", then(0.0, &burst(&HELD[..6])), then_m6("idle 15\n")),
+        ("M6 after a close in a pulse", then(0.0, &burst(&UNFINISHED)), then_m6("idle 17\n")),
+        ("M6 after a close with a train", then(0.0, &burst(&HELD)), then_m6(&held(3, 19))),
+        ("M6 after a close in a frame", then(1.0, &tones()), then_m6(&held(3, 37))),
+    ]
+}
+
 fn rows<const N: usize>(rows: [(&'static str, Vec<u8>, &str); N]) -> Vec<Row> {
     rows.map(|(name, input, lines)| (name, input, lines.to_string())).into()
 }
@@ -153,6 +258,8 @@ fn table() -> Vec<Row> {
 
 fn run(program: &str) -> Result<String, String> {
     let rows = [table(), spans(), widths(), same(), modes(), openings()].concat();
+    let closing = [closes(), closed_trains(), closed_modes(), after_closes()].concat();
+    let rows = [rows, closing].concat();
     for (name, input, expected) in &rows {
         let got = printed(program, input).map_err(|e| format!("{name}: {e}"))?;
         if got != expected.as_bytes() {
@@ -173,11 +280,21 @@ fn written() -> Vec<u8> {
     [burst(&M6), burst(&M7), burst(&M8), carried, burst(&HALVES), long].concat()
 }
 
+/// R-13's closes of an idle lane; in lead; in the first pulse; in a gap; in the next pulse, and once more; in carry mode; in a frame, and
+/// after one, in FSK mode; in a frame in Auto mode.
+fn written_closed() -> Vec<u8> {
+    let fsk = |envelopes: &[f32]| closed_by(Settings { mode: 1, ..WORKED }, 1.0, envelopes);
+    let plain = [closed(&HELD[..6]), closed(&UNFINISHED), closed(&HELD[..7]), then_close(&closed(&HELD))].concat();
+    let carry = closed_by(carrying(1), 0.0, &HALVES_HELD);
+    [CLOSE.to_vec(), plain, carry, fsk(&UNFINISHED), fsk(&HELD[..7]), then_close(&tones())].concat()
+}
+
 fn main() -> ExitCode {
     let program = std::env::args().nth(1).expect("worked_bursts PROGRAM");
-    if program == "--write" {
-        let written = std::io::stdout().write_all(&written());
-        return if written.is_ok() { ExitCode::SUCCESS } else { ExitCode::FAILURE };
-    }
-    verdict::told(run(&program))
+    let stream = match program.as_str() {
+        "--write" => written(),
+        "--write-closed" => written_closed(),
+        _ => return verdict::told(run(&program)),
+    };
+    if std::io::stdout().write_all(&stream).is_ok() { ExitCode::SUCCESS } else { ExitCode::FAILURE }
 }

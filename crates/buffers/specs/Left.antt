@@ -9,7 +9,7 @@ use Rattle.lane.specs.declared.Lane.{Lane}
 use Rattle.lane.specs.Step.{newLane}
 use Rattle.commands.specs.declared.Command.{Command}
 use Rattle.commands.specs.Command.{decoded, sizeOf}
-use Rattle.commands.specs.declared.Command.the-variants.{End, Open, Begin, Step, Unknown, Short}
+use Rattle.commands.specs.declared.Command.the-variants.{End, Open, Begin, Step, Unknown, Short, Close}
 use Rattle.lines.specs.Line.{callRoom}
 use Rattle.turns.specs.declared.Ran.{Ran}
 use Rattle.turns.specs.Turn.{State, Called, called, next, waits, mostOf}
@@ -50,6 +50,7 @@ waits-none (Begin b) w = let z : _≡_ {A = Bool} false true = w in cc
 waits-none (Step s) w = let z : _≡_ {A = Bool} false true = w in cc
 waits-none Unknown w = refl
 waits-none Short w = refl
+waits-none Close w = let z : _≡_ {A = Bool} false true = w in cc
 
 module _ (s ook fsk x y text : List ℕ) (m : Lane) (r : Ran) where
   abbrev p : State

@@ -9,7 +9,7 @@ use Rattle.ook.specs.declared.Settings.{Settings}
 use Rattle.lane.specs.declared.BeginArgs.{BeginArgs}
 use Rattle.lane.specs.declared.StepArgs.{StepArgs}
 use Rattle.commands.specs.Command.{settingsOf, carrySettingsOf, beginArgsOf, stepArgsOf, historyOf}
-use Rattle.commands.specs.Encode.{openBytes, carryBytes, beginBytes, stepBytes}
+use Rattle.commands.specs.Encode.{openBytes, carryBytes, beginBytes, stepBytes, closeBytes}
 
 abbrev pub OpenNumbers : Settings → Type 0
 OpenNumbers p = Number (p .alpha) × Number (p .«gap_ratio») × Number (p .«fsk_delta») × Number (p .«fsk_split»)
@@ -84,3 +84,6 @@ module _ (o : List ℕ) (all : Bytes o) where
       (float-at o all 12 16 refl (omega arith) (n .1)
       (float-at o all 16 20 refl (omega arith) (n .2)
       (float-at o all 20 24 refl (omega arith) (n .3) refl)))))
+
+pub close-bytes : (o : List ℕ) → closeBytes ++ o ≡ 5 ∷ o
+close-bytes o = refl

@@ -1,4 +1,4 @@
--- The commands as document 01, "Commands", has them: over lists of bytes, little-endian.
+-- The commands as document 01, "Commands", has them, and document 02's 04 and 05: over lists of bytes, little-endian.
 use Prim.Native.Nat.{ℕ, _+_}
 use mathlib.Core.Bool.{Bool, true, false, cond}
 use mathlib.Core.List.{List}
@@ -12,7 +12,7 @@ use Rattle.lane.specs.declared.BeginArgs.{BeginArgs}
 use Rattle.lane.specs.declared.StepArgs.{StepArgs}
 use Rattle.lane.specs.declared.History.{History}
 use Rattle.commands.specs.declared.Command.{Command}
-use Rattle.commands.specs.declared.Command.the-variants.{End, Open, Begin, Step, Unknown, Short}
+use Rattle.commands.specs.declared.Command.the-variants.{End, Open, Begin, Step, Unknown, Short, Close}
 
 -- a sample, the real part first
 abbrev pub pairAt : List ℕ → ℕ → C32
@@ -96,7 +96,7 @@ unfolding settingsOf carrySettingsOf
 openingOf false o = within 37 o (Open (settingsOf o) false)
 openingOf true o = within 38 o (Open (carrySettingsOf o) true)
 
--- what stands at the front of the bytes: refusal 1 where the command byte is none of the listed ones
+-- what stands at the front of the bytes; 05 has no operands (R-13). Refusal 1 where the command byte is none of the listed ones
 unfoldable pub decoded : List ℕ → Command
 unfolding openingOf beginArgsOf stepArgsOf
 decoded s =
@@ -105,7 +105,8 @@ decoded s =
     (cond (eqb (getD s 0 0) 2) (within 60 (drop 1 s) (Begin (beginArgsOf (drop 1 s))))
     (cond (eqb (getD s 0 0) 3) (within 24 (drop 1 s) (Step (stepArgsOf (drop 1 s))))
     (cond (eqb (getD s 0 0) 4) (openingOf true (drop 1 s))
-    Unknown))))
+    (cond (eqb (getD s 0 0) 5) Close
+    Unknown)))))
 
 abbrev pub openSize : Bool → ℕ
 openSize carries = cond carries 39 38
@@ -118,6 +119,7 @@ sizeOf (Begin b) = 61
 sizeOf (Step s) = 25
 sizeOf Unknown = 0
 sizeOf Short = 0
+sizeOf Close = 1
 
 -- whether it is a step
 abbrev pub isStepOf : Command → Bool
@@ -127,3 +129,4 @@ isStepOf (Begin b) = false
 isStepOf (Step s) = true
 isStepOf Unknown = false
 isStepOf Short = false
+isStepOf Close = false

@@ -14,7 +14,7 @@ use Rattle.words.specs.Laws.{Word, word-back, word64-back, float-back}
 use Rattle.ook.specs.declared.Settings.{Settings}
 use Rattle.lane.specs.declared.BeginArgs.{BeginArgs}
 use Rattle.lane.specs.declared.StepArgs.{StepArgs}
-use Rattle.commands.specs.declared.Command.the-variants.{Open, Begin, Step}
+use Rattle.commands.specs.declared.Command.the-variants.{Open, Begin, Step, Close}
 use Rattle.commands.specs.Command.{u32At, u64At, withCarry, settingsOf, carrySettingsOf, openingOf, beginArgsOf, stepArgsOf, historyOf, decoded}
 
 -- ---- the layout
@@ -45,6 +45,10 @@ beginBytes b =
 -- 03
 abbrev pub stepBytes : StepArgs → List ℕ
 stepBytes s = 3 ∷ (word64 (s .index) ++ (float (s .noise) ++ (float (s .envelope) ++ (float (s .x .re) ++ (float (s .x .im) ++ [])))))
+
+-- 05
+abbrev pub closeBytes : List ℕ
+closeBytes = 5 ∷ []
 
 -- ---- the values that the layout can carry
 
@@ -88,3 +92,7 @@ pub step-back : (s : StepArgs) (t : List ℕ) → StepFits s → decoded (stepBy
 unfolding decoded stepArgsOf u32At u64At
 step-back s t (i, n, e, r, m) =
     simp (le-ltb (length (stepBytes s ++ t)) 1 (omega arith), le-ltb (length (drop 1 (stepBytes s ++ t))) 24 (omega arith), word64-back, float-back)
+
+pub close-back : (t : List ℕ) → decoded (closeBytes ++ t) ≡ Close
+unfolding decoded
+close-back t = simp (le-ltb (length (closeBytes ++ t)) 1 (omega arith))

@@ -10,7 +10,7 @@ use borrow.Author.Tests.{eqb-true, ltb-true, ltb-false, leb-true, lt-ltb, le-ltb
 use native.Mathlib.Nat.{not-suc-le-zero}
 use Rattle.ook.specs.declared.Settings.{Settings}
 use Rattle.commands.specs.declared.Command.{Command}
-use Rattle.commands.specs.declared.Command.the-variants.{End, Open, Begin, Step, Unknown, Short}
+use Rattle.commands.specs.declared.Command.the-variants.{End, Open, Begin, Step, Unknown, Short, Close}
 use Rattle.commands.specs.Command.{u32At, u64At, settingsOf, carrySettingsOf, openingOf, beginArgsOf, stepArgsOf, historyOf, within, decoded, sizeOf, isStepOf}
 
 -- ---- a command that lies in the bytes takes no more of them than there are
@@ -34,7 +34,8 @@ size-fits (b ∷ o) =
     (pick (eqb b 1) _ _ _ (held o 37 _ _ refl (omega arith))
     (pick (eqb b 2) _ _ _ (held o 60 _ _ refl (omega arith))
     (pick (eqb b 3) _ _ _ (held o 24 _ _ refl (omega arith))
-    (pick (eqb b 4) _ _ _ (held o 38 _ _ refl (omega arith)) (omega arith)))))
+    (pick (eqb b 4) _ _ _ (held o 38 _ _ refl (omega arith))
+    (pick (eqb b 5) _ _ _ (omega arith) (omega arith))))))
 
 -- ---- bytes that come after a whole command change nothing
 
@@ -82,6 +83,7 @@ whole (Begin b) = true
 whole (Step s) = true
 whole Unknown = true
 whole Short = false
+whole Close = true
 
 -- with the n operand bytes there, more bytes give the same command; without them there is none
 within-whole : (n : ℕ) (o t : List ℕ) (x y : Command) → (n ≤ length o → x ≡ y) → whole (within n o y) ≡ true → within n (o ++ t) x ≡ within n o y
@@ -103,7 +105,8 @@ decoded-more (b ∷ o) t w =
     (choose (eqb b 1) _ _ _ _ (within-whole 37 o t _ _ (λ h. ap (λ (p : Settings). Open p false) (settings-more o t h)))
     (choose (eqb b 2) _ _ _ _ (within-whole 60 o t _ _ (λ h. ap Begin (begin-more o t h)))
     (choose (eqb b 3) _ _ _ _ (within-whole 24 o t _ _ (λ h. ap Step (step-more o t h)))
-    (choose (eqb b 4) _ _ _ _ (within-whole 38 o t _ _ (λ h. ap (λ (p : Settings). Open p true) (carry-more o t h))) (λ q. refl))))
+    (choose (eqb b 4) _ _ _ _ (within-whole 38 o t _ _ (λ h. ap (λ (p : Settings). Open p true) (carry-more o t h)))
+    (choose (eqb b 5) _ _ _ _ (λ q. refl) (λ q. refl)))))
     (simp (le-ltb (suc (length o)) 1 (omega arith)) at w))
 
 -- ---- a step at the front of the bytes
@@ -132,7 +135,8 @@ no-step s h =
     (neither (eqb (getD s 0 0) 1) _ _ (neither (ltb (length (drop 1 s)) 37) _ _ refl refl)
     (neither (eqb (getD s 0 0) 2) _ _ (neither (ltb (length (drop 1 s)) 60) _ _ refl refl)
     (unless (eqb (getD s 0 0) 3) _ _ h
-    (neither (eqb (getD s 0 0) 4) _ _ (neither (ltb (length (drop 1 s)) 38) _ _ refl refl) refl))))
+    (neither (eqb (getD s 0 0) 4) _ _ (neither (ltb (length (drop 1 s)) 38) _ _ refl refl)
+    (neither (eqb (getD s 0 0) 5) _ _ refl refl)))))
 
 pub short-front : (s : List ℕ) → length s < 25 → isStepOf (decoded s) ≡ false
 short-front s h = no-step s (λ q. ap (λ (b : Bool). isStepOf (cond b Short (Step (stepArgsOf (drop 1 s))))) (lt-ltb (length (drop 1 s)) 24 (omega (arith, length-drop 1 s, h))))

@@ -1,5 +1,5 @@
 // The commands of the listing program, decoded from bytes (document 01, "Commands", and its
-// refusals 1 and 2).
+// refusals 1 and 2; document 02 has 04 and 05).
 ghost use mathlib.Core.Path.{_≡_};
 ghost use Prim.Native.Nat.{_+_, _≤_, _<_};
 ghost use lib.ListN.{length, drop};
@@ -23,6 +23,8 @@ pub enum Command {
     Unknown,
     // Refusal 2: fewer operand bytes are left than the command has.
     Short,
+    // 05, which has no operands.
+    Close,
 }
 
 // ---- operands
@@ -167,6 +169,10 @@ fn decode(s: &[u8]) -> Command
     if carries {
         return decode_open(o, true);
     }
+    let closes = b == 5;
+    if closes {
+        return Command::Close;
+    }
     Command::Unknown
 }
 
@@ -219,5 +225,6 @@ pub fn size_of(k: Command) -> usize
         Command::Step(_) => 25,
         Command::Unknown => 0,
         Command::Short => 0,
+        Command::Close => 1,
     }
 }

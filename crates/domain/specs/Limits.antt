@@ -29,6 +29,6 @@ maxBound = 2 ^ 47
 abbrev pub spentSerial : ℕ
 spentSerial = 2 ^ 48
 
--- a serial: a burst begun before the serial is spent may run on, an index at a time
+-- a serial: a burst begun before the serial is spent may run on, an index at a time, and be closed (R-13)
 abbrev pub maxSerial : ℕ
-maxSerial = spentSerial + maxIndex
+maxSerial = spentSerial + maxIndex + 1

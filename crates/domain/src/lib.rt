@@ -14,5 +14,5 @@ pub const MAX_COUNT: u32 = 1 << 27;
 pub const MAX_BOUND: u64 = 1 << 47;
 // The serial from which on a lane's serial is spent: neither begin nor opening is accepted.
 pub const SPENT_SERIAL: u64 = 1 << 48;
-// The largest serial: a burst begun before that steps on, and its index ends it.
-pub const MAX_SERIAL: u64 = SPENT_SERIAL + MAX_INDEX;
+// The largest serial: a burst begun before that steps on, its index ends it, and it may be closed.
+pub const MAX_SERIAL: u64 = SPENT_SERIAL + MAX_INDEX + 1;

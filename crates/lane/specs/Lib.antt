@@ -4,6 +4,7 @@ pub mod Refusals
 pub mod Idle
 pub mod Begin
 pub mod Advance
+pub mod Close
 pub mod Serial
 pub mod Step
 pub mod Part

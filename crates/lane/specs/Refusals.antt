@@ -82,6 +82,10 @@ stepRefusalBy lane p phase last s ook fsk = firstFailed true lane (not (eqb phas
 unfoldable pub stepRefusal : Lane → StepArgs → ℕ → ℕ → ℕ
 stepRefusal l s ook fsk = stepRefusalBy (laneOk l) (l .settings) (l .phase) (l .last) s ook fsk
 
+-- close (R-13): 4, 5 and 8
+unfoldable pub closeRefusal : Lane → ℕ → ℕ → ℕ
+closeRefusal l ook fsk = firstFailed true (laneOk l) (not (eqb (l .phase) 0)) true true true (roomOk (l .settings) ook fsk)
+
 -- the seven checks of refusal 4, one by one
 pub record Passes (l : Lane) : Type 0 where
   pub had : openedOk (l .opened) (l .phase) (l .settings) ≡ true

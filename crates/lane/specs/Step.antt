@@ -1,4 +1,4 @@
--- The calls of document 01: the lane that never had settings, opening, begin and step. A refusal returns its number alone and changes nothing.
+-- The calls of document 01: the lane that never had settings, opening, begin and step; and document 02's close (R-13). A refusal returns its number alone and changes nothing.
 use Prim.Native.Nat.{ℕ}
 use mathlib.Core.Bool.{cond}
 use mathlib.Core.List.{List}
@@ -10,10 +10,11 @@ use Rattle.lane.specs.declared.StepArgs.{StepArgs}
 use Rattle.lane.specs.declared.Lane.{Lane}
 use Rattle.lane.specs.declared.Answer.{Answer}
 use Rattle.lane.specs.declared.Reply.the-variants as reply
-use Rattle.lane.specs.Refusals.{openRefusal, beginRefusal, stepRefusal}
+use Rattle.lane.specs.Refusals.{openRefusal, beginRefusal, stepRefusal, closeRefusal}
 use Rattle.lane.specs.Idle.{idleLane, noSettings}
 use Rattle.lane.specs.Begin.{leadLane}
 use Rattle.lane.specs.Advance.{advanceOf}
+use Rattle.lane.specs.Close.{closeOf}
 use Rattle.lane.specs.Serial.{stamped, stampedWith}
 
 abbrev pub refuse : ℕ → Lane → Answer
@@ -45,3 +46,10 @@ steppedBy k l s ook fsk = cond (eqb k 0) (stampedWith l (advanceOf l s ook fsk))
 
 unfoldable pub stepped : Lane → StepArgs → List ℕ → List ℕ → Answer × List ℕ × List ℕ
 stepped l s ook fsk = steppedBy (stepRefusal l s (length ook) (length fsk)) l s ook fsk
+
+-- close writes to the OOK buffer alone
+abbrev pub closedBy : ℕ → Lane → List ℕ → List ℕ → Answer × List ℕ × List ℕ
+closedBy k l ook fsk = cond (eqb k 0) (stampedWith l (closeOf l ook fsk)) (refuse k l, ook, fsk)
+
+unfoldable pub closed : Lane → List ℕ → List ℕ → Answer × List ℕ × List ℕ
+closed l ook fsk = closedBy (closeRefusal l (length ook) (length fsk)) l ook fsk

@@ -1,10 +1,10 @@
-// The lane by value: opening, begin, step, and the part of a buffer that a record names. Every value of every argument
+// The lane by value: opening, begin, step, close, and the part of a buffer that a record names. Every value of every argument
 // ends with the reply of document 01 or with the first refusal that applies, lane and buffers then as they were.
 ghost use mathlib.Core.Path.{_≡_};
 ghost use mathlib.Core.Bool.{true};
 ghost use Prim.Native.Nat.{ℕ, _≤_};
 ghost use Rattle.lane.specs.Answers.{replyOf, phaseOf};
-ghost use Rattle.lane.specs.Refusals.{openedOk, laneOk, historyOk, beginFloatsOk, stepFloatsOk, followsOf, openRefusal, beginRefusal, stepRefusalBy};
+ghost use Rattle.lane.specs.Refusals.{openedOk, laneOk, historyOk, beginFloatsOk, stepFloatsOk, followsOf, openRefusal, beginRefusal, closeRefusal, stepRefusalBy};
 ghost use Rattle.lane.specs.Idle.{noOut, noRuns, noneDone, noFrame, noEnv, noTrain, noPres, noBurst, noLead, idleLane};
 ghost use Rattle.lane.specs.Begin.{ringBeforeOf, historyOf, ringOf, beginLeadOf, clearedOf, leadLane};
 ghost use Rattle.lane.specs.Core.{zipOf, realsOf, imaginariesOf, leadIn, joinedOf, answerOf, atCall};
@@ -19,7 +19,8 @@ ghost use Rattle.arith.specs.Leaves.{leadLenOf};
 ghost use Rattle.burst.specs.Core.{wholeBurst};
 ghost use Rattle.burst.specs.Makers.{withSerials};
 ghost use Rattle.burst.specs.Lead.{leadAddOf, largestOf, beginBurstOf};
-ghost use Rattle.lane.specs.Step.{newLane, opened, begun, steppedBy, stepped};
+ghost use Rattle.lane.specs.Close.{idleWith, endBurstOf};
+ghost use Rattle.lane.specs.Step.{newLane, opened, begun, steppedBy, stepped, closed};
 ghost use Rattle.lane.specs.Part.{front, namedOf, partRefusal, partOf};
 ghost use Rattle.lane.specs.Serial.{stampOf};
 ghost use Rattle.domain.specs.Limits.{maxSerial};
@@ -196,6 +197,16 @@ fn begin_refusal(l: Lane, b: BeginArgs, ook: usize, fsk: usize) -> u32
     let floats = begin_floats_ok(b);
     let room = refusals::room_ok(p, ook, fsk);
     refusals::first_failed(had, lane, idle, serial, index, floats, room)
+}
+
+fn close_refusal(l: Lane, ook: usize, fsk: usize) -> u32
+    ensures { λ r. ⌜ r ≡ closeRefusal l ook fsk ⌝ }
+{
+    let p = l.settings;
+    let lane = lane_ok(l);
+    let busy = l.phase != 0;
+    let room = refusals::room_ok(p, ook, fsk);
+    refusals::first_failed(true, lane, busy, true, true, true, room)
 }
 
 fn step_refusal(
@@ -992,6 +1003,66 @@ pub fn step(l: Lane, s: StepArgs, ook: &mut [u32], fsk: &mut [u32]) -> Answer
         let core = a.core;
         let lane = joined(core, es, re, im, ring, cs);
         return Answer { reply, lane };
+    }
+    Answer {
+        reply: Reply::Refused(k),
+        lane: l,
+    }
+}
+
+// ---- close
+
+// The burst with its train decided; its records have the call's serial.
+fn end_burst(b: Burst, serial: u64, ook: &mut [u32]) -> Burst
+    ensures { λ r. ⌜ _≡_ {A = Burst × List ℕ} (r, now (ook .exit)) (withSerials serial serial (endBurstOf b (now (ook .entry)) .0), endBurstOf b (now (ook .entry)) .1) ⌝ }
+{
+    let t = b.train;
+    let none = no_core_out();
+    let e = ook::end_train(t, b.high, none, ook);
+    let train = e.train;
+    let o = e.out;
+    let out = ook::whole_out(o, serial);
+    let mut n = clear_records(b, serial);
+    n.train = train;
+    n.out_ook = out;
+    n
+}
+
+// The lane idle, with this burst.
+fn idle_with(l: Lane, burst: Burst, serial: u64) -> Lane
+    ensures { λ r. ⌜ ((b : Burst) → burst ≡ withSerials serial serial b → r ≡ stampOf serial (idleWith l b .lane)) ⌝ }
+{
+    let mut n = l;
+    n.phase = 0;
+    n.burst = burst;
+    n.serial = serial;
+    n
+}
+
+// Close: the burst ends as if its gap had run out. In lead there is no train. The FSK buffer is measured alone.
+pub fn close(l: Lane, ook: &mut [u32], fsk: &[u32]) -> Answer
+    ensures { λ r. ⌜ (r, now (ook .exit), now (fsk .entry)) ≡ closed l (now (ook .entry)) (now (fsk .entry)) ⌝ }
+{
+    let k = close_refusal(l, ook.len(), fsk.len());
+    let ok = k == 0;
+    if ok {
+        let serial = l.serial + 1;
+        let b = l.burst;
+        let leads = l.phase == 1;
+        if leads {
+            let clear = clear_records(b, serial);
+            let lane = idle_with(l, clear, serial);
+            return Answer {
+                reply: Reply::Idle,
+                lane,
+            };
+        }
+        let ended = end_burst(b, serial, ook);
+        let lane = idle_with(l, ended, serial);
+        return Answer {
+            reply: Reply::Idle,
+            lane,
+        };
     }
     Answer {
         reply: Reply::Refused(k),

@@ -14,12 +14,13 @@ use Rattle.lane.specs.declared.Lane.{Lane}
 use Rattle.lane.specs.declared.BeginArgs.{BeginArgs}
 use Rattle.lane.specs.declared.StepArgs.{StepArgs}
 use Rattle.refusals.specs.Serial.{serialLeft}
-use Rattle.lane.specs.Refusals.{opened-tells, laneOk, lane-passes, beginFloatsOk, stepFloatsOk, followsOf, openRefusal, beginRefusal, stepRefusal}
+use Rattle.lane.specs.Refusals.{opened-tells, laneOk, lane-passes, beginFloatsOk, stepFloatsOk, followsOf, openRefusal, beginRefusal, stepRefusal, closeRefusal}
 use Rattle.lane.specs.Idle.{idleLane}
 use Rattle.lane.specs.Begin.{leadLane}
 use Rattle.lane.specs.Advance.{advanceOf}
+use Rattle.lane.specs.Close.{closeOf}
 use Rattle.lane.specs.Serial.{stamped, stampedWith}
-use Rattle.lane.specs.Step.{stay, opened, begun, stepped}
+use Rattle.lane.specs.Step.{stay, opened, begun, stepped, closed}
 
 -- ---- what a call that is not refused tells
 pub begin-tells : (l : Lane) (b : BeginArgs) (ook fsk : ℕ) → beginRefusal l b ook fsk ≡ 0 → InDomain (l .settings) × (2 * l .settings .«max_pulses» ≤ ook)
@@ -35,6 +36,12 @@ pub step-tells : (l : Lane) (s : StepArgs) (ook fsk : ℕ) → stepRefusal l s o
 unfolding stepRefusal
 step-tells l s ook fsk h =
     let t = none-failed true (laneOk l) (not (eqb (l .phase) 0)) true (indexOk (s .index) && followsOf (l .last) (s .index)) (stepFloatsOk s) (roomOk (l .settings) ook fsk) h in
+    eqb-false (l .phase) 0 (not-true (eqb (l .phase) 0) (t .phase-ok))
+
+pub close-tells : (l : Lane) (ook fsk : ℕ) → closeRefusal l ook fsk ≡ 0 → l .phase ≡ 0 → ⊥
+unfolding closeRefusal
+close-tells l ook fsk h =
+    let t = none-failed true (laneOk l) (not (eqb (l .phase) 0)) true true true (roomOk (l .settings) ook fsk) h in
     eqb-false (l .phase) 0 (not-true (eqb (l .phase) 0) (t .phase-ok))
 
 -- ---- what the calls answer
@@ -64,3 +71,12 @@ module _ (l : Lane) (s : StepArgs) (ook fsk : List ℕ) where
   pub step-refused : eqb (stepRefusal l s (length ook) (length fsk)) 0 ≡ false → stepped l s ook fsk .0 .lane ≡ l
   unfolding stepped
   step-refused h = rw h
+
+module _ (l : Lane) (ook fsk : List ℕ) where
+  pub close-accepted : eqb (closeRefusal l (length ook) (length fsk)) 0 ≡ true → closed l ook fsk ≡ stampedWith l (closeOf l ook fsk)
+  unfolding closed
+  close-accepted h = rw h
+
+  pub close-refused : eqb (closeRefusal l (length ook) (length fsk)) 0 ≡ false → closed l ook fsk .0 .lane ≡ l
+  unfolding closed
+  close-refused h = rw h

@@ -3,20 +3,22 @@ use mathlib.Core.Path.{_≡_, refl, sym, ap, _∙_, subst}
 use mathlib.Core.Bool.{Bool, true, false, cond}
 use mathlib.Core.List.{List, [], _∷_, _++_}
 use Prim.Native.Nat.{ℕ}
+use lib.Ieee.{Float}
 use Rattle.lane.specs.declared.Lane.{Lane}
 use Rattle.lane.specs.declared.Answer.{Answer}
 use Rattle.lane.specs.declared.BeginArgs.{BeginArgs}
 use Rattle.lane.specs.declared.StepArgs.{StepArgs}
 use Rattle.lane.specs.Begin.{clearedOf, leadLane}
 use Rattle.lane.specs.Serial.{stampOf, stamped}
-use Rattle.lane.specs.Step.{stay, opened, begun, stepped}
-use Rattle.pulses.specs.Yardstick.{as-left, other, lent, Call, opening, begin, step, Given, Yardstick, refusal, accepts, stepOf, fetched, advanced, ends, lentWell, handedOn}
+use Rattle.lane.specs.Step.{stay, opened, begun, stepped, closed}
+use Rattle.pulses.specs.Runs.{Sample}
+use Rattle.pulses.specs.Yardstick.{as-left, other, lent, Call, opening, begin, step, close, Given, Yardstick, refusal, accepts, stepSamples, stepOf, closingOf, fetched, answeredBy, advanced, ends, lentWell, handedOn}
 use Rattle.pulses.specs.Demand.{returnedBy, theLane, Place, after, afterAll, bursts, Each, NoneYet}
 use Rattle.ook.specs.Tests.{both-true}
 use Rattle.pulses.proofs.Measure.{Good, Fine, call-fine, good, none-yet}
 use Rattle.pulses.proofs.Flags.{clash}
 use Rattle.pulses.proofs.BurstEnd.{given-none}
-use Rattle.pulses.proofs.Accepted.{open-accepted, open-refused, begin-accepted, begin-refused, step-accepted, step-refused}
+use Rattle.pulses.proofs.Accepted.{open-accepted, open-refused, begin-accepted, begin-refused, step-accepted, step-refused, close-accepted, close-refused}
 
 pub record Same (k : Place theLane) : Type 0 where
   pub lane : k .lane ≡ k .yard .lane
@@ -34,16 +36,28 @@ module _ (k : Place theLane) (S : Same k) where
       e : begun (k .lane) b ook fsk ≡ stamped (y .lane) (stay (leadLane (y .lane) b))
       e = ap (λ (l : Lane). begun l b ook fsk) (S .lane) ∙ begin-accepted (y .lane) b ook fsk q
 
+  -- a step or a close: the lane answers q and the yardstick r
+  answer-same : (q r : Answer × List ℕ × List ℕ) (xs : List (Sample Float)) → q ≡ r
+      → Same (record { lane = q .0 .lane; ook = q .1; trains = k .trains ++ fetched q; yard = answeredBy y r xs })
+  answer-same q r xs e = record {
+    lane = ap (λ (a : Answer × List ℕ × List ℕ). a .0 .lane) e;
+    ook = ap (λ (a : Answer × List ℕ × List ℕ). a .1) e;
+    trains = ap (λ (a : Answer × List ℕ × List ℕ). k .trains ++ fetched a) e ∙ ap (λ (ts : List Given). ts ++ fetched r) (S .trains);
+  }
+
   step-same : (s : StepArgs) (fsk : List ℕ) → accepts y (step s as-left fsk) ≡ true → Same (after theLane true k (step s as-left fsk))
   unfolding after advanced returnedBy refusal lent
-  step-same s fsk q = record {
-    lane = ap (λ (r : Answer × List ℕ × List ℕ). r .0 .lane) e;
-    ook = ap (λ (r : Answer × List ℕ × List ℕ). r .1) e;
-    trains = ap (λ (r : Answer × List ℕ × List ℕ). k .trains ++ fetched r) e ∙ ap (λ (ts : List Given). ts ++ fetched (stepOf y s fsk)) (S .trains);
-  }
+  step-same s fsk q = answer-same (stepped (k .lane) s (k .ook) fsk) (stepOf y s fsk) (y .recorded ++ stepSamples (y .lane) s (y .ook) fsk) e
     where
       e : stepped (k .lane) s (k .ook) fsk ≡ stepOf y s fsk
       e = ap (λ (l : Lane). stepped l s (k .ook) fsk) (S .lane) ∙ ap (λ (o : List ℕ). stepped (y .lane) s o fsk) (S .ook) ∙ step-accepted (y .lane) s (y .ook) fsk q
+
+  close-same : (fsk : List ℕ) → accepts y (close as-left fsk) ≡ true → Same (after theLane true k (close as-left fsk))
+  unfolding after advanced returnedBy refusal lent
+  close-same fsk q = answer-same (closed (k .lane) (k .ook) fsk) (closingOf y fsk) (y .recorded) e
+    where
+      e : closed (k .lane) (k .ook) fsk ≡ closingOf y fsk
+      e = ap (λ (l : Lane). closed l (k .ook) fsk) (S .lane) ∙ ap (λ (o : List ℕ). closed (y .lane) o fsk) (S .ook) ∙ close-accepted (y .lane) (y .ook) fsk q
 
   after-same : (c : Call) (a : Bool) → accepts y c ≡ a → lentWell a c ≡ true → Same (after theLane a k c)
   unfolding after advanced returnedBy refusal lentWell
@@ -63,12 +77,24 @@ module _ (k : Place theLane) (S : Same k) where
         ook = S .ook;
         trains = S .trains;
       }
+  after-same (close as-left fsk) true q h = close-same fsk q
+  after-same (close (other o) fsk) true q h = clash (sym h)
+  after-same (close o fsk) false q h =
+      record {
+        lane =
+            ap (λ (l : Lane). closed l (lent o (k .ook)) fsk .0 .lane) (S .lane)
+            ∙ ap (λ (b : List ℕ). closed (y .lane) (lent o b) fsk .0 .lane) (S .ook)
+            ∙ close-refused (y .lane) (lent o (y .ook)) fsk q;
+        ook = S .ook;
+        trains = S .trains;
+      }
 
 yard-after : (k : Place theLane) (c : Call) (a : Bool) → after theLane a k c .yard ≡ advanced a (k .yard) c
 unfolding after
 yard-after k (opening p) a = refl
 yard-after k (begin b ook fsk) a = refl
 yard-after k (step s o fsk) a = refl
+yard-after k (close o fsk) a = refl
 
 -- a burst that ends
 ended : (k : Place theLane) (e : Bool) → Same k → Fine (k .yard) e → Each (cond e (k ∷ []) [])

@@ -1,11 +1,11 @@
 -- The hollow programs of specs/Hollow do not meet demand 3: the test and the list that refute each, by computation. The buffer of most
 -- lists has room for four pulses.
 use mathlib.Core.Path.{refl}
-use mathlib.Core.List.{_++_}
+use mathlib.Core.List.{[], _∷_, _++_}
 use Rattle.lane.specs.declared.Reply.{Reply}
-use Rattle.pulses.specs.Lists.{opens, slots, m6, m7, two, halves, unended}
+use Rattle.pulses.specs.Lists.{opens, slots, shut, m6, m7, two, halves, unended}
 use Rattle.pulses.specs.Ran.{ran}
-use Rattle.pulses.specs.Hollow.{Fails, silent, fixed, first-only, invented, idle-early, cut-early, glitch-counts, train-early, other-kind, gapless, never-carries, always-carries, too-late}
+use Rattle.pulses.specs.Hollow.{Fails, silent, fixed, first-only, invented, idle-early, cut-early, glitch-counts, train-early, other-kind, gapless, never-carries, always-carries, too-late, loses}
 use Rattle.pulses.proofs.Refuted.{by-pulses, by-slots, under-way, passes, refuted}
 
 -- M6, and no train
@@ -71,3 +71,8 @@ always-carries-fails = refuted by-pulses always-carries (halves 0) refl refl
 pub too-late-fails : Fails too-late
 unfolding passes ran too-late
 too-late-fails = refuted by-pulses too-late (opens 4 ++ m6 10 (slots 8)) refl refl
+
+-- a close in the gap after one pulse: no train
+pub loses-fails : Fails loses
+unfolding passes ran loses
+loses-fails = refuted by-pulses loses (opens 4 ++ unended 10 (slots 8) ++ shut ∷ []) refl refl

@@ -23,20 +23,22 @@ use Rattle.lane.specs.declared.Lane.{Lane}
 use Rattle.lane.specs.declared.Answer.{Answer}
 use Rattle.lane.specs.declared.StepArgs.{StepArgs}
 use Rattle.lane.specs.Answers.{replyNumberOf, replyOf, phaseOf}
-use Rattle.lane.specs.Idle.{idleLane}
+use Rattle.lane.specs.Idle.{noOut, idleLane}
 use Rattle.lane.specs.Begin.{ringOf, clearedOf, leadLane}
 use Rattle.lane.specs.Advance.{settleOf, settled, fillOf, atOf, replayStep, leadStep, burstStep, advanceOf}
+use Rattle.lane.specs.Close.{idleWith, endBurstOf, closeOf}
 use Rattle.lane.specs.Serial.{stampOf, stampedWith}
 use Rattle.lane.specs.Part.{partOf, part-named}
 use Rattle.pulses.specs.Runs.{Sample, pulses}
-use Rattle.pulses.specs.Yardstick.{lent, Call, opening, begin, step, Given, givenBy, Yardstick, refusal, accepts, levelled, replayed, burstAt, stepSamples, fetched, advanced, ends}
+use Rattle.pulses.specs.Yardstick.{lent, Call, opening, begin, step, close, Yardstick, refusal, accepts, levelled, replayed, burstAt, stepSamples, fetched, answeredBy, advanced, ends}
 use Rattle.pulses.specs.Demand.{Gives}
 use Rattle.pulses.proofs.Flags.{clash}
-use Rattle.pulses.proofs.TrainState.{claim-numbered}
-use Rattle.pulses.proofs.OokSample.{stays, over, idle-not, idle-at-not}
+use Rattle.pulses.proofs.Machine.{emitted}
+use Rattle.pulses.proofs.TrainState.{Claim, no-pulse, claim-numbered}
+use Rattle.pulses.proofs.OokSample.{given, stays, over, idle-not, idle-at-not, train-ends}
 use Rattle.pulses.proofs.BurstState.{Under, Next-is, stepped-follows, full-follows}
 use Rattle.pulses.proofs.BurstEnd.{given-none, claim-gives}
-use Rattle.pulses.proofs.Accepted.{begin-tells, step-tells}
+use Rattle.pulses.proofs.Accepted.{begin-tells, step-tells, close-tells}
 
 -- in burst, in OOK mode
 pub record Running (y : Yardstick) : Type 0 where
@@ -58,117 +60,125 @@ pub data Good (y : Yardstick) : Type 0 where
 unfoldable pub Fine : Yardstick → Bool → Type 0
 Fine y e = Good y × (e ≡ true → y .lane .settings .mode ≡ 0 → Gives (y .lane .settings) (pulses (y .lane .settings .«min_steps») (y .recorded)) (y .trains))
 
--- the yardstick after an accepted step that answers r, serial included, and adds ms to the record
-abbrev stepTo : Yardstick → Answer × List ℕ × List ℕ → List (Sample Float) → Yardstick
-stepTo y r ms = record {
-  lane = r .0 .lane;
-  ook = r .1;
-  recorded = y .recorded ++ ms;
-  trains = y .trains ++ fetched r;
-}
-
 abbrev endsWith : Answer × List ℕ × List ℕ → Bool
 endsWith r = not (eqb (replyNumberOf (r .0 .reply)) 0)
 
--- the step answers r, to which the serial is still to come
+-- the step answers r, to which the serial is still to come, and adds ms to the record
 StepFine : Yardstick → Answer × List ℕ × List ℕ → List (Sample Float) → Type 0
-StepFine y r ms = Fine (stepTo y (stampedWith (y .lane) r) ms) (endsWith r)
+StepFine y r ms = Fine (answeredBy y (stampedWith (y .lane) r) (y .recorded ++ ms)) (endsWith r)
 
-module _ (y : Yardstick) (D : InDomain (y .lane .settings)) (s : StepArgs) where
+-- a close answers r and adds nothing
+CloseFine : Yardstick → Answer × List ℕ × List ℕ → Type 0
+CloseFine y r = Fine (answeredBy y (stampedWith (y .lane) r) (y .recorded)) true
+
+module _ (y : Yardstick) (D : InDomain (y .lane .settings)) where
   abbrev p : Settings
   p = y .lane .settings
 
-  -- a sample of a burst, or the replay of its lead-in, is answered
-  answered : (ld : Lead) (ring : List Float) (r : Sampled × List ℕ × List ℕ) (ms : List (Sample Float)) → (p .mode ≡ 0 → Next-is p r (y .recorded ++ ms)) → (p .mode ≡ 0 → y .trains ≡ [])
-      → StepFine y (settled (y .lane) s ld ring r) ms
-  unfolding StepFine Fine settleOf stampOf replyOf phaseOf
-  answered ld ring r ms H T = go (r .0 .next) refl
+  -- an answer that ends a burst of the record xs, which has given no train before
+  end-gives : (r : Answer × List ℕ × List ℕ) (xs : List (Sample Float)) → y .trains ≡ [] → Claim (p .carry) (p .«max_pulses») (given p xs) (r .0 .lane .burst .«out_ook») (r .1)
+      → Gives p (pulses (p .«min_steps») xs) (y .trains ++ fetched (stampedWith (y .lane) r))
+  unfolding stampOf
+  end-gives r xs t C = rw t (claim-gives p D xs out (r .1) (r .2) (partOf lane out (r .1) (r .2)) (part-named lane out (r .1) (r .2) refl (omega arith)) (claim-numbered number C))
     where
       number : ℕ
       number = y .lane .serial + 1
 
       lane : Lane
-      lane = stampOf number (settleOf (y .lane) s ld ring (r .0) .lane)
+      lane = stampOf number (r .0 .lane)
 
       out : Out
-      out = numbered number (r .0 .burst .«out_ook»)
+      out = numbered number (r .0 .lane .burst .«out_ook»)
 
-      part : List ℕ
-      part = partOf lane out (r .1) (r .2)
+  -- a close in lead and in burst
+  close-lead : Leading y → (fsk : List ℕ) → CloseFine y (idleWith (y .lane) (clearedOf (y .lane .burst)), y .ook, fsk)
+  unfolding CloseFine Fine idleWith stampOf clearedOf emitted
+  close-lead L fsk = (at-rest refl, λ e o. rw (L .unrecorded) (end-gives (idleWith (y .lane) (clearedOf (y .lane .burst)), y .ook, fsk) [] (L .no-trains) (no-pulse refl refl)))
 
-      new : List Given
-      new = givenBy out part
-
-      alone : y .trains ≡ [] → y .trains ++ new ≡ new
-      alone t = ap (λ (ts : List Given). ts ++ new) t
-
-      y′ : Yardstick
-      y′ = stepTo y (stampedWith (y .lane) (settled (y .lane) s ld ring r)) ms
-
-      on-stay : r .0 .next ≡ next.Stay → Next-is p r (y .recorded ++ ms) → y .trains ≡ [] → Running y′
-      on-stay n (stays n′ F) t = record { under = record { run = F .run; train = F .train; undecided = F .undecided }; no-trains = alone t ∙ given-none out part (F .undecided) }
-      on-stay n (over n′ C′) t = absurd (n′ n)
-
-      on-end : (r .0 .next ≡ next.Stay → ⊥) → Next-is p r (y .recorded ++ ms) → y .trains ≡ [] → Gives p (pulses (p .«min_steps») (y .recorded ++ ms)) (y .trains ++ new)
-      on-end n (stays n′ F) t = absurd (n n′)
-      on-end n (over n′ C′) t = rw (alone t) (claim-gives p D (y .recorded ++ ms) out (r .1) (r .2) part (part-named lane out (r .1) (r .2) refl (omega arith)) (claim-numbered number C′))
-
-      go : (n : Next) → r .0 .next ≡ n
-          → Good y′ × (not (eqb (replyNumberOf (replyOf n)) 0) ≡ true → p .mode ≡ 0 → Gives p (pulses (p .«min_steps») (y .recorded ++ ms)) (y .trains ++ new))
-      go next.Stay n = (in-burst (ap phaseOf n) D (λ o. on-stay n (H o) (T o)), λ e. clash (sym e))
-      go next.Idle n = (at-rest (ap phaseOf n), λ e o. on-end (λ q. idle-not (sym n ∙ q)) (H o) (T o))
-      go (next.IdleAt v) n = (at-rest (ap phaseOf n), λ e o. on-end (λ q. idle-at-not v (sym n ∙ q)) (H o) (T o))
-
-  -- a step in burst
-  abbrev ring : List Float
-  ring = ringOf (y .lane .ring) (s .index) (s .envelope)
-
-  burst-fine : (fsk : List ℕ) → (p .mode ≡ 0 → Running y)
-      → StepFine y (burstStep (y .lane) s ring (y .ook) fsk) (levelled p (atOf (y .lane) s) ring (clearedOf (y .lane .burst)) ∷ [])
-  unfolding burstStep clearedOf
-  burst-fine fsk R =
-      answered (y .lane .lead) ring (sampleOf p (atOf (y .lane) s) ring (clearedOf (y .lane .burst)) (y .ook) fsk) (levelled p (atOf (y .lane) s) ring (clearedOf (y .lane .burst)) ∷ [])
-      (λ o. stepped-follows p D o (atOf (y .lane) s) ring (clearedOf (y .lane .burst)) (y .ook) fsk (y .recorded)
-      (record { run = R o .under .run; train = R o .under .train; undecided = refl }))
-      (λ o. R o .no-trains)
-
-  -- a step in lead
-  abbrev ld : Lead
-  ld = leadAddOf (y .lane .lead) (s .envelope) (s .x)
-
-  abbrev len : ℕ
-  len = leadLenOf (p .«min_steps»)
-
-  wait-fine : Leading y → (fsk : List ℕ) → StepFine y (fillOf (y .lane) s ld ring, y .ook, fsk) []
-  unfolding StepFine Fine fillOf stampOf clearedOf
-  wait-fine L fsk = (
-    in-lead refl D
-        (record {
-          unrecorded = append-nil (y .recorded) ∙ L .unrecorded;
-          no-trains = rw (L .no-trains) (given-none _ _ refl);
-          room = L .room;
-        }),
-    λ e. clash (sym e),
+  close-burst : (fsk : List ℕ) → (p .mode ≡ 0 → Running y)
+      → CloseFine y (idleWith (y .lane) (endBurstOf (y .lane .burst) (y .ook) .0), endBurstOf (y .lane .burst) (y .ook) .1, fsk)
+  unfolding CloseFine Fine idleWith endBurstOf stampOf clearedOf
+  close-burst fsk R = (
+    at-rest refl,
+    λ e o. end-gives (idleWith (y .lane) (endBurstOf (y .lane .burst) (y .ook) .0), endBurstOf (y .lane .burst) (y .ook) .1, fsk) (y .recorded) (R o .no-trains)
+        (train-ends p D (y .lane .burst .env) (y .lane .burst .train) noOut (y .ook) (y .recorded) (record { run = R o .under .run; train = R o .under .train; undecided = refl }) (y .lane .burst .high)),
   )
 
-  -- what the replay of the lead-in adds to the record
-  abbrev replay : List ℕ → List (Sample Float)
-  replay fsk = replayed p (s .noise) ring ld len 0 (staying (burstAt ld len (clearedOf (y .lane .burst))) (y .ook) fsk)
+  -- ---- steps
+  module _ (s : StepArgs) where
+    -- a sample of a burst, or the replay of its lead-in, is answered
+    answered : (ld : Lead) (ring : List Float) (r : Sampled × List ℕ × List ℕ) (ms : List (Sample Float)) → (p .mode ≡ 0 → Next-is p r (y .recorded ++ ms)) → (p .mode ≡ 0 → y .trains ≡ [])
+        → StepFine y (settled (y .lane) s ld ring r) ms
+    unfolding StepFine Fine settleOf stampOf replyOf phaseOf
+    answered ld ring r ms H T = go (r .0 .next) refl
+      where
+        y′ : Yardstick
+        y′ = answeredBy y (stampedWith (y .lane) (settled (y .lane) s ld ring r)) (y .recorded ++ ms)
 
-  replay-fine : Leading y → (fsk : List ℕ) → StepFine y (replayStep (y .lane) s ld ring (y .ook) fsk) (replay fsk)
-  unfolding replayStep clearedOf
-  replay-fine L fsk =
-      answered ld ring (leadFullOf p (s .noise) ring ld (clearedOf (y .lane .burst)) (y .ook) fsk) (replay fsk)
-      (λ o. rw (L .unrecorded) (full-follows p D o (s .noise) ring ld (clearedOf (y .lane .burst)) (y .ook) fsk refl (L .room)))
-      (λ o. L .no-trains)
+        on-stay : r .0 .next ≡ next.Stay → Next-is p r (y .recorded ++ ms) → y .trains ≡ [] → Running y′
+        on-stay n (stays n′ F) t = record { under = record { run = F .run; train = F .train; undecided = F .undecided }; no-trains = rw t (given-none _ _ (F .undecided)) }
+        on-stay n (over n′ C′) t = absurd (n′ n)
 
-  lead-fine : Leading y → (fsk : List ℕ) → StepFine y (leadStep (y .lane) s ring (y .ook) fsk) (cond (ltb (ld .«lead_n») len) [] (replay fsk))
-  unfolding leadStep
-  lead-fine L fsk = go (ltb (ld .«lead_n») len)
-    where
-      go : (b : Bool) → StepFine y (cond b (fillOf (y .lane) s ld ring, y .ook, fsk) (replayStep (y .lane) s ld ring (y .ook) fsk)) (cond b [] (replay fsk))
-      go true = wait-fine L fsk
-      go false = replay-fine L fsk
+        on-end : (r .0 .next ≡ next.Stay → ⊥) → Next-is p r (y .recorded ++ ms) → y .trains ≡ [] → Gives p (pulses (p .«min_steps») (y .recorded ++ ms)) (y′ .trains)
+        on-end n (stays n′ F) t = absurd (n n′)
+        on-end n (over n′ C′) t = end-gives (settled (y .lane) s ld ring r) (y .recorded ++ ms) t C′
+
+        go : (n : Next) → r .0 .next ≡ n
+            → Good y′ × (not (eqb (replyNumberOf (replyOf n)) 0) ≡ true → p .mode ≡ 0 → Gives p (pulses (p .«min_steps») (y .recorded ++ ms)) (y′ .trains))
+        go next.Stay n = (in-burst (ap phaseOf n) D (λ o. on-stay n (H o) (T o)), λ e. clash (sym e))
+        go next.Idle n = (at-rest (ap phaseOf n), λ e o. on-end (λ q. idle-not (sym n ∙ q)) (H o) (T o))
+        go (next.IdleAt v) n = (at-rest (ap phaseOf n), λ e o. on-end (λ q. idle-at-not v (sym n ∙ q)) (H o) (T o))
+
+    -- a step in burst
+    abbrev ring : List Float
+    ring = ringOf (y .lane .ring) (s .index) (s .envelope)
+
+    burst-fine : (fsk : List ℕ) → (p .mode ≡ 0 → Running y)
+        → StepFine y (burstStep (y .lane) s ring (y .ook) fsk) (levelled p (atOf (y .lane) s) ring (clearedOf (y .lane .burst)) ∷ [])
+    unfolding burstStep clearedOf
+    burst-fine fsk R =
+        answered (y .lane .lead) ring (sampleOf p (atOf (y .lane) s) ring (clearedOf (y .lane .burst)) (y .ook) fsk) (levelled p (atOf (y .lane) s) ring (clearedOf (y .lane .burst)) ∷ [])
+        (λ o. stepped-follows p D o (atOf (y .lane) s) ring (clearedOf (y .lane .burst)) (y .ook) fsk (y .recorded)
+        (record { run = R o .under .run; train = R o .under .train; undecided = refl }))
+        (λ o. R o .no-trains)
+
+    -- a step in lead
+    abbrev ld : Lead
+    ld = leadAddOf (y .lane .lead) (s .envelope) (s .x)
+
+    abbrev len : ℕ
+    len = leadLenOf (p .«min_steps»)
+
+    wait-fine : Leading y → (fsk : List ℕ) → StepFine y (fillOf (y .lane) s ld ring, y .ook, fsk) []
+    unfolding StepFine Fine fillOf stampOf clearedOf
+    wait-fine L fsk = (
+      in-lead refl D
+          (record {
+            unrecorded = append-nil (y .recorded) ∙ L .unrecorded;
+            no-trains = rw (L .no-trains) (given-none _ _ refl);
+            room = L .room;
+          }),
+      λ e. clash (sym e),
+    )
+
+    -- what the replay of the lead-in adds to the record
+    abbrev replay : List ℕ → List (Sample Float)
+    replay fsk = replayed p (s .noise) ring ld len 0 (staying (burstAt ld len (clearedOf (y .lane .burst))) (y .ook) fsk)
+
+    replay-fine : Leading y → (fsk : List ℕ) → StepFine y (replayStep (y .lane) s ld ring (y .ook) fsk) (replay fsk)
+    unfolding replayStep clearedOf
+    replay-fine L fsk =
+        answered ld ring (leadFullOf p (s .noise) ring ld (clearedOf (y .lane .burst)) (y .ook) fsk) (replay fsk)
+        (λ o. rw (L .unrecorded) (full-follows p D o (s .noise) ring ld (clearedOf (y .lane .burst)) (y .ook) fsk refl (L .room)))
+        (λ o. L .no-trains)
+
+    lead-fine : Leading y → (fsk : List ℕ) → StepFine y (leadStep (y .lane) s ring (y .ook) fsk) (cond (ltb (ld .«lead_n») len) [] (replay fsk))
+    unfolding leadStep
+    lead-fine L fsk = go (ltb (ld .«lead_n») len)
+      where
+        go : (b : Bool) → StepFine y (cond b (fillOf (y .lane) s ld ring, y .ook, fsk) (replayStep (y .lane) s ld ring (y .ook) fsk)) (cond b [] (replay fsk))
+        go true = wait-fine L fsk
+        go false = replay-fine L fsk
 
 -- an accepted step, in either phase
 step-fine : (y : Yardstick) (s : StepArgs) (fsk : List ℕ) → Good y → (y .lane .phase ≡ 0 → ⊥) → StepFine y (advanceOf (y .lane) s (y .ook) fsk) (stepSamples (y .lane) s (y .ook) fsk)
@@ -194,14 +204,30 @@ step-fine y s fsk G h = go G
     go (in-lead q D L) = subst In (sym q) (lead-fine y D s L fsk)
     go (in-burst q D R) = subst In (sym q) (burst-fine y D s fsk R)
 
+-- an accepted close, in either phase
+close-fine : (y : Yardstick) (fsk : List ℕ) → Good y → (y .lane .phase ≡ 0 → ⊥) → CloseFine y (closeOf (y .lane) (y .ook) fsk)
+unfolding closeOf
+close-fine y fsk G h = go G
+  where
+    In : ℕ → Type 0
+    In n = CloseFine y
+        (cond (eqb n 1) (idleWith (y .lane) (clearedOf (y .lane .burst)), y .ook, fsk)
+        (idleWith (y .lane) (endBurstOf (y .lane .burst) (y .ook) .0), endBurstOf (y .lane .burst) (y .ook) .1, fsk))
+
+    go : Good y → In (y .lane .phase)
+    go (at-rest q) = absurd (h q)
+    go (in-lead q D L) = subst In (sym q) (close-lead y D L fsk)
+    go (in-burst q D R) = subst In (sym q) (close-burst y D fsk R)
+
 pub call-fine : (y : Yardstick) (c : Call) (b : Bool) → accepts y c ≡ b → Good y → Fine (advanced b y c) (ends b y c)
-unfolding Fine StepFine advanced ends refusal stampOf idleLane leadLane
+unfolding Fine StepFine CloseFine advanced ends refusal stampOf idleLane leadLane
 call-fine y c false q G = (G, λ e. clash (sym e))
 call-fine y (opening p) true q G = (at-rest refl, λ e. clash (sym e))
 call-fine y (begin b ook fsk) true q G =
     let t = begin-tells (y .lane) b (length ook) (length fsk) (eqb-true _ 0 q) in
     (in-lead refl (t .0) (record { unrecorded = refl; no-trains = refl; room = t .1 }), λ e. clash (sym e))
 call-fine y (step s o fsk) true q G = step-fine y s fsk G (step-tells (y .lane) s (length (lent o (y .ook))) (length fsk) (eqb-true _ 0 q))
+call-fine y (close o fsk) true q G = close-fine y fsk G (close-tells (y .lane) (length (lent o (y .ook))) (length fsk) (eqb-true _ 0 q))
 
 pub good : (y : Yardstick) (e : Bool) → Fine y e → Good y
 unfolding Fine

@@ -212,8 +212,12 @@ module _ (p : Settings) (D : InDomain p) (v : Env) (t : Train) (out : Out) (ook 
   on-stay : After p v (stayBy out (t, ook) .0) (stayBy out (t, ook) .1) xs
   on-stay = stays refl F
 
+  -- the train ends here, at the end of a sample or by a close
+  pub train-ends : (high : Float) → Claim (p .carry) (p .«max_pulses») (given p xs) (endTrainOf t high out ook .0 .out) (endTrainOf t high out ook .1)
+  train-ends high = held-ends (p .carry) (p .«max_pulses») (pairs-grow p D) high out (edgesAt p xs) (given p xs) (opened (machine p xs)) t ook refl (opened-one (machine p xs)) (F .undecided) (F .train)
+
   on-end : (next : Next) (high : Float) → (next ≡ Stay → ⊥) → After p v (endBy next (endTrainOf t high out ook) .0) (endBy next (endTrainOf t high out ook) .1) xs
-  on-end next high n = over n (held-ends (p .carry) (p .«max_pulses») (pairs-grow p D) high out (edgesAt p xs) (given p xs) (opened (machine p xs)) t ook refl (opened-one (machine p xs)) (F .undecided) (F .train))
+  on-end next high n = over n (train-ends high)
 
   waits : (n frames : ℕ) (high : Float) → opened (machine p xs) ≡ [] → After p v (waitOf p n t frames high out ook .0) (waitOf p n t frames high out ook .1) xs
   unfolding waitOf

@@ -17,14 +17,14 @@ use Rattle.lane.specs.declared.Lane.{Lane}
 use Rattle.lane.specs.declared.Answer.{Answer}
 use Rattle.lane.specs.declared.BeginArgs.{BeginArgs}
 use Rattle.lane.specs.declared.StepArgs.{StepArgs}
-use Rattle.lane.specs.Step.{newLane, opened, begun, stepped}
+use Rattle.lane.specs.Step.{newLane, opened, begun, stepped, closed}
 use Rattle.lane.specs.Part.{partOf}
 use Rattle.slots.specs.Slots.{slotsOf}
 use Rattle.pulses.specs.Runs.{Pulse, pulses, edges, pulseWidth}
-use Rattle.pulses.specs.Yardstick.{lent, Call, opening, begin, step, Given, givenBy, Yardstick, unused, accepts, advanced, ends, handedOn}
+use Rattle.pulses.specs.Yardstick.{lent, Call, opening, begin, step, close, Given, givenBy, Yardstick, unused, accepts, advanced, ends, handedOn}
 
 -- ---- programs
--- What begin and step return: reply, lane, OOK record, and both buffers as the call leaves them. Of the reply demands 1 and 2 speak.
+-- What begin, step and close return: reply, lane, OOK record, and both buffers as the call leaves them. Of the reply demands 1 and 2 speak.
 pub record Returned (L : Type 0) : Type 0 where
   pub reply : Reply
   pub lane : L
@@ -32,7 +32,7 @@ pub record Returned (L : Type 0) : Type 0 where
   pub ook : List ℕ
   pub fsk : List ℕ
 
--- A program, right or hollow: lanes of any type, the one that never had settings, and the three calls. Opening returns a lane alone.
+-- A program, right or hollow: lanes of any type, the one that never had settings, and the four calls. Opening returns a lane alone.
 -- "Fetching a part takes lane and record" (document 02, R-6), and both buffers.
 pub record Program : Type 1 where
   pub Lanes : Type 0
@@ -40,9 +40,10 @@ pub record Program : Type 1 where
   pub opening : Lanes → Settings → Lanes
   pub begin : Lanes → BeginArgs → List ℕ → List ℕ → Returned Lanes
   pub step : Lanes → StepArgs → List ℕ → List ℕ → Returned Lanes
+  pub close : Lanes → List ℕ → List ℕ → Returned Lanes
   pub part : Lanes → Out → List ℕ → List ℕ → List ℕ
 
--- the program of this repository: the definitions that the contracts of `new_lane`, `open`, `begin`, `step` and `part` cite
+-- the program of this repository: the definitions that the contracts of `new_lane`, `open`, `begin`, `step`, `close` and `part` cite
 unfoldable pub returnedBy : Answer × List ℕ × List ℕ → Returned Lane
 returnedBy r = record { reply = r .0 .reply; lane = r .0 .lane; out = r .0 .lane .burst .«out_ook»; ook = r .1; fsk = r .2 }
 
@@ -53,12 +54,13 @@ theLane = record {
   opening = λ l p. opened l p .lane;
   begin = λ l b ook fsk. returnedBy (begun l b ook fsk, ook, fsk);
   step = λ l s ook fsk. returnedBy (stepped l s ook fsk);
+  close = λ l ook fsk. returnedBy (closed l ook fsk);
   part = partOf;
 }
 
 -- ---- lists of calls
--- Where a list stands: the program's lane, the OOK buffer as its last accepted begin or step left it, and the trains that the last burst
--- gave; and the yardstick.
+-- Where a list stands: the program's lane, the OOK buffer as its last accepted begin, step or close left it, and the trains that the last
+-- burst gave; and the yardstick.
 pub record Place (W : Program) : Type 0 where
   pub lane : W .Lanes
   pub ook : List ℕ
@@ -69,8 +71,8 @@ module _ (W : Program) where
   unfoldable pub start : Place W
   start = record { lane = W .new; ook = []; trains = []; yard = unused }
 
-  -- "A burst gives a train where a call of it returns an OOK record that decides one": begin or step c returned r, and earlier are the
-  -- trains that its burst had given before. The part is fetched by the lane that the call returned. A refusal returns its number alone.
+  -- "A burst gives a train where a call of it returns an OOK record that decides one": begin, step or close c returned r, and earlier are
+  -- the trains that its burst had given before. The part is fetched by the lane that the call returned. A refusal returns its number alone.
   abbrev taken : Bool → Place W → Call → List Given → Returned (W .Lanes) → Place W
   taken a k c earlier r = record {
     lane = r .lane;
@@ -84,6 +86,7 @@ module _ (W : Program) where
   after a k (opening p) = record { lane = W .opening (k .lane) p; ook = k .ook; trains = cond a [] (k .trains); yard = advanced a (k .yard) (opening p) }
   after a k (begin b ook fsk) = taken a k (begin b ook fsk) [] (W .begin (k .lane) b ook fsk)
   after a k (step s o fsk) = taken a k (step s o fsk) (k .trains) (W .step (k .lane) s (lent o (k .ook)) fsk)
+  after a k (close o fsk) = taken a k (close o fsk) (k .trains) (W .close (k .lane) (lent o (k .ook)) fsk)
 
   -- where the list ends, and where bursts end in it
   unfoldable pub afterAll : Place W → List Call → Place W
@@ -158,6 +161,6 @@ abbrev pub NoneYet : {W : Program} → Place W → Type 0
 NoneYet k = (k .yard .lane .phase ≡ 0 → ⊥) → settingsAt k .mode ≡ 0 → k .trains ≡ []
 
 -- "for every list of openings, begins and steps, refused ones included, from a lane that never had settings, lane and OOK buffer handed
--- on as document 01 says, and for every OOK burst that ends in the list"
+-- on as document 01 says, and for every OOK burst that ends in the list"; closes stand in it too (R-13)
 unfoldable pub Demand3 : Program → Type 0
 Demand3 W = (cs : List Call) → handedOn unused cs ≡ true → Each (bursts W (start W) cs) × NoneYet (afterAll W (start W) cs)

@@ -2,13 +2,13 @@
 use mathlib.Core.Path.{_≡_}
 use mathlib.Core.Bool.{Bool, true}
 use mathlib.Core.List.{List, [], _∷_, _++_, map}
-use Prim.Native.Nat.{ℕ, suc}
+use Prim.Native.Nat.{ℕ, suc, _+_}
 use lib.ListN.{length, replicate}
 use lib.Ieee.{Float}
 use Rattle.pulses.specs.Runs.{Pulse}
-use Rattle.pulses.specs.Yardstick.{other, Call, opening, step, Given}
+use Rattle.pulses.specs.Yardstick.{other, Call, opening, step, close, Given}
 use Rattle.pulses.specs.Demand.{theLane, Place, settingsAt, pulsesAt}
-use Rattle.pulses.specs.Lists.{settings, opens, slots, first, at, eight, lo, hi, los, his, m6, m8, halves, unended}
+use Rattle.pulses.specs.Lists.{settings, opens, slots, first, at, eight, lo, hi, shut, los, his, m6, m8, halves, unended}
 use Rattle.pulses.specs.Ran.{Ran, ran}
 
 -- what a burst shows: its mode, its record's length, of each pulse of the record how many high runs, and of each train pairs, cut mark and part
@@ -43,6 +43,14 @@ full = opens 1 ++ (first 10 (slots 2) ∷ his 11 3 ++ los 14 3 ++ his 17 3 ++ lo
 abbrev carrier : List Call
 carrier = opening (settings 0 4 5) ∷ first 10 (slots 8) ∷ his 11 3 ++ los 14 3 ++ his 17 8
 
+-- one pulse and 3 low samples, then so many high ones and so many low ones, and a close (R-13)
+abbrev later : ℕ → ℕ → List Call
+later high low = opens 4 ++ (first 10 (slots 8) ∷ his 11 3 ++ los 14 3 ++ his 17 high ++ los (17 + high) low ++ shut ∷ [])
+
+-- refused are a close before an opening and one before a begin (5), a close with another, shorter buffer (8), and one after a close (5)
+abbrev refused-closes : List Call
+refused-closes = shut ∷ opens 4 ++ shut ∷ unended 10 (slots 8) ++ close (other (slots 2)) (slots 8) ∷ shut ∷ shut ∷ []
+
 -- M6: one pulse of 4 samples, which has the last gap 0
 abbrev of-m6 : Shown
 of-m6 = (0, 10, 1 ∷ [], (1, 0, 4 ∷ 0 ∷ []) ∷ [])
@@ -67,6 +75,14 @@ table =
     -- R-1: without carry and with it, and without it again
     ∷ (halves 0, of-halves 3 ∷ [])
     ∷ (halves 1 ++ halves 0, of-halves 2 ∷ of-halves 3 ∷ [])
+    -- R-13, "a gap already closed by a later pulse's start stays as the last gap": a close within that pulse, one after a low sample that
+    -- does not count yet, and one after its closing run
+    ∷ (later 3 0, (0, 10, 1 ∷ [], (1, 0, 3 ∷ 3 ∷ []) ∷ []) ∷ [])
+    ∷ (later 3 1, (0, 11, 1 ∷ [], (1, 0, 3 ∷ 3 ∷ []) ∷ []) ∷ [])
+    ∷ (later 3 2, (0, 12, 1 ∷ 1 ∷ [], (2, 0, 3 ∷ 3 ∷ 3 ∷ 0 ∷ []) ∷ []) ∷ [])
+    -- closed in lead, and M6 after it
+    ∷ (opens 4 ++ (first 10 (slots 8) ∷ hi 11 ∷ shut ∷ m6 30 (slots 8)), (0, 0, [], []) ∷ of-m6 ∷ [])
+    ∷ (refused-closes, (0, 8, 1 ∷ [], (1, 0, 4 ∷ 0 ∷ []) ∷ []) ∷ [])
     ∷ []
 
 -- each list is handed on and shows what stands beside it

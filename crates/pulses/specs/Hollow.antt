@@ -33,14 +33,22 @@ train pairs cut o = record { index = o .index; end = o .end; state = 1; cut = cu
 abbrev decides : Returned Lane → Bool
 decides r = eqb (r .out .state) 1
 
--- what a step returns is changed, and the same where it decides a train
+-- what a step or a close returns is changed, and the same where it decides a train
 abbrev changed : (Returned Lane → Returned Lane) → Program
-changed f = record { Lanes = Lane; new = theLane .new; opening = theLane .opening; begin = theLane .begin; step = λ l s ook fsk. f (theLane .step l s ook fsk); part = theLane .part }
+changed f = record {
+  Lanes = Lane;
+  new = theLane .new;
+  opening = theLane .opening;
+  begin = theLane .begin;
+  step = λ l s ook fsk. f (theLane .step l s ook fsk);
+  close = λ l ook fsk. f (theLane .close l ook fsk);
+  part = theLane .part;
+}
 
 abbrev trainChanged : (Returned Lane → Returned Lane) → Program
 trainChanged f = changed (λ r. cond (decides r) (f r) r)
 
--- the lane has settings other than those that it is opened with; where it so refuses a step, it returns the number alone
+-- the lane has settings other than those that it is opened with; where it so refuses a step or a close, it returns the number alone
 abbrev opensWith : (Settings → Settings) → Program
 opensWith f = record {
   Lanes = Lane;
@@ -48,6 +56,7 @@ opensWith f = record {
   opening = λ l p. theLane .opening l (f p);
   begin = theLane .begin;
   step = λ l s ook fsk. alone (theLane .step l s ook fsk);
+  close = λ l ook fsk. alone (theLane .close l ook fsk);
   part = theLane .part;
 }
   where
@@ -89,7 +98,15 @@ withCarry carry p =
 -- ---- document 01's table
 -- "stays for ever and writes no slot", "refuses each call": whatever it replies, it gives no train
 unfoldable pub silent : Reply → Program
-silent reply = record { Lanes = Unit {0}; new = tt; opening = λ l p. tt; begin = λ l b ook fsk. nothing ook fsk; step = λ l s ook fsk. nothing ook fsk; part = λ l o ook fsk. [] }
+silent reply = record {
+  Lanes = Unit {0};
+  new = tt;
+  opening = λ l p. tt;
+  begin = λ l b ook fsk. nothing ook fsk;
+  step = λ l s ook fsk. nothing ook fsk;
+  close = λ l ook fsk. nothing ook fsk;
+  part = λ l o ook fsk. [];
+}
   where
     nothing : List ℕ → List ℕ → Returned (Unit {0})
     nothing ook fsk = record { reply = reply; lane = tt; out = noOut; ook = ook; fsk = fsk }
@@ -106,6 +123,7 @@ first-only = record {
   opening = λ l p. (theLane .opening (l .0) p, l .1);
   begin = λ l b ook fsk. once (l .1) (theLane .begin (l .0) b ook fsk);
   step = λ l s ook fsk. once (l .1) (theLane .step (l .0) s ook fsk);
+  close = λ l ook fsk. once (l .1) (theLane .close (l .0) ook fsk);
   part = λ l o ook fsk. theLane .part (l .0) o ook fsk;
 }
   where
@@ -166,5 +184,19 @@ too-late = record {
   opening = theLane .opening;
   begin = theLane .begin;
   step = theLane .step;
+  close = theLane .close;
   part = λ l o ook fsk. theLane .part (stampOf (l .serial + 1) l) o ook fsk;
+}
+
+-- ---- close (document 02, R-13)
+-- "When a reel of samples ends, pulses already finished should not be lost": a close that gives no train. All else is as it should be
+unfoldable pub loses : Program
+loses = record {
+  Lanes = Lane;
+  new = theLane .new;
+  opening = theLane .opening;
+  begin = theLane .begin;
+  step = theLane .step;
+  close = λ l ook fsk. withOut noOut (theLane .close l ook fsk);
+  part = theLane .part;
 }

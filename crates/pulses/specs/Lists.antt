@@ -8,7 +8,7 @@ use Rattle.arith.specs.Leaves.{zero32, one32}
 use Rattle.ook.specs.declared.Settings.{Settings}
 use Rattle.lane.specs.declared.History.{History}
 use Rattle.lane.specs.declared.StepArgs.{StepArgs}
-use Rattle.pulses.specs.Yardstick.{as-left, Call, opening, begin, step}
+use Rattle.pulses.specs.Yardstick.{as-left, Call, opening, begin, step, close}
 
 -- the settings of M6 to M8, but for carry, the mode, the most pulses, and how long a carrier is
 abbrev pub settingsBy : ℕ → ℕ → ℕ → ℕ → Settings
@@ -59,6 +59,10 @@ lo i = step (at zero32 i) as-left (slots 8)
 
 abbrev pub hi : ℕ → Call
 hi i = step (at eight i) as-left (slots 8)
+
+-- a close, lent the buffers that a step is
+abbrev pub shut : Call
+shut = close as-left (slots 8)
 
 -- a step at envelope 4, so that an edge falls half way between two samples
 abbrev pub mid : ℕ → Call

@@ -22,14 +22,15 @@ use Rattle.refusals.specs.Domain.{settingsOk, unsetOk}
 use Rattle.refusals.specs.State.{frameOk, burstOk, leadOk, candOk}
 use Rattle.refusals.specs.Order.{firstFailed}
 use Rattle.lane.specs.Answers.{replyOf, phaseOf}
-use Rattle.lane.specs.Refusals.{openedOk, laneOk, historyOk, beginFloatsOk, stepFloatsOk, followsOf, openRefusal, beginRefusal, stepRefusal}
+use Rattle.lane.specs.Refusals.{openedOk, laneOk, historyOk, beginFloatsOk, stepFloatsOk, followsOf, openRefusal, beginRefusal, stepRefusal, closeRefusal}
 use Rattle.lane.specs.Idle.{noBurst, idleLane}
 use Rattle.lane.specs.Begin.{historyOf, beginLeadOf, clearedOf, leadLane}
 use Rattle.lane.specs.Advance.{settleOf, fillOf, replayStep, leadStep, burstStep}
 use Rattle.lane.specs.Advance as advance
+use Rattle.lane.specs.Close.{idleWith, endBurstOf, closeOf}
 use Rattle.lane.specs.Serial.{stampOf}
 use Rattle.lane.specs.Part.{front, namedOf, partOf}
-use Rattle.lane.specs.Step.{newLane, opened, begun, stepped}
+use Rattle.lane.specs.Step.{newLane, opened, begun, stepped, closed}
 use mathlib.Core.Bool.{Bool}
 use mathlib.Core.List.{List}
 use Rattle.slots.specs.Slots.{slotsOf, slotsFrom}
@@ -45,5 +46,5 @@ pub record Ran (W : Program) : Type 0 where
   pub last : Place W
 
 unfoldable pub ran : (W : Program) → List Call → Ran W
-unfolding lent lentWell handedOn los his unused refusal levelled replayed stepSamples advanced ends givenBy returnedBy start after afterAll bursts slotsBetween slotsOf slotsFrom nth runEdge pair edges row join runs size keep counted between pulses newLane opened begun stepped stampOf front namedOf partOf advance.advanceOf leadStep burstStep settleOf fillOf replayStep leadAddOf largestFrom leadFullOf historyOf beginLeadOf clearedOf leadLane noBurst idleLane openedOk laneOk historyOk beginFloatsOk stepFloatsOk followsOf openRefusal beginRefusal stepRefusal replyOf phaseOf firstFailed frameOk burstOk leadOk candOk settingsOk unsetOk beginBurstOf leadAtOf replayFrom replayOf sampleOf restOf lastOf snapIfOf snapOf nearStartOf presentOf presenceOf presence.advanceOf presThrOf upperOf movePresOf move.lengthenOf moveFrameOf sliceIfOf presence.dueOf sureIfOf endsOf endIfOf longOf carrierIfOf carrierOf goneOf hasPulsesOf gapOverOf waitOf tailOf dueOf confirmIf riseOf fallOf confirmOf actOf thresholdOf onOf refineDueOf highOf pacOf seeOf pushPulseOf closeGapOf emptyTrainOf finishOf endTrainOf pulseDoneOf gapRatioExceededOf refineLevelOf refineLoOf excessOf splitFrom refineInOf refineOf lengthenOf rejoinOf beginRunOf beginsOf advanceOf pacRunOf beginEnvOf satAddOf inc sqrtOf exactOf roundExact wholeRoot roundOf narrowOf absOf midpointOf flushOf crossOf nearestIn widthBy carriedAt boundOf ofBits toBits add sub mul div neg lt le eq ofInt toUnsigned
+unfolding lent lentWell handedOn los his unused refusal levelled replayed stepSamples advanced ends givenBy returnedBy start after afterAll bursts slotsBetween slotsOf slotsFrom nth runEdge pair edges row join runs size keep counted between pulses newLane opened begun stepped closed stampOf front namedOf partOf advance.advanceOf closeOf endBurstOf idleWith leadStep burstStep settleOf fillOf replayStep leadAddOf largestFrom leadFullOf historyOf beginLeadOf clearedOf leadLane noBurst idleLane openedOk laneOk historyOk beginFloatsOk stepFloatsOk followsOf openRefusal beginRefusal stepRefusal closeRefusal replyOf phaseOf firstFailed frameOk burstOk leadOk candOk settingsOk unsetOk beginBurstOf leadAtOf replayFrom replayOf sampleOf restOf lastOf snapIfOf snapOf nearStartOf presentOf presenceOf presence.advanceOf presThrOf upperOf movePresOf move.lengthenOf moveFrameOf sliceIfOf presence.dueOf sureIfOf endsOf endIfOf longOf carrierIfOf carrierOf goneOf hasPulsesOf gapOverOf waitOf tailOf dueOf confirmIf riseOf fallOf confirmOf actOf thresholdOf onOf refineDueOf highOf pacOf seeOf pushPulseOf closeGapOf emptyTrainOf finishOf endTrainOf pulseDoneOf gapRatioExceededOf refineLevelOf refineLoOf excessOf splitFrom refineInOf refineOf lengthenOf rejoinOf beginRunOf beginsOf advanceOf pacRunOf beginEnvOf satAddOf inc sqrtOf exactOf roundExact wholeRoot roundOf narrowOf absOf midpointOf flushOf crossOf nearestIn widthBy carriedAt boundOf ofBits toBits add sub mul div neg lt le eq ofInt toUnsigned
 ran W cs = record { handed = handedOn unused cs; ended = bursts W (start W) cs; last = afterAll W (start W) cs }

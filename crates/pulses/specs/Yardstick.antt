@@ -23,17 +23,18 @@ use Rattle.lane.specs.declared.Answer.{Answer}
 use Rattle.lane.specs.declared.BeginArgs.{BeginArgs}
 use Rattle.lane.specs.declared.StepArgs.{StepArgs}
 use Rattle.lane.specs.Answers.{replyNumberOf}
-use Rattle.lane.specs.Refusals.{openRefusal, beginRefusal, stepRefusal}
+use Rattle.lane.specs.Refusals.{openRefusal, beginRefusal, stepRefusal, closeRefusal}
 use Rattle.lane.specs.Idle.{idleLane}
 use Rattle.lane.specs.Begin.{ringOf, clearedOf, leadLane}
 use Rattle.lane.specs.Advance.{atOf, advanceOf}
+use Rattle.lane.specs.Close.{closeOf}
 use Rattle.lane.specs.Serial.{stamped, stampedWith}
 use Rattle.lane.specs.Part.{partOf}
 use Rattle.lane.specs.Step.{stay, newLane}
 use Rattle.pulses.specs.Runs.{Sample, sample}
 
 -- ---- calls
--- The OOK buffer that a step is lent: as the accepted call before left it, or another.
+-- The OOK buffer that a step or a close is lent: as the accepted call before left it, or another.
 pub data Lent : Type 0 where
   as-left : Lent
   other : List ℕ → Lent
@@ -42,11 +43,13 @@ unfoldable pub lent : Lent → List ℕ → List ℕ
 lent as-left ook = ook
 lent (other o) ook = o
 
--- A call with its arguments; begin and step have the OOK and the FSK buffer.
+-- A call with its arguments; begin, step and close have the OOK and the FSK buffer. Document 02, R-13: "Close stands in demand 3's lists
+-- too, with the OOK buffer lent as to a step".
 pub data Call : Type 0 where
   opening : Settings → Call
   begin : BeginArgs → List ℕ → List ℕ → Call
   step : StepArgs → Lent → List ℕ → Call
+  close : Lent → List ℕ → Call
 
 -- A train: the OOK record that decides it, and "that record's part of the OOK buffer, as the call leaves it", fetched by the lane that the
 -- call returned (document 02, R-6).
@@ -75,6 +78,7 @@ unfoldable pub refusal : Yardstick → Call → ℕ
 refusal y (opening p) = openRefusal (y .lane) p
 refusal y (begin b ook fsk) = beginRefusal (y .lane) b (length ook) (length fsk)
 refusal y (step s o fsk) = stepRefusal (y .lane) s (length (lent o (y .ook))) (length fsk)
+refusal y (close o fsk) = closeRefusal (y .lane) (length (lent o (y .ook))) (length fsk)
 
 abbrev pub accepts : Yardstick → Call → Bool
 accepts y c = eqb (refusal y c) 0
@@ -108,43 +112,49 @@ stepSamples l s ook fsk =
     let own : List (Sample Float) = levelled (l .settings) (atOf l s) ring (clearedOf (l .burst)) ∷ [] in
     cond (eqb (l .phase) 1) (cond (ltb (ld .«lead_n») len) [] lead) own
 
--- demand 2's accepted step, on the yardstick's own OOK buffer
+-- demand 2's accepted step and close, on the yardstick's own OOK buffer
 abbrev pub stepOf : Yardstick → StepArgs → List ℕ → Answer × List ℕ × List ℕ
 stepOf y s fsk = stampedWith (y .lane) (advanceOf (y .lane) s (y .ook) fsk)
 
--- the train that its answer gives: "Fetching a part takes lane and record" (R-6), as the answer has both
+abbrev pub closingOf : Yardstick → List ℕ → Answer × List ℕ × List ℕ
+closingOf y fsk = stampedWith (y .lane) (closeOf (y .lane) (y .ook) fsk)
+
+-- the train that an answer gives: "Fetching a part takes lane and record" (R-6), as the answer has both
 abbrev pub fetched : Answer × List ℕ × List ℕ → List Given
 fetched r = let out : Out = r .0 .lane .burst .«out_ook» in givenBy out (partOf (r .0 .lane) out (r .1) (r .2))
 
+-- after the answer r, with this record
+abbrev pub answeredBy : Yardstick → Answer × List ℕ × List ℕ → List (Sample Float) → Yardstick
+answeredBy y r xs = record { lane = r .0 .lane; ook = r .1; recorded = xs; trains = y .trains ++ fetched r }
+
 -- After a call, accepted (true) or refused: "an accepted opening puts a new lane in its place, and a refused call leaves it as it was".
--- "A burst starts with an accepted begin." Each accepted call raises the serial by 1 (R-6).
+-- "A burst starts with an accepted begin." Each accepted call raises the serial by 1 (R-6). A close adds no sample: the pulses "are those of
+-- the record up to the last step" (R-13).
 unfoldable pub advanced : Bool → Yardstick → Call → Yardstick
 advanced false y c = y
 advanced true y (opening p) = record { lane = stamped (y .lane) (stay (idleLane 1 p)) .lane; ook = y .ook; recorded = []; trains = [] }
 advanced true y (begin b ook fsk) = record { lane = stamped (y .lane) (stay (leadLane (y .lane) b)) .lane; ook = ook; recorded = []; trains = [] }
-advanced true y (step s o fsk) =
-    let r : Answer × List ℕ × List ℕ = stepOf y s fsk in
-    record {
-      lane = r .0 .lane;
-      ook = r .1;
-      recorded = y .recorded ++ stepSamples (y .lane) s (y .ook) fsk;
-      trains = y .trains ++ fetched r;
-    }
+advanced true y (step s o fsk) = answeredBy y (stepOf y s fsk) (y .recorded ++ stepSamples (y .lane) s (y .ook) fsk)
+advanced true y (close o fsk) = answeredBy y (closingOf y fsk) (y .recorded)
 
--- "The burst ends at the first sample whose stepping or replay answers idle or idle-at", numbers 1 and 2, and not stay, 0.
+-- "The burst ends at the first sample whose stepping or replay answers idle or idle-at", numbers 1 and 2, and not stay, 0. An accepted close
+-- "ends a burst as if its gap had run out" (R-13). "In lead it gives no train": the record is empty there.
 unfoldable pub ends : Bool → Yardstick → Call → Bool
 ends false y c = false
 ends true y (opening p) = false
 ends true y (begin b ook fsk) = false
 ends true y (step s o fsk) = not (eqb (replyNumberOf (stepOf y s fsk .0 .reply)) 0)
+ends true y (close o fsk) = true
 
--- "each accepted step is lent the OOK buffer as the accepted call before left it"; "in a refused call, the OOK buffer may be any"
+-- "each accepted step is lent the OOK buffer as the accepted call before left it", and so is a close; "in a refused call, the OOK buffer may be any"
 unfoldable pub lentWell : Bool → Call → Bool
 lentWell false c = true
 lentWell true (opening p) = true
 lentWell true (begin b ook fsk) = true
 lentWell true (step s as-left fsk) = true
 lentWell true (step s (other o) fsk) = false
+lentWell true (close as-left fsk) = true
+lentWell true (close (other o) fsk) = false
 
 unfoldable pub handedOn : Yardstick → List Call → Bool
 handedOn y [] = true

@@ -9,6 +9,7 @@ use native.Mathlib.Omega.{arith}
 use lib.Dec.{ltb, eqb}
 use lib.Ieee.{Float}
 use Rattle.arith.specs.Leaves.{leadLenOf}
+use Rattle.ook.specs.Limits.{either}
 use Rattle.ook.specs.declared.Next.{Next}
 use Rattle.ook.specs.declared.Next.the-variants as next
 use Rattle.burst.specs.declared.Lead.{Lead}
@@ -22,10 +23,11 @@ use Rattle.lane.specs.Answers.{replyNumberOf, replyOf}
 use Rattle.lane.specs.Begin.{ringOf, leadLane}
 use Rattle.lane.specs.Idle.{idleLane}
 use Rattle.lane.specs.Part.{part-named}
-use Rattle.lane.specs.Refusals.{openRefusal, beginRefusal, stepRefusal}
+use Rattle.lane.specs.Refusals.{openRefusal, beginRefusal, stepRefusal, closeRefusal}
 use Rattle.lane.specs.Serial.{stampOf, stamped, stampedWith}
-use Rattle.lane.specs.Step.{newLane, refuse, stay, opened, begun, stepped}
-use Rattle.reached.specs.Serials.{Call, opening, begin, step, answerTo, accepted, serials, countFrom, Counted, NoTwoAlike, InBoth, BothFetched}
+use Rattle.lane.specs.Close.{idleWith, closeOf}
+use Rattle.lane.specs.Step.{newLane, refuse, stay, opened, begun, stepped, closed}
+use Rattle.reached.specs.Serials.{Call, opening, begin, step, close, answerTo, accepted, serials, countFrom, Counted, NoTwoAlike, InBoth, BothFetched}
 
 -- a stamped answer to l, or a refusal of it
 data Answers (l : Lane) (a : Answer) : Type 0 where
@@ -62,11 +64,16 @@ advance-accepted l s ook fsk = go (eqb (l .phase) 1) (ltb (ld .«lead_n») (lead
     go true false = next-accepted _
     go false d = next-accepted _
 
+close-accepted : (l : Lane) (ook fsk : List ℕ) → accepted (closeOf l ook fsk .0) ≡ true
+unfolding closeOf idleWith
+close-accepted l ook fsk = either (λ (r : Answer × List ℕ × List ℕ). accepted (r .0) ≡ true) (eqb (l .phase) 1) refl refl
+
 answers : (l : Lane) (c : Call) → Answers l (answerTo l c)
-unfolding opened begun stepped
+unfolding opened begun stepped closed
 answers l (opening p) = either-way l (eqb (openRefusal l p) 0) (openRefusal l p) (stay (idleLane 1 p)) refl
 answers l (begin b ook fsk) = either-way l (eqb (beginRefusal l b (length ook) (length fsk)) 0) (beginRefusal l b (length ook) (length fsk)) (stay (leadLane l b)) refl
 answers l (step s ook fsk) = step-way l (eqb (stepRefusal l s (length ook) (length fsk)) 0) (stepRefusal l s (length ook) (length fsk)) (advanceOf l s ook fsk) ook fsk (advance-accepted l s ook fsk)
+answers l (close ook fsk) = step-way l (eqb (closeRefusal l (length ook) (length fsk)) 0) (closeRefusal l (length ook) (length fsk)) (closeOf l ook fsk) ook fsk (close-accepted l ook fsk)
 
 -- ---- one call
 

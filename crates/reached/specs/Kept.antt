@@ -1,7 +1,8 @@
 -- What begin and step keep of a burst (crate limits) passes refusal 4's check.
-use Prim.Native.Nat.{ℕ, _+_, _*_, _≤_}
+use Prim.Native.Nat.{ℕ, _+_, _*_, _^_, _<_, _≤_}
 use mathlib.Core.Bool.{Bool, true, false, not, _||_}
 use mathlib.Core.Path.{_≡_, refl}
+use mathlib.Core.List.{List}
 use native.Mathlib.Omega.{arith}
 use lib.Dec.{ltb, eqb}
 use lib.Ieee.{Float}
@@ -9,7 +10,7 @@ use borrow.Author.Tests.{le-leb, lt-ltb, eqb-true}
 use Rattle.domain.specs.Limits.{maxCount, maxBound, maxSerial}
 use Rattle.ook.specs.Core.{numbered}
 use Rattle.ook.specs.Params.{fskMinOf}
-use Rattle.ook.specs.Limits.{EnvWithin, TrainWithin, OutWithin}
+use Rattle.ook.specs.Limits.{EnvWithin, TrainWithin, OutWithin, end-train-within}
 use Rattle.ook.specs.declared.Env.{Env}
 use Rattle.ook.specs.declared.Train.{Train}
 use Rattle.ook.specs.declared.Out.{Out}
@@ -27,6 +28,7 @@ use Rattle.refusals.specs.Domain.{InDomain}
 use Rattle.refusals.specs.State.{envOk, trainOk, presOk, frameOk, outOk, burstOk, candOk}
 use Rattle.lane.specs.Idle.{noOut, noneDone, noBurst}
 use Rattle.lane.specs.Begin.{withFactor, clearedOf}
+use Rattle.lane.specs.Close.{endBurstOf}
 
 env-ok : (v : Env) → EnvWithin v → envOk v ≡ true
 env-ok v h = simp (le-leb (v .run .level) 1 (h .level-flag), le-leb (v .run .confirmed) 1 (h .confirmed-flag), le-leb (v .«ref_pending») 1 (h .pending-flag))
@@ -124,6 +126,19 @@ cleared-runs p b r = r
 
 pub factor-within : {p : Settings} {b : Burst} (f : Float) → BurstWithin p b → BurstWithin p (withFactor f b)
 factor-within f h = search
+
+-- close: the train ends, and its record takes the place of the cleared one
+pub ended-fits : (max : ℕ) → max < 2 ^ 32 → (b : Burst) (ook : List ℕ) → BurstFits max (clearedOf b) → BurstFits max (endBurstOf b ook .0)
+unfolding clearedOf endBurstOf
+ended-fits max m b ook f =
+    let e = end-train-within max m (b .train) (b .high) noOut ook (f .train-within) (no-out max) in
+    record { env-within = f .env-within; train-within = e .0; ook-within = e .1; fsk-within = f .fsk-within; pairs = f .pairs }
+
+pub ended-within : {p : Settings} {b : Burst} → p .«max_pulses» < 2 ^ 32 → (ook : List ℕ) → BurstWithin p b → BurstWithin p (endBurstOf b ook .0)
+unfolding endBurstOf clearedOf
+ended-within {p} {b} m ook h =
+    let c = cleared-within h in
+    record { fits = ended-fits (p .«max_pulses») m b ook (c .fits); pres-within = c .pres-within; frame-within = c .frame-within }
 
 -- the records get a serial that a lane may hold
 numbered-within : (max n : ℕ) (o : Out) → n ≤ maxSerial → OutWithin max o → OutWithin max (numbered n o)

@@ -12,6 +12,7 @@ use borrow.Author.Tests.{leb-true, le-leb, lt-ltb, ltb-true, eqb-true, eqb-false
 use Rattle.domain.specs.Limits.{maxIndex, spentSerial, maxSerial}
 use Rattle.arith.specs.Leaves.{leadLenOf}
 use Rattle.ook.specs.declared.Settings.{Settings}
+use Rattle.ook.specs.Limits.{either}
 use Rattle.ook.specs.Answers.{isStayOf}
 use Rattle.ook.specs.declared.Next.{Next}
 use Rattle.ook.specs.declared.Next.the-variants as next
@@ -25,19 +26,21 @@ use Rattle.refusals.specs.State.{burstOk, frameOk, leadOk, candOk}
 use Rattle.refusals.specs.Order.{firstFailed, passed, AllPassed, none-failed}
 use Rattle.ook.specs.Tests.{both-true}
 use Rattle.limits.specs.Burst.{BurstWithin, Runs, SampledWithin, sample-within, replay-within, begin-burst-within}
-use Rattle.reached.specs.Kept.{burst-ok, cand-ok, none-within, cleared-within, cleared-runs, factor-within, serials-within}
+use Rattle.reached.specs.Kept.{burst-ok, cand-ok, none-within, cleared-within, cleared-runs, factor-within, ended-within, serials-within}
 use Rattle.lane.specs.declared.BeginArgs.{BeginArgs}
 use Rattle.lane.specs.declared.StepArgs.{StepArgs}
 use Rattle.lane.specs.declared.Lane.{Lane}
+use Rattle.lane.specs.declared.Answer.{Answer}
 use Rattle.lane.specs.declared.Reply.the-variants as reply
 use Rattle.lane.specs.Answers.{phaseOf}
 use Rattle.refusals.specs.Serial.{serialLeft}
-use Rattle.lane.specs.Refusals.{openedOk, laneOk, followsOf, beginFloatsOk, stepFloatsOk, openRefusal, beginRefusal, stepRefusal, passes-lane}
+use Rattle.lane.specs.Refusals.{openedOk, laneOk, followsOf, beginFloatsOk, stepFloatsOk, openRefusal, beginRefusal, stepRefusal, closeRefusal, passes-lane}
 use Rattle.lane.specs.Idle.{noBurst, idleLane}
 use Rattle.lane.specs.Begin.{ringOf, clearedOf, beginLeadOf, leadLane, laneOf}
 use Rattle.lane.specs.Advance.{settleOf, fillOf, replayStep, leadStep, burstStep, advanceOf}
 use Rattle.lane.specs.Serial.{stampOf, stamped, stampedWith}
-use Rattle.lane.specs.Step.{refuse, stay, newLane, opened, begun, stepped}
+use Rattle.lane.specs.Close.{idleWith, endBurstOf, closeOf}
+use Rattle.lane.specs.Step.{refuse, stay, newLane, opened, begun, stepped, closed}
 
 -- A lane that a list of calls hands back.
 pub data Reached : Lane → Type 0 where
@@ -45,6 +48,7 @@ pub data Reached : Lane → Type 0 where
   opening : {l : Lane} → Reached l → (p : Settings) → Reached (opened l p .lane)
   beginning : {l : Lane} → Reached l → (b : BeginArgs) (ook fsk : List ℕ) → Reached (begun l b ook fsk .lane)
   stepping : {l : Lane} → Reached l → (s : StepArgs) (ook fsk : List ℕ) → Reached (stepped l s ook fsk .0 .lane)
+  closing : {l : Lane} → Reached l → (ook fsk : List ℕ) → Reached (closed l ook fsk .0 .lane)
 
 -- a lane with settings of the domain, and what its calls keep of it
 pub record Kept (l : Lane) : Type 0 where
@@ -57,10 +61,16 @@ pub record Kept (l : Lane) : Type 0 where
   pub from : l .lead .«lead_at» ≤ maxIndex
   pub near : l .last ≤ maxIndex
 
--- and of its serial (R-6): a begin takes it to spentSerial at most, and each step raises it and the index by 1; the records have the lane's
+-- the serial n where the last index is this (R-6, R-13): a begin takes it to spentSerial at most, each step raises it and the index by 1, and a
+-- close, which ends the burst, raises it alone
+pub record Counts (phase last n : ℕ) : Type 0 where
+  pub busy : (phase ≡ 0 → ⊥) → n ≤ spentSerial + last
+  pub idle : n ≤ spentSerial + last + 1
+
+-- and of its serial, which the records have too
 pub record Within (l : Lane) : Type 0 where
   pub kept : Kept l
-  pub counted : l .serial ≤ spentSerial + l .last
+  pub counted : Counts (l .phase) (l .last) (l .serial)
   pub own-ook : l .burst .«out_ook» .serial ≡ l .serial
   pub own-fsk : l .burst .«out_fsk» .serial ≡ l .serial
 
@@ -94,14 +104,17 @@ sound-ok {l} (within w) =
       filled = lead-ok (l .phase) (l .settings .«min_steps») (l .lead) (h .filled) (h .from);
       waits = cand-ok (l .phase) (h .held);
       near = le-leb (l .last) maxIndex (h .near);
-      counted = le-leb (l .serial) maxSerial (omega (arith, w .counted, h .near));
+      counted = le-leb (l .serial) maxSerial (omega (arith, w .counted .idle, h .near));
     })
 
 -- an accepted call raises the serial
-stamp-sound : {l : Lane} (n : ℕ) → Kept l → n ≤ spentSerial + l .last → Sound (stampOf n l)
+raises : {phase last n : ℕ} → n ≤ spentSerial + last → Counts phase last n
+raises h = record { busy = λ b. h; idle = omega arith }
+
+stamp-sound : {l : Lane} (n : ℕ) → Kept l → Counts (l .phase) (l .last) n → Sound (stampOf n l)
 unfolding stampOf
 stamp-sound {l} n r c =
-    let k : Kept (stampOf n l) = record { had = r .had; domain = r .domain; held = serials-within n (omega (arith, c, r .near)) (r .held); going = r .going; named = r .named; filled = r .filled; from = r .from; near = r .near } in
+    let k : Kept (stampOf n l) = record { had = r .had; domain = r .domain; held = serials-within n (omega (arith, c .idle, r .near)) (r .held); going = r .going; named = r .named; filled = r .filled; from = r .from; near = r .near } in
     let w : Within (stampOf n l) = record { kept = k; counted = c; own-ook = refl; own-fsk = refl } in
     within w
 
@@ -124,7 +137,7 @@ open-sound {l} p h = go (eqb (openRefusal l p) 0) refl
     go : (b : Bool) → eqb (openRefusal l p) 0 ≡ b → Sound (cond b (stamped l (stay (idleLane 1 p))) (refuse (openRefusal l p) l) .lane)
     go true q =
         let t = opening-passes l p (eqb-true (openRefusal l p) 0 q) in
-        stamp-sound (l .serial + 1) (idle-kept p (t .0)) (omega (arith, t .1))
+        stamp-sound (l .serial + 1) (idle-kept p (t .0)) (raises (omega (arith, t .1)))
     go false q = h
 
 -- begin
@@ -142,7 +155,7 @@ lead-sound {l} b m n e (within w) =
     let i : b .index ≤ maxIndex = leb-true (b .index) maxIndex (t .index-ok) in
     let d : InDomain (l .settings) = settings-tell (l .settings) (h .domain) in
     let r : Kept (leadLane l b) = record { had = h .had; domain = h .domain; held = factor-within (b .factor) (cleared-within (h .held)); going = λ q. absurd (omega arith); named = omega arith; filled = λ q. omega (arith, d .min-steps .0, d .min-steps .1); from = i; near = i } in
-    stamp-sound (l .serial + 1) r (omega (arith, ltb-true (l .serial) spentSerial (t .serial-ok)))
+    stamp-sound (l .serial + 1) r (raises (omega (arith, ltb-true (l .serial) spentSerial (t .serial-ok))))
 
 pub begin-sound : {l : Lane} (b : BeginArgs) (ook fsk : List ℕ) → Sound l → Sound (begun l b ook fsk .lane)
 unfolding begun
@@ -172,10 +185,11 @@ record Steps (l : Lane) (s : StepArgs) : Type 0 where
   was : Within l
   index-most : s .index ≤ maxIndex
   next : s .index ≡ l .last + 1
+  under-way : l .phase ≡ 0 → ⊥
 
 module _ {l : Lane} (s : StepArgs) (k : Steps l s) where
   counts : (phase : ℕ) (ld : Lead) (ring : List Float) (b : Burst) → Kept (laneOf l phase (s .index) (s .x) ld ring b) → Sound (stampOf (l .serial + 1) (laneOf l phase (s .index) (s .x) ld ring b))
-  counts phase ld ring b r = stamp-sound (l .serial + 1) r (omega (arith, k .was .counted, k .next))
+  counts phase ld ring b r = stamp-sound (l .serial + 1) r (raises (omega (arith, k .was .counted .busy (k .under-way), k .next)))
 
   settled-sound : (ld : Lead) (ring : List Float) (r : Sampled) → SampledWithin (l .settings) r → ld .«lead_at» ≤ maxIndex → Sound (stampOf (l .serial + 1) (settleOf l s ld ring r .lane))
   unfolding settleOf
@@ -208,16 +222,16 @@ module _ {l : Lane} (s : StepArgs) (k : Steps l s) where
       let d : InDomain (l .settings) = settings-tell (l .settings) (h .domain) in
       settled-sound (l .lead) ring _ (sample-within (l .settings) (omega (arith, d .max-pulses .1)) (d .long-steps .1) _ ring (clearedOf (l .burst)) ook fsk (cleared-within (h .held)) (cleared-runs (l .settings) (l .burst) (h .going e))) (h .from)
 
-  advance-sound : (ook fsk : List ℕ) → (l .phase ≡ 0 → ⊥) → Sound (stampOf (l .serial + 1) (advanceOf l s ook fsk .0 .lane))
+  advance-sound : (ook fsk : List ℕ) → Sound (stampOf (l .serial + 1) (advanceOf l s ook fsk .0 .lane))
   unfolding advanceOf
-  advance-sound ook fsk busy = go (eqb (l .phase) 1) refl
+  advance-sound ook fsk = go (eqb (l .phase) 1) refl
     where
       ring : List Float
       ring = ringOf (l .ring) (s .index) (s .envelope)
 
       go : (b : Bool) → eqb (l .phase) 1 ≡ b → Sound (stampOf (l .serial + 1) (cond b (leadStep l s ring ook fsk) (burstStep l s ring ook fsk) .0 .lane))
       go true q = lead-step-sound ring ook fsk
-      go false q = burst-step-sound ring ook fsk (omega (arith, k .was .kept .named, busy, eqb-false (l .phase) 1 q))
+      go false q = burst-step-sound ring ook fsk (omega (arith, k .was .kept .named, k .under-way, eqb-false (l .phase) 1 q))
 
 pub step-passes : (l : Lane) (s : StepArgs) (m n : ℕ) → stepRefusal l s m n ≡ 0
     → AllPassed true (laneOk l) (not (eqb (l .phase) 0)) true (indexOk (s .index) && followsOf (l .last) (s .index)) (stepFloatsOk s) (roomOk (l .settings) m n)
@@ -234,7 +248,7 @@ accepted-sound s ook fsk e unopened = let z : _≡_ {A = Bool} false true = step
 accepted-sound {l} s ook fsk e (within h) =
     let t = step-passes l s (length ook) (length fsk) e in
     let i = both-true (indexOk (s .index)) (followsOf (l .last) (s .index)) (t .index-ok) in
-    advance-sound s (record { was = h; index-most = leb-true (s .index) maxIndex (i .0); next = follows-is (l .last) (s .index) (i .1) }) ook fsk (eqb-false (l .phase) 0 (not-true (eqb (l .phase) 0) (t .phase-ok)))
+    advance-sound s (record { was = h; index-most = leb-true (s .index) maxIndex (i .0); next = follows-is (l .last) (s .index) (i .1); under-way = eqb-false (l .phase) 0 (not-true (eqb (l .phase) 0) (t .phase-ok)) }) ook fsk
 
 pub step-sound : {l : Lane} (s : StepArgs) (ook fsk : List ℕ) → Sound l → Sound (stepped l s ook fsk .0 .lane)
 unfolding stepped
@@ -242,6 +256,38 @@ step-sound {l} s ook fsk h = go (eqb (stepRefusal l s (length ook) (length fsk))
   where
     go : (c : Bool) → eqb (stepRefusal l s (length ook) (length fsk)) 0 ≡ c → Sound (cond c (stampedWith l (advanceOf l s ook fsk)) (refuse (stepRefusal l s (length ook) (length fsk)) l, ook, fsk) .0 .lane)
     go true q = accepted-sound s ook fsk (eqb-true (stepRefusal l s (length ook) (length fsk)) 0 q) h
+    go false q = h
+
+-- close
+pub close-passes : (l : Lane) (m n : ℕ) → closeRefusal l m n ≡ 0 → AllPassed true (laneOk l) (not (eqb (l .phase) 0)) true true true (roomOk (l .settings) m n)
+unfolding closeRefusal
+close-passes l m n e = none-failed true (laneOk l) (not (eqb (l .phase) 0)) true true true (roomOk (l .settings) m n) e
+
+idle-with-sound : {l : Lane} (b : Burst) → Within l → (l .phase ≡ 0 → ⊥) → BurstWithin (l .settings) b → Sound (stampOf (l .serial + 1) (idleWith l b .lane))
+unfolding idleWith
+idle-with-sound {l} b w busy g =
+    let h = w .kept in
+    let k : Kept (laneOf l 0 (l .last) (l .«x_prev») (l .lead) (l .ring) b) = record { had = h .had; domain = h .domain; held = g; going = λ e. absurd (omega arith); named = omega arith; filled = λ e. absurd (omega arith); from = h .from; near = h .near } in
+    stamp-sound (l .serial + 1) k (record { busy = λ n. absurd (n refl); idle = omega (arith, w .counted .busy busy) })
+
+closes-sound : {l : Lane} (ook fsk : List ℕ) → closeRefusal l (length ook) (length fsk) ≡ 0 → Sound l → Sound (stampOf (l .serial + 1) (closeOf l ook fsk .0 .lane))
+unfolding newLane idleLane closeOf
+closes-sound ook fsk e unopened = let z : _≡_ {A = Bool} false true = close-passes newLane (length ook) (length fsk) e .phase-ok in absurd (let y : _≡_ {A = ℕ} 0 1 = cc in omega arith)
+closes-sound {l} ook fsk e (within w) =
+    let t = close-passes l (length ook) (length fsk) e in
+    let busy = eqb-false (l .phase) 0 (not-true (eqb (l .phase) 0) (t .phase-ok)) in
+    let d : InDomain (l .settings) = settings-tell (l .settings) (w .kept .domain) in
+    let m = d .max-pulses .1 in
+    either (λ (r : Answer × List ℕ × List ℕ). Sound (stampOf (l .serial + 1) (r .0 .lane))) (eqb (l .phase) 1)
+    (idle-with-sound (clearedOf (l .burst)) w busy (cleared-within (w .kept .held)))
+    (idle-with-sound (endBurstOf (l .burst) ook .0) w busy (ended-within (omega (arith, m)) ook (w .kept .held)))
+
+pub close-sound : {l : Lane} (ook fsk : List ℕ) → Sound l → Sound (closed l ook fsk .0 .lane)
+unfolding closed
+close-sound {l} ook fsk h = go (eqb (closeRefusal l (length ook) (length fsk)) 0) refl
+  where
+    go : (c : Bool) → eqb (closeRefusal l (length ook) (length fsk)) 0 ≡ c → Sound (cond c (stampedWith l (closeOf l ook fsk)) (refuse (closeRefusal l (length ook) (length fsk)) l, ook, fsk) .0 .lane)
+    go true q = closes-sound ook fsk (eqb-true (closeRefusal l (length ook) (length fsk)) 0 q) h
     go false q = h
 
 -- the records of a sound lane have its serial
@@ -259,6 +305,7 @@ reached-sound new = unopened
 reached-sound (opening r p) = open-sound p (reached-sound r)
 reached-sound (beginning r b ook fsk) = begin-sound b ook fsk (reached-sound r)
 reached-sound (stepping r s ook fsk) = step-sound s ook fsk (reached-sound r)
+reached-sound (closing r ook fsk) = close-sound ook fsk (reached-sound r)
 
 -- every lane that calls hand back passes the check
 pub reached-ok : {l : Lane} → Reached l → laneOk l ≡ true
@@ -284,3 +331,7 @@ begin-not-four {l} r b ook fsk = not-four (not (eqb (l .opened) 0)) (laneOk l) (
 pub step-not-four : {l : Lane} → Reached l → (s : StepArgs) (ook fsk : ℕ) → stepRefusal l s ook fsk ≡ 4 → ⊥
 unfolding stepRefusal
 step-not-four {l} r s ook fsk = not-four true (laneOk l) (not (eqb (l .phase) 0)) true (indexOk (s .index) && followsOf (l .last) (s .index)) (stepFloatsOk s) (roomOk (l .settings) ook fsk) (reached-ok r)
+
+pub close-not-four : {l : Lane} → Reached l → (ook fsk : ℕ) → closeRefusal l ook fsk ≡ 4 → ⊥
+unfolding closeRefusal
+close-not-four {l} r ook fsk = not-four true (laneOk l) (not (eqb (l .phase) 0)) true true true (roomOk (l .settings) ook fsk) (reached-ok r)

@@ -1,4 +1,4 @@
--- The records of an accepted call, whatever the lane value: an opening and a begin leave none, and each that a step leaves has at most
+-- The records of an accepted call, whatever the lane value: an opening and a begin leave none, and each that a step or a close leaves has at most
 -- max_pulses pairs. So the slots that belong to a record are at most 2 * max_pulses, which the domain ends at maxSlots.
 -- A refused call answers 3 (`replyNumberOf`) and prints no record.
 use Prim.Native.Nat.{ℕ, _+_, _*_, _≤_}
@@ -27,20 +27,21 @@ use Rattle.burst.specs.Lead.{leadAddOf, largestOf, beginBurstOf, staying, repla
 use Rattle.limits.specs.Pairs.{Paired, BurstFits, SampledFits, sample-fits, replay-fits, begin-burst-fits}
 use Rattle.refusals.specs.Domain.{InDomain, settings-tell}
 use Rattle.refusals.specs.State.{flag, envOk, trainOk, runsOk, committedOk, outOk, presOk, frameOk, burstOk}
-use Rattle.reached.specs.Kept.{cleared-fits}
+use Rattle.reached.specs.Kept.{cleared-fits, ended-fits}
 use Rattle.lane.specs.declared.BeginArgs.{BeginArgs}
 use Rattle.lane.specs.declared.StepArgs.{StepArgs}
 use Rattle.lane.specs.declared.Lane.{Lane}
 use Rattle.lane.specs.declared.Answer.{Answer}
 use Rattle.lane.specs.Answers.{replyNumberOf}
-use Rattle.lane.specs.Refusals.{openedOk, opened-tells, laneOk, openRefusal, beginRefusal, stepRefusal, Passes, lane-passes}
+use Rattle.lane.specs.Refusals.{openedOk, opened-tells, laneOk, openRefusal, beginRefusal, stepRefusal, closeRefusal, Passes, lane-passes}
 use Rattle.lane.specs.Idle.{noBurst, idleLane}
 use Rattle.lane.specs.Begin.{ringOf, clearedOf, leadLane}
 use Rattle.lane.specs.Advance.{settleOf, fillOf, replayStep, leadStep, atOf, burstStep, advanceOf}
 use Rattle.lane.specs.Serial.{stampOf, stamped, stampedWith}
-use Rattle.lane.specs.Step.{refuse, stay, opened, begun, stepped}
+use Rattle.lane.specs.Close.{idleWith, closeOf}
+use Rattle.lane.specs.Step.{refuse, stay, opened, begun, stepped, closed}
 use Rattle.lane.specs.Part.{front, namedOf, partRefusal, partOf}
-use Rattle.reached.specs.Reached.{step-passes}
+use Rattle.reached.specs.Reached.{step-passes, close-passes}
 
 -- ---- what refusal 4's check says of the train and of the frame's pairs
 
@@ -121,6 +122,19 @@ module _ (l : Lane) (s : StepArgs) (r : Ready l) where
       (lead-fits (s .noise) ring ld ook fsk))
       (sample-fits (l .settings) (omega (arith, r .domain .max-pulses .1)) (atOf l s) ring (clearedOf (l .burst)) ook fsk (r .fits))
 
+-- ---- an accepted close
+
+ready-close : (l : Lane) (m n : ℕ) → closeRefusal l m n ≡ 0 → Ready l
+ready-close l m n e =
+    let t = close-passes l m n e in
+    let k : Passes l = lane-passes l (t .lane-ok) in
+    record { domain = domain-tells (l .opened) (l .phase) (l .settings) (not-true (eqb (l .phase) 0) (t .phase-ok)) (k .had); fits = burst-tells (l .settings .«max_pulses») (l .burst) (k .within) }
+
+close-fits : (l : Lane) → Ready l → (ook fsk : List ℕ) → AnswerFits (l .settings .«max_pulses») (closeOf l ook fsk)
+unfolding closeOf idleWith
+close-fits l r ook fsk =
+    either (AnswerFits (l .settings .«max_pulses»)) (eqb (l .phase) 1) (r .fits) (ended-fits (l .settings .«max_pulses») (omega (arith, r .domain .max-pulses .1)) (l .burst) ook (r .fits))
+
 -- ---- the records of an accepted call
 
 -- neither record has more pairs than max
@@ -137,6 +151,12 @@ pub records-fit-step : (l : Lane) (s : StepArgs) (ook fsk : List ℕ) → stepRe
 unfolding stepped stampOf
 records-fit-step l s ook fsk e =
     let f : AnswerFits (l .settings .«max_pulses») (advanceOf l s ook fsk) = advance-fits l s (ready l s (length ook) (length fsk) e) ook fsk in
+    rw e (record { ook-pairs = f .ook-within .room; fsk-pairs = f .fsk-within .room })
+
+pub records-fit-close : (l : Lane) (ook fsk : List ℕ) → closeRefusal l (length ook) (length fsk) ≡ 0 → RecordsFit (l .settings .«max_pulses») (closed l ook fsk .0 .lane .burst)
+unfolding closed stampOf
+records-fit-close l ook fsk e =
+    let f : AnswerFits (l .settings .«max_pulses») (closeOf l ook fsk) = close-fits l (ready-close l (length ook) (length fsk) e) ook fsk in
     rw e (record { ook-pairs = f .ook-within .room; fsk-pairs = f .fsk-within .room })
 
 pub records-none-begin : (l : Lane) (b : BeginArgs) (ook fsk : List ℕ) → beginRefusal l b (length ook) (length fsk) ≡ 0 → NoRecords (begun l b ook fsk .lane .burst)
@@ -168,10 +188,14 @@ part-most most l r ook fsk h =
     (omega arith))
     (omega arith)
 
+parts-fit : (max : ℕ) (l : Lane) → RecordsFit max (l .burst) → (x y : List ℕ) → PartsFit (2 * max) l x y
+parts-fit max l f x y = record { ook-part = part-most _ _ _ x y (omega (arith, f .ook-pairs)); fsk-part = part-most _ _ _ x y (omega (arith, f .fsk-pairs)) }
+
 pub parts-fit-step : (l : Lane) (s : StepArgs) (ook fsk : List ℕ) → stepRefusal l s (length ook) (length fsk) ≡ 0 → (x y : List ℕ) → PartsFit (2 * l .settings .«max_pulses») (stepped l s ook fsk .0 .lane) x y
-parts-fit-step l s ook fsk e x y =
-    let f = records-fit-step l s ook fsk e in
-    record { ook-part = part-most _ _ _ x y (omega (arith, f .ook-pairs)); fsk-part = part-most _ _ _ x y (omega (arith, f .fsk-pairs)) }
+parts-fit-step l s ook fsk e = parts-fit (l .settings .«max_pulses») (stepped l s ook fsk .0 .lane) (records-fit-step l s ook fsk e)
+
+pub parts-fit-close : (l : Lane) (ook fsk : List ℕ) → closeRefusal l (length ook) (length fsk) ≡ 0 → (x y : List ℕ) → PartsFit (2 * l .settings .«max_pulses») (closed l ook fsk .0 .lane) x y
+parts-fit-close l ook fsk e = parts-fit (l .settings .«max_pulses») (closed l ook fsk .0 .lane) (records-fit-close l ook fsk e)
 
 none-most : (most : ℕ) (l : Lane) → NoRecords (l .burst) → (x y : List ℕ) → PartsFit most l x y
 none-most most l n x y = record { ook-part = part-most most l _ x y (omega (arith, n .ook-none)); fsk-part = part-most most l _ x y (omega (arith, n .fsk-none)) }
@@ -186,6 +210,9 @@ parts-fit-open l p e most = none-most most (opened l p .lane) (records-none-open
 pub domain-step : (l : Lane) (s : StepArgs) (m n : ℕ) → stepRefusal l s m n ≡ 0 → InDomain (l .settings)
 domain-step l s m n e = ready l s m n e .domain
 
+pub slots-close : (l : Lane) (m n : ℕ) → closeRefusal l m n ≡ 0 → 2 * l .settings .«max_pulses» ≤ maxSlots
+slots-close l m n e = omega (arith, ready-close l m n e .domain .max-pulses .1)
+
 pub slots-step : (l : Lane) (s : StepArgs) (m n : ℕ) → stepRefusal l s m n ≡ 0 → 2 * l .settings .«max_pulses» ≤ maxSlots
 slots-step l s m n e = omega (arith, domain-step l s m n e .max-pulses .1)
 
@@ -195,6 +222,14 @@ unfolding stepped
 answered-step l s ook fsk = go (stepRefusal l s (length ook) (length fsk)) (eqb (stepRefusal l s (length ook) (length fsk)) 0) refl
   where
     go : (k : ℕ) (b : Bool) → eqb k 0 ≡ b → (replyNumberOf (cond b (stampedWith l (advanceOf l s ook fsk)) (refuse k l, ook, fsk) .0 .reply) ≡ 3 → ⊥) → k ≡ 0
+    go k true q h = eqb-true k 0 q
+    go k false q h = absurd (h refl)
+
+pub answered-close : (l : Lane) (ook fsk : List ℕ) → (replyNumberOf (closed l ook fsk .0 .reply) ≡ 3 → ⊥) → closeRefusal l (length ook) (length fsk) ≡ 0
+unfolding closed
+answered-close l ook fsk = go (closeRefusal l (length ook) (length fsk)) (eqb (closeRefusal l (length ook) (length fsk)) 0) refl
+  where
+    go : (k : ℕ) (b : Bool) → eqb k 0 ≡ b → (replyNumberOf (cond b (stampedWith l (closeOf l ook fsk)) (refuse k l, ook, fsk) .0 .reply) ≡ 3 → ⊥) → k ≡ 0
     go k true q h = eqb-true k 0 q
     go k false q h = absurd (h refl)
 

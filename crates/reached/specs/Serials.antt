@@ -1,4 +1,4 @@
--- Document 02, R-6: "a reopened lane never repeats a serial". Over every list of openings, begins and steps, refused ones among them, the
+-- Document 02, R-6: "a reopened lane never repeats a serial". Over every list of openings, begins, steps and closes, refused ones among them, the
 -- accepted calls are counted 1, 2, 3, ..: so no two of them have the same serial.
 use Prim.Native.Nat.{ℕ, zero, suc, _+_, _<_}
 use mathlib.Core.Bool.{Bool, true, cond, not}
@@ -13,18 +13,20 @@ use Rattle.lane.specs.declared.Lane.{Lane}
 use Rattle.lane.specs.declared.StepArgs.{StepArgs}
 use Rattle.lane.specs.Answers.{replyNumberOf}
 use Rattle.lane.specs.Part.{namedOf, partOf}
-use Rattle.lane.specs.Step.{newLane, opened, begun, stepped}
+use Rattle.lane.specs.Step.{newLane, opened, begun, stepped, closed}
 
 -- a call, with any OOK and FSK buffer
 pub data Call : Type 0 where
   opening : Settings → Call
   begin : BeginArgs → List ℕ → List ℕ → Call
   step : StepArgs → List ℕ → List ℕ → Call
+  close : List ℕ → List ℕ → Call
 
 abbrev pub answerTo : Lane → Call → Answer
 answerTo l (opening p) = opened l p
 answerTo l (begin b ook fsk) = begun l b ook fsk
 answerTo l (step s ook fsk) = stepped l s ook fsk .0
+answerTo l (close ook fsk) = closed l ook fsk .0
 
 -- it is accepted where it does not answer by a refusal, 3
 abbrev pub accepted : Answer → Bool

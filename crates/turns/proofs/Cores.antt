@@ -42,26 +42,26 @@ sound-lead {l} (within h) e = let d = settings-tell (l .settings) (h .kept .doma
 pub sound-serial : {l : Lane} → Sound l → l .serial ≤ maxSerial
 sound-serial {l} h = leb-true (l .serial) maxSerial (lane-passes l (sound-ok h) .counted)
 
-abbrev pub pastOf : Lane → ℕ → Reply → ℕ → Past
-pastOf l used r index = record { lane = l; used = used; reply = r; index = index }
+abbrev pub pastOf : Lane → ℕ → Reply → Past
+pastOf l used r = record { lane = l; used = used; reply = r }
 
 -- the same, where the ways out of the loop meet
-pub met : {p : State} {s : List ℕ} {from : ℕ} {c d : Core} {es es₁ re re₁ im im₁ ring ring₁ cs cs₁ : List Float} {ook ook₁ fsk fsk₁ : List ℕ} {used used₁ index index₁ : ℕ} {r r₁ : Reply}
-    → ook ≡ ook₁ → fsk ≡ fsk₁ → c ≡ d → es ≡ es₁ → re ≡ re₁ → im ≡ im₁ → ring ≡ ring₁ → cs ≡ cs₁ → used ≡ used₁ → r ≡ r₁ → index ≡ index₁
-    → Passed p s from (pastOf (joinedOf d es₁ re₁ im₁ ring₁ cs₁) used₁ r₁ index₁) (joinedOf d es₁ re₁ im₁ ring₁ cs₁, ook₁, fsk₁)
-    → Passed p s from (pastOf (joinedOf c es re im ring cs) used r index) (joinedOf c es re im ring cs, ook, fsk)
-met {p} {s} {from} {c} {d} {es} {es₁} {re} {re₁} {im} {im₁} {ring} {ring₁} {cs} {cs₁} {ook} {ook₁} {fsk} {fsk₁} {used} {used₁} {index} {index₁} {r} {r₁} e₀ e₁ e₂ e₃ e₄ e₅ e₆ e₇ e₈ e₉ e₁₀ h =
+pub met : {p : State} {s : List ℕ} {from : ℕ} {c d : Core} {es es₁ re re₁ im im₁ ring ring₁ cs cs₁ : List Float} {ook ook₁ fsk fsk₁ : List ℕ} {used used₁ : ℕ} {r r₁ : Reply}
+    → ook ≡ ook₁ → fsk ≡ fsk₁ → c ≡ d → es ≡ es₁ → re ≡ re₁ → im ≡ im₁ → ring ≡ ring₁ → cs ≡ cs₁ → used ≡ used₁ → r ≡ r₁
+    → Passed p s from (pastOf (joinedOf d es₁ re₁ im₁ ring₁ cs₁) used₁ r₁) (joinedOf d es₁ re₁ im₁ ring₁ cs₁, ook₁, fsk₁)
+    → Passed p s from (pastOf (joinedOf c es re im ring cs) used r) (joinedOf c es re im ring cs, ook, fsk)
+met {p} {s} {from} {c} {d} {es} {es₁} {re} {re₁} {im} {im₁} {ring} {ring₁} {cs} {cs₁} {ook} {ook₁} {fsk} {fsk₁} {used} {used₁} {r} {r₁} e₀ e₁ e₂ e₃ e₄ e₅ e₆ e₇ e₈ e₉ h =
     let lanes : joinedOf c es re im ring cs ≡ joinedOf d es₁ re₁ im₁ ring₁ cs₁ =
     ap (λ (x : Core). joinedOf x es re im ring cs) e₂ ∙ ap (λ (x : List Float). joinedOf d x re im ring cs) e₃ ∙ ap (λ (x : List Float). joinedOf d es₁ x im ring cs) e₄
     ∙ ap (λ (x : List Float). joinedOf d es₁ re₁ x ring cs) e₅ ∙ ap (λ (x : List Float). joinedOf d es₁ re₁ im₁ x cs) e₆ ∙ ap (λ (x : List Float). joinedOf d es₁ re₁ im₁ ring₁ x) e₇ in
     let l : Lane = joinedOf c es re im ring cs in
-    let rest : _≡_ {A = Past × List ℕ × List ℕ} (pastOf l used r index, ook, fsk) (pastOf l used₁ r₁ index₁, ook₁, fsk₁) =
-    ap (λ (x : List ℕ). (pastOf l used r index, x, fsk)) e₀ ∙ ap (λ (x : List ℕ). (pastOf l used r index, ook₁, x)) e₁ ∙ ap (λ (x : ℕ). (pastOf l x r index, ook₁, fsk₁)) e₈
-    ∙ ap (λ (x : Reply). (pastOf l used₁ x index, ook₁, fsk₁)) e₉ ∙ ap (λ (x : ℕ). (pastOf l used₁ r₁ x, ook₁, fsk₁)) e₁₀ in
-    subst (λ (z : Past × List ℕ × List ℕ). Passed p s from (z .0) (l, z .1, z .2)) (sym rest) (subst (λ (x : Lane). Passed p s from (pastOf x used₁ r₁ index₁) (x, ook₁, fsk₁)) (sym lanes) h)
+    let rest : _≡_ {A = Past × List ℕ × List ℕ} (pastOf l used r, ook, fsk) (pastOf l used₁ r₁, ook₁, fsk₁) =
+    ap (λ (x : List ℕ). (pastOf l used r, x, fsk)) e₀ ∙ ap (λ (x : List ℕ). (pastOf l used r, ook₁, x)) e₁ ∙ ap (λ (x : ℕ). (pastOf l x r, ook₁, fsk₁)) e₈
+    ∙ ap (λ (x : Reply). (pastOf l used₁ x, ook₁, fsk₁)) e₉ in
+    subst (λ (z : Past × List ℕ × List ℕ). Passed p s from (z .0) (l, z .1, z .2)) (sym rest) (subst (λ (x : Lane). Passed p s from (pastOf x used₁ r₁) (x, ook₁, fsk₁)) (sym lanes) h)
 
 -- of the lanes themselves
-pub of-lanes : {l k m n : Lane} {s ook₀ fsk₀ ook fsk : List ℕ} {from used index : ℕ} {r : Reply} → k ≡ l → n ≡ m
-    → Passed (k, ook₀, fsk₀) s from (pastOf m used r index) (m, ook, fsk) → Passed (l, ook₀, fsk₀) s from (pastOf n used r index) (n, ook, fsk)
-of-lanes {l} {k} {m} {n} {s} {ook₀} {fsk₀} {ook} {fsk} {from} {used} {index} {r} e d h =
-    subst (λ (x : Lane). Passed (x, ook₀, fsk₀) s from (pastOf n used r index) (n, ook, fsk)) e (subst (λ (x : Lane). Passed (k, ook₀, fsk₀) s from (pastOf x used r index) (x, ook, fsk)) (sym d) h)
+pub of-lanes : {l k m n : Lane} {s ook₀ fsk₀ ook fsk : List ℕ} {from used : ℕ} {r : Reply} → k ≡ l → n ≡ m
+    → Passed (k, ook₀, fsk₀) s from (pastOf m used r) (m, ook, fsk) → Passed (l, ook₀, fsk₀) s from (pastOf n used r) (n, ook, fsk)
+of-lanes {l} {k} {m} {n} {s} {ook₀} {fsk₀} {ook} {fsk} {from} {used} {r} e d h =
+    subst (λ (x : Lane). Passed (x, ook₀, fsk₀) s from (pastOf n used r) (n, ook, fsk)) e (subst (λ (x : Lane). Passed (k, ook₀, fsk₀) s from (pastOf x used r) (x, ook, fsk)) (sym d) h)

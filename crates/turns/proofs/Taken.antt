@@ -24,16 +24,16 @@ use Rattle.lane.specs.Begin.{ringOf}
 use Rattle.lane.specs.Advance.{settleOf, fillOf, replayStep, leadStep, burstStep, advanceOf}
 use Rattle.lane.specs.Serial.{stampOf, stampedWith}
 use Rattle.lane.specs.Step.{refuse, steppedBy, stepped}
-use Rattle.reached.specs.Reached.{Sound, sound-ok, open-sound, begin-sound, step-sound}
+use Rattle.reached.specs.Reached.{Sound, sound-ok, open-sound, begin-sound, step-sound, close-sound}
 use Rattle.commands.specs.declared.Command.{Command}
-use Rattle.commands.specs.declared.Command.the-variants.{End, Open, Begin, Step, Unknown, Short}
+use Rattle.commands.specs.declared.Command.the-variants.{End, Open, Begin, Step, Unknown, Short, Close}
 use Rattle.commands.specs.Command.{decoded, sizeOf, isStepOf}
 use Rattle.commands.specs.Stream.{size-fits, whole, decoded-more, step-there}
 use Rattle.lines.specs.Line.{recordLine, callText, hasRoom, put}
 use Rattle.lines.specs.Room.{room-there}
 use Rattle.turns.specs.declared.Past.{Past}
 use Rattle.turns.specs.declared.Turned.{Turned}
-use Rattle.turns.specs.Turn.{State, Called, called, next, indexOf, answerText, calledText, textOf, waits, slotsOf, mostOf}
+use Rattle.turns.specs.Turn.{State, Called, called, next, answerText, calledText, textOf, waits, slotsOf, mostOf}
 use Rattle.turns.specs.Laws.{there, Shown, shown-most, called-short}
 use Rattle.turns.specs.Stream.{listing, unroll, no-command, May, seen, all-used, Turns, more}
 use Rattle.turns.specs.Steps.{argsOf, quietOf, Seen, Passed, Turn}
@@ -47,6 +47,7 @@ is-step (Begin b) h = let z : _≡_ {A = Bool} false true = h in cc
 is-step (Step s) h = refl
 is-step Unknown h = let z : _≡_ {A = Bool} false true = h in cc
 is-step Short h = let z : _≡_ {A = Bool} false true = h in cc
+is-step Close h = let z : _≡_ {A = Bool} false true = h in cc
 
 step-whole : (k : Command) → isStepOf k ≡ true → whole k ≡ true
 step-whole k h = ap whole (is-step k h)
@@ -71,7 +72,7 @@ bytes-there s from k inside is-k = go (waits true (decoded (drop from s))) refl
 
 module _ (p : State) (s t : List ℕ) (used : ℕ) (k : Command) (c : Called) (inside : used < length s) (seen : Seen s used t) (is-k : k ≡ decoded (drop used s)) (ready : waits true k ≡ false) (is-c : c ≡ called p k) where
   abbrev lines : Command → Called → List ℕ → List ℕ
-  lines d e u = calledText e (indexOf d) ++ cond (eqb (sizeOf d) 0) [] (listing (next e) u)
+  lines d e u = calledText e ++ cond (eqb (sizeOf d) 0) [] (listing (next e) u)
 
   abbrev texts : Command → List ℕ → List ℕ
   texts d u = textOf d (called p d) ++ cond (eqb (sizeOf d) 0) [] (listing (next (called p d)) u)
@@ -101,6 +102,7 @@ call-sound p (Begin b) h = begin-sound b (p .1) (p .2) h
 call-sound p (Step s) h = step-sound s (p .1) (p .2) h
 call-sound p Unknown h = h
 call-sound p Short h = h
+call-sound p Close h = close-sound (p .1) (p .2) h
 
 moved : (used from n : ℕ) → used ≡ from + n → eqb used from ≡ eqb n 0
 moved used from n e = go (eqb n 0) refl
@@ -111,9 +113,9 @@ moved used from n e = go (eqb n 0) refl
 
 -- the one command at a place, by itself
 pub passed-one : (p : State) (s : List ℕ) (from : ℕ) (k : Command) (r : Past) (q : State) (size : ℕ) → from < length s → Sound (p .0)
-    → k ≡ decoded (drop from s) → waits true k ≡ false → size ≡ sizeOf k → r .index ≡ indexOf k → r .used ≡ from + size → (answerOf (r .reply) (q .0), q .1, q .2) ≡ called p k
+    → k ≡ decoded (drop from s) → waits true k ≡ false → size ≡ sizeOf k → r .used ≡ from + size → (answerOf (r .reply) (q .0), q .1, q .2) ≡ called p k
     → length (q .1) ≡ length (p .1) → length (q .2) ≡ length (p .2) → Passed p s from r q
-passed-one p s from k r q size inside sound is-k ready is-size is-index is-used is-c is-ook is-fsk =
+passed-one p s from k r q size inside sound is-k ready is-size is-used is-c is-ook is-fsk =
     record {
       onward = omega (arith, e);
       inside = omega (arith, e, size-fits (drop from s), ap sizeOf is-k, length-drop from s);
@@ -128,25 +130,24 @@ passed-one p s from k r q size inside sound is-k ready is-size is-index is-used 
     e = is-used ∙ ap (λ (n : ℕ). from + n) is-size
 
     again : (t : List ℕ) → Seen s from t
-        → calledText (answerOf (r .reply) (q .0), q .1, q .2) (r .index) ++ cond (eqb (r .used) from) [] (listing q (drop (r .used) s ++ t)) ≡ listing p (drop from s ++ t)
+        → calledText (answerOf (r .reply) (q .0), q .1, q .2) ++ cond (eqb (r .used) from) [] (listing q (drop (r .used) s ++ t)) ≡ listing p (drop from s ++ t)
     again t seen =
-        ap (λ (n : ℕ). calledText (answerOf (r .reply) (q .0), q .1, q .2) n ++ cond (eqb (r .used) from) [] (listing q (drop (r .used) s ++ t))) is-index
-        ∙ ap (λ (b : Bool). calledText (answerOf (r .reply) (q .0), q .1, q .2) (indexOf k) ++ cond b [] (listing q (drop (r .used) s ++ t))) (moved (r .used) from (sizeOf k) e)
-        ∙ ap (λ (n : ℕ). calledText (answerOf (r .reply) (q .0), q .1, q .2) (indexOf k) ++ cond (eqb (sizeOf k) 0) [] (listing q (drop n s ++ t))) e
+        ap (λ (b : Bool). calledText (answerOf (r .reply) (q .0), q .1, q .2) ++ cond b [] (listing q (drop (r .used) s ++ t))) (moved (r .used) from (sizeOf k) e)
+        ∙ ap (λ (n : ℕ). calledText (answerOf (r .reply) (q .0), q .1, q .2) ++ cond (eqb (sizeOf k) 0) [] (listing q (drop n s ++ t))) e
         ∙ one-line p s t from k _ inside seen is-k ready is-c
 
 -- ---- steps one after another
 
-silent : (r : Reply) (l : Lane) (ook fsk : List ℕ) (index : ℕ) → quietOf r (l .burst .«out_fsk» .state) (l .burst .«out_ook» .state) ≡ true → answerText r l ook fsk index ≡ []
+silent : (r : Reply) (l : Lane) (ook fsk : List ℕ) → quietOf r (l .burst .«out_fsk» .state) (l .burst .«out_ook» .state) ≡ true → answerText r l ook fsk ≡ []
 unfolding answerText callText recordLine
-silent (reply.Refused k) l ook fsk index h = let z : _≡_ {A = Bool} false true = h in cc
-silent reply.Stay l ook fsk index h =
+silent (reply.Refused k) l ook fsk h = let z : _≡_ {A = Bool} false true = h in cc
+silent reply.Stay l ook fsk h =
     let f = l .burst .«out_fsk» in
     let o = l .burst .«out_ook» in
     let b = both-true (not (eqb (f .state) 1)) (not (eqb (o .state) 1)) h in
     simp (not-true (eqb (f .state) 1) (b .0), not-true (eqb (o .state) 1) (b .1))
-silent reply.Idle l ook fsk index h = let z : _≡_ {A = Bool} false true = h in cc
-silent (reply.IdleAt e) l ook fsk index h = let z : _≡_ {A = Bool} false true = h in cc
+silent reply.Idle l ook fsk h = let z : _≡_ {A = Bool} false true = h in cc
+silent (reply.IdleAt e) l ook fsk h = let z : _≡_ {A = Bool} false true = h in cc
 
 -- the last call prints nothing
 abbrev pub Quiet : Past → State → Type 0
@@ -167,13 +168,13 @@ passed-then p s from r q z n h up quiet keeps sees on g =
     }
   where
     again : (t : List ℕ) → Seen s from t
-        → calledText (answerOf (z .reply) (n .0), n .1, n .2) (z .index) ++ cond (eqb (z .used) from) [] (listing n (drop (z .used) s ++ t)) ≡ listing p (drop from s ++ t)
+        → calledText (answerOf (z .reply) (n .0), n .1, n .2) ++ cond (eqb (z .used) from) [] (listing n (drop (z .used) s ++ t)) ≡ listing p (drop from s ++ t)
     again t seen =
-        ap (λ (b : Bool). calledText (answerOf (z .reply) (n .0), n .1, n .2) (z .index) ++ cond b [] (listing n (drop (z .used) s ++ t)))
+        ap (λ (b : Bool). calledText (answerOf (z .reply) (n .0), n .1, n .2) ++ cond b [] (listing n (drop (z .used) s ++ t)))
         (ne-eqb (z .used) from (λ e. omega (arith, e)) ∙ sym (ne-eqb (z .used) (r .used) (λ e. omega (arith, e))))
         ∙ g .same t (sees t)
         ∙ sym
-        (ap (λ (w : List ℕ). w ++ cond (eqb (r .used) from) [] (listing q (drop (r .used) s ++ t))) (silent (r .reply) (q .0) (q .1) (q .2) (r .index) quiet)
+        (ap (λ (w : List ℕ). w ++ cond (eqb (r .used) from) [] (listing q (drop (r .used) s ++ t))) (silent (r .reply) (q .0) (q .1) (q .2) quiet)
         ∙ ap (λ (b : Bool). cond b [] (listing q (drop (r .used) s ++ t))) (ne-eqb (r .used) from (λ e. omega (arith, e))))
         ∙ h .same t seen
 
@@ -213,13 +214,13 @@ core-steps q a h = ap (λ (b : Bool). steppedBy (stepRefusalBy b (q .0 .settings
 
 -- one step more
 pub step-on : (p : State) (s : List ℕ) (from : ℕ) (r : Past) (q : State) (a : StepArgs) (z : Past) (n : State) → Sound (p .0) → Steps p s from r q
-    → r .used < length s → Step a ≡ decoded (drop (r .used) s) → z .used ≡ r .used + 25 → z .index ≡ a .index
+    → r .used < length s → Step a ≡ decoded (drop (r .used) s) → z .used ≡ r .used + 25
     → (answerOf (z .reply) (n .0), n .1, n .2) ≡ coreStep (q .0) a (q .1) (q .2) → length (n .1) ≡ length (q .1) → length (n .2) ≡ length (q .2)
     → Passed p s from z n
-step-on p s from r q a z n sound so inside is-a is-used is-index gives is-ook is-fsk = go so
+step-on p s from r q a z n sound so inside is-a is-used gives is-ook is-fsk = go so
   where
     one : Passed q s (r .used) z n
-    one = passed-one q s (r .used) (Step a) z n 25 inside (steps-sound sound so) is-a refl refl is-index is-used (gives ∙ core-steps q a (steps-sound sound so)) is-ook is-fsk
+    one = passed-one q s (r .used) (Step a) z n 25 inside (steps-sound sound so) is-a refl refl is-used (gives ∙ core-steps q a (steps-sound sound so)) is-ook is-fsk
 
     go : Steps p s from r q → Passed p s from z n
     go (none e d) = subst (λ (o : State). Passed o s from z n) d (subst (λ (f : ℕ). Passed q s f z n) e one)
@@ -268,7 +269,7 @@ stored x w at h =
     ∙ take-at (take at x ++ w) (drop (at + length w) x) (at + length w) (omega (arith, length-append (take at x) w, length-take at x))
 
 pub turn-made : (p : State) (s : List ℕ) (from at : ℕ) (x y : List ℕ) (r : Past) (q : State) (e : ℕ) → Passed p s from r q → hasRoom (mostOf p) (length x) at ≡ true
-    → _≡_ {A = ℕ × List ℕ} (e, y) (put (calledText (answerOf (r .reply) (q .0), q .1, q .2) (r .index)) (at, x))
+    → _≡_ {A = ℕ × List ℕ} (e, y) (put (calledText (answerOf (r .reply) (q .0), q .1, q .2)) (at, x))
     → Turn p s from at x (record { lane = q .0; used = r .used; at = e }, q .1, q .2, y)
 unfolding put
 turn-made p s from at x y r q e h room puts =
@@ -283,13 +284,13 @@ turn-made p s from at x y r q e h room puts =
     }
   where
     w : List ℕ
-    w = calledText (answerOf (r .reply) (q .0), q .1, q .2) (r .index)
+    w = calledText (answerOf (r .reply) (q .0), q .1, q .2)
 
     is-e : e ≡ at + length w
     is-e = ap (λ (z : ℕ × List ℕ). z .0) puts
 
     fits : at + length w ≤ length x
-    fits = omega (arith, called-short (answerOf (r .reply) (q .0), q .1, q .2) (r .index) (mostOf p) (h .shown), room-there (mostOf p) (length x) at room .1)
+    fits = omega (arith, called-short (answerOf (r .reply) (q .0), q .1, q .2) (mostOf p) (h .shown), room-there (mostOf p) (length x) at room .1)
 
     again : (t : List ℕ) → Seen s from t → take e y ++ cond (eqb (r .used) from) [] (listing q (drop (r .used) s ++ t)) ≡ take at x ++ listing p (drop from s ++ t)
     again t seen =

@@ -14,16 +14,16 @@ use Rattle.lane.specs.declared.Reply.{Reply}
 use Rattle.lane.specs.declared.Reply.the-variants.{Refused, Stay, Idle, IdleAt}
 use Rattle.lane.specs.Answers.{replyNumberOf}
 use Rattle.lane.specs.declared.StepArgs.{StepArgs}
-use Rattle.lane.specs.Step.{stepped}
+use Rattle.lane.specs.Step.{stepped, closed}
 use Rattle.lane.specs.Part.{front, namedOf, partRefusal, partOf}
 use Rattle.commands.specs.declared.Command.{Command}
-use Rattle.commands.specs.declared.Command.the-variants.{End, Open, Begin, Step, Unknown, Short}
+use Rattle.commands.specs.declared.Command.the-variants.{End, Open, Begin, Step, Unknown, Short, Close}
 use Rattle.commands.specs.Command.{sizeOf}
 use Rattle.lines.specs.declared.Written.{Written}
 use Rattle.lines.specs.Line.{maxSlots, callRoom, largerOf, hasRoom, recordLine, callText, writtenCall, put}
 use Rattle.lines.specs.Room.{room-there, length-call, larger-left, larger-right}
-use Rattle.reached.specs.Records.{PartsFit, parts-fit-step, parts-fit-begin, parts-fit-open, slots-step, answered-step, answered-begin, answered-open}
-use Rattle.turns.specs.Turn.{State, Called, called, indexOf, shownOf, answerText, calledText, textOf, placeOf, waits, smallerOf, slotsOf, mostOf}
+use Rattle.reached.specs.Records.{PartsFit, parts-fit-step, parts-fit-close, parts-fit-begin, parts-fit-open, slots-step, slots-close, answered-step, answered-close, answered-begin, answered-open}
+use Rattle.turns.specs.Turn.{State, Called, called, shownOf, answerText, calledText, textOf, placeOf, waits, smallerOf, slotsOf, mostOf}
 
 -- ---- room
 
@@ -109,23 +109,36 @@ shown-fits c most h =
       ook-shown = shown-by (c .0 .reply) (c .0 .lane) (c .0 .lane .burst .«out_ook») (c .1) (c .2) most (λ n. h n .ook-part);
     }
 
--- a step that is accepted has its parts in two slots for each pulse, in the buffers, and in document 01's 65,536 pulses
-step-shown : (p : State) (s : StepArgs) → length (called p (Step s) .1) ≡ length (p .1) → length (called p (Step s) .2) ≡ length (p .2) → Shown (called p (Step s)) (mostOf p)
-unfolding called slotsOf
-step-shown p s h g =
-    let c = stepped (p .0) s (p .1) (p .2) in
+-- parts in two slots for each pulse, of buffers as long as before the call, where the pulses are document 01's 65,536 at most
+parts-held : (p : State) (c : Called) → length (c .1) ≡ length (p .1) → length (c .2) ≡ length (p .2) → 2 * p .0 .settings .«max_pulses» ≤ maxSlots
+    → PartsFit (2 * p .0 .settings .«max_pulses») (c .0 .lane) (c .1) (c .2) → PartsFit (mostOf p) (c .0 .lane) (c .1) (c .2)
+unfolding slotsOf
+parts-held p c h g d f =
     let larger = largerOf (length (p .1)) (length (p .2)) in
     let left = larger-left (length (p .1)) (length (p .2)) in
     let right = larger-right (length (p .1)) (length (p .2)) in
-    shown-fits c (mostOf p) (λ n.
-    let e = answered-step (p .0) s (p .1) (p .2) n in
-    let f = parts-fit-step (p .0) s (p .1) (p .2) e (c .1) (c .2) in
-    let d = slots-step (p .0) s (length (p .1)) (length (p .2)) e in
     let l = c .0 .lane in
     let short : (o : Out) → length (partOf l o (c .1) (c .2)) ≤ larger = λ o. part-short l o (c .1) (c .2) larger (omega (arith, h, left)) (omega (arith, g, right)) in
     let within : (o : Out) → length (partOf l o (c .1) (c .2)) ≤ 2 * p .0 .settings .«max_pulses» → length (partOf l o (c .1) (c .2)) ≤ mostOf p =
     λ o k. smaller-most _ _ maxSlots (smaller-most _ (2 * p .0 .settings .«max_pulses») larger k (short o)) (omega (arith, k, d)) in
-    record { ook-part = within (l .burst .«out_ook») (f .ook-part); fsk-part = within (l .burst .«out_fsk») (f .fsk-part) })
+    record { ook-part = within (l .burst .«out_ook») (f .ook-part); fsk-part = within (l .burst .«out_fsk») (f .fsk-part) }
+
+-- so have a step and a close that are accepted
+step-shown : (p : State) (s : StepArgs) → length (called p (Step s) .1) ≡ length (p .1) → length (called p (Step s) .2) ≡ length (p .2) → Shown (called p (Step s)) (mostOf p)
+unfolding called
+step-shown p s h g =
+    let c = stepped (p .0) s (p .1) (p .2) in
+    shown-fits c (mostOf p) (λ n.
+    let e = answered-step (p .0) s (p .1) (p .2) n in
+    parts-held p c h g (slots-step (p .0) s (length (p .1)) (length (p .2)) e) (parts-fit-step (p .0) s (p .1) (p .2) e (c .1) (c .2)))
+
+close-shown : (p : State) → length (called p Close .1) ≡ length (p .1) → length (called p Close .2) ≡ length (p .2) → Shown (called p Close) (mostOf p)
+unfolding called
+close-shown p h g =
+    let c = closed (p .0) (p .1) (p .2) in
+    shown-fits c (mostOf p) (λ n.
+    let e = answered-close (p .0) (p .1) (p .2) n in
+    parts-held p c h g (slots-close (p .0) (length (p .1)) (length (p .2)) e) (parts-fit-close (p .0) (p .1) (p .2) e (c .1) (c .2)))
 
 -- no part that a call prints has more slots than `mostOf` says; nothing is said where there is no command
 pub shown-most : (p : State) (k : Command) → waits true k ≡ false → length (called p k .1) ≡ length (p .1) → length (called p k .2) ≡ length (p .2) → Shown (called p k) (mostOf p)
@@ -136,49 +149,51 @@ shown-most p (Begin b) w h g = shown-fits (called p (Begin b)) (mostOf p) (λ n.
 shown-most p (Step s) w h g = step-shown p s h g
 shown-most p Unknown w h g = record { fsk-shown = omega arith; ook-shown = omega arith }
 shown-most p Short w h g = record { fsk-shown = omega arith; ook-shown = omega arith }
+shown-most p Close w h g = close-shown p h g
 
 -- a refused call prints no record, so that its lines are those without the parts
-shown-text : (r : Reply) (l : Lane) (ook fsk : List ℕ) (index : ℕ)
-    → callText r (recordLine (l .burst .«out_fsk») (shownOf r l (l .burst .«out_fsk») ook fsk) ++ recordLine (l .burst .«out_ook») (shownOf r l (l .burst .«out_ook») ook fsk)) index ≡ answerText r l ook fsk index
+shown-text : (r : Reply) (l : Lane) (ook fsk : List ℕ)
+    → callText r (recordLine (l .burst .«out_fsk») (shownOf r l (l .burst .«out_fsk») ook fsk) ++ recordLine (l .burst .«out_ook») (shownOf r l (l .burst .«out_ook») ook fsk)) (l .last) ≡ answerText r l ook fsk
 unfolding answerText callText
-shown-text (Refused n) l ook fsk index = refl
-shown-text Stay l ook fsk index = refl
-shown-text Idle l ook fsk index = refl
-shown-text (IdleAt e) l ook fsk index = refl
+shown-text (Refused n) l ook fsk = refl
+shown-text Stay l ook fsk = refl
+shown-text Idle l ook fsk = refl
+shown-text (IdleAt e) l ook fsk = refl
 
-pub answered : (r : Reply) (l : Lane) (ook fsk fs os x y : List ℕ) (index at e : ℕ) (w : Written)
+pub answered : (r : Reply) (l : Lane) (ook fsk fs os x y : List ℕ) (at e : ℕ) (w : Written)
     → hasRoom (largerOf (length (shownOf r l (l .burst .«out_fsk») ook fsk)) (length (shownOf r l (l .burst .«out_ook») ook fsk))) (length x) at ≡ true
     → fs ≡ shownOf r l (l .burst .«out_fsk») ook fsk → os ≡ shownOf r l (l .burst .«out_ook») ook fsk
-    → _≡_ {A = Written × List ℕ} (w, y) (writtenCall r (l .burst .«out_fsk») fs (l .burst .«out_ook») os index at x) → e ≡ placeOf w at
-    → _≡_ {A = ℕ × List ℕ} (e, y) (put (answerText r l ook fsk index) (at, x))
+    → _≡_ {A = Written × List ℕ} (w, y) (writtenCall r (l .burst .«out_fsk») fs (l .burst .«out_ook») os (l .last) at x) → e ≡ placeOf w at
+    → _≡_ {A = ℕ × List ℕ} (e, y) (put (answerText r l ook fsk) (at, x))
 unfolding writtenCall put
-answered r l ook fsk fs os x y index at e w room df dg q de =
-    ap (λ (n : ℕ). (n, y)) de ∙ ap (λ (z : Written × List ℕ). (placeOf (z .0) at, z .1)) q ∙ rw (df, dg) (rw room (ap (λ (v : List ℕ). (at + length v, sets x at v)) (shown-text r l ook fsk index)))
+answered r l ook fsk fs os x y at e w room df dg q de =
+    ap (λ (n : ℕ). (n, y)) de ∙ ap (λ (z : Written × List ℕ). (placeOf (z .0) at, z .1)) q ∙ rw (df, dg) (rw room (ap (λ (v : List ℕ). (at + length v, sets x at v)) (shown-text r l ook fsk)))
 
 -- the room that a turn has is room for the parts of its call
 pub room-shown : (c : Called) (most len at : ℕ) → Shown c most → hasRoom most len at ≡ true
     → hasRoom (largerOf (length (shownOf (c .0 .reply) (c .0 .lane) (c .0 .lane .burst .«out_fsk») (c .1) (c .2))) (length (shownOf (c .0 .reply) (c .0 .lane) (c .0 .lane .burst .«out_ook») (c .1) (c .2)))) len at ≡ true
 room-shown c most len at h room = room-less _ most len at (larger-short _ _ most (h .fsk-shown) (h .ook-shown)) room
 
-pub called-short : (c : Called) (index most : ℕ) → Shown c most → length (calledText c index) ≤ callRoom most
-called-short c index most h =
+pub called-short : (c : Called) (most : ℕ) → Shown c most → length (calledText c) ≤ callRoom most
+called-short c most h =
     let r = c .0 .reply in
     let l = c .0 .lane in
     let f = l .burst .«out_fsk» in
     let o = l .burst .«out_ook» in
     omega (
       arith,
-      ap length (shown-text r l (c .1) (c .2) index),
-      length-call r f (shownOf r l f (c .1) (c .2)) o (shownOf r l o (c .1) (c .2)) index,
+      ap length (shown-text r l (c .1) (c .2)),
+      length-call r f (shownOf r l f (c .1) (c .2)) o (shownOf r l o (c .1) (c .2)) (l .last),
       h .fsk-shown,
       h .ook-shown,
     )
 
 -- a command that is there prints the lines of its call
-pub there : (k : Command) (c : Called) → waits true k ≡ false → textOf k c ≡ calledText c (indexOf k)
+pub there : (k : Command) (c : Called) → waits true k ≡ false → textOf k c ≡ calledText c
 there End c w = let z : _≡_ {A = Bool} true false = w in let q : _≡_ {A = ℕ} 0 1 = cc in absurd (omega arith)
 there (Open s carries) c w = refl
 there (Begin b) c w = refl
 there (Step s) c w = refl
 there Unknown c w = refl
 there Short c w = refl
+there Close c w = refl

@@ -13,7 +13,7 @@ use Rattle.lane.specs.declared.StepArgs.{StepArgs}
 use Rattle.lane.specs.Core.{answerOf}
 use Rattle.reached.specs.Reached.{Sound}
 use Rattle.commands.specs.declared.Command.{Command}
-use Rattle.commands.specs.declared.Command.the-variants.{End, Open, Begin, Step, Unknown, Short}
+use Rattle.commands.specs.declared.Command.the-variants.{End, Open, Begin, Step, Unknown, Short, Close}
 use Rattle.commands.specs.Command.{decoded, sizeOf}
 use Rattle.turns.specs.declared.Past.{Past}
 use Rattle.turns.specs.declared.Turned.{Turned}
@@ -32,6 +32,7 @@ argsOf (Begin b) = noArgs
 argsOf (Step s) = s
 argsOf Unknown = noArgs
 argsOf Short = noArgs
+argsOf Close = noArgs
 
 -- a call that prints nothing: it stays, and decides no record
 abbrev pub quietOf : Reply → ℕ → ℕ → Bool
@@ -56,7 +57,7 @@ pub record Passed (p : State) (s : List ℕ) (from : ℕ) (r : Past) (q : State)
   pub left : (o : State) (t : List ℕ) → Seen s from t → (r .used ≡ from → ⊥) → Turns o (s ++ t) from p → Turns o (s ++ t) (r .used) q
   pub ended : r .used ≡ from → (sizeOf (decoded (drop from s)) ≡ 0) × (q ≡ p)
   pub same : (t : List ℕ) → Seen s from t
-      → calledText (answerOf (r .reply) (q .0), q .1, q .2) (r .index) ++ cond (eqb (r .used) from) [] (listing q (drop (r .used) s ++ t)) ≡ listing p (drop from s ++ t)
+      → calledText (answerOf (r .reply) (q .0), q .1, q .2) ++ cond (eqb (r .used) from) [] (listing q (drop (r .used) s ++ t)) ≡ listing p (drop from s ++ t)
 
 -- what a turn says: its commands lead from p to a state, and the lines of the last stand in the text from `at` on
 pub record Turn (p : State) (s : List ℕ) (from at : ℕ) (x : List ℕ) (z : Turned × List ℕ × List ℕ × List ℕ) : Type 0 where

@@ -10,7 +10,7 @@ use lib.Seq.{sets, sets-eq, take-at, drop-append-le, drop-drop}
 use lib.Dec.{eqb, ltb}
 use borrow.Author.Tests.{eqb-false, eq-eqb, ne-eqb, le-ltb}
 use Rattle.commands.specs.declared.Command.{Command}
-use Rattle.commands.specs.declared.Command.the-variants.{End, Open, Begin, Step, Unknown, Short}
+use Rattle.commands.specs.declared.Command.the-variants.{End, Open, Begin, Step, Unknown, Short, Close}
 use Rattle.commands.specs.Command.{decoded, sizeOf}
 use Rattle.commands.specs.Stream.{size-fits, whole, decoded-more}
 use Rattle.lines.specs.Line.{callRoom}
@@ -76,6 +76,7 @@ waits-whole (Begin b) w = refl
 waits-whole (Step s) w = refl
 waits-whole Unknown w = refl
 waits-whole Short w = let z : _≡_ {A = Bool} true false = w in cc
+waits-whole Close w = refl
 
 -- where a command is not waited for, something is there
 pub something : (last : Bool) (k : Command) → waits last k ≡ false → waits true k ≡ false
@@ -85,6 +86,7 @@ something last (Begin b) w = refl
 something last (Step s) w = refl
 something last Unknown w = refl
 something last Short w = refl
+something last Close w = refl
 
 -- a command that is not waited for is decoded from a part as from the whole
 settled : (last : Bool) (s t : List ℕ) → May last t → waits last (decoded s) ≡ false → decoded (s ++ t) ≡ decoded s
@@ -126,6 +128,7 @@ no-command p (Begin b) h = absurd (omega (arith, h))
 no-command p (Step s) h = absurd (omega (arith, h))
 no-command p Unknown h = refl
 no-command p Short h = refl
+no-command p Close h = absurd (omega (arith, h))
 
 -- ---- a block of the stream
 
@@ -166,7 +169,8 @@ all-used (b ∷ o) w =
     (waits-either (eqb b 1) _ _ (waits-either (ltb (length o) 37) _ _ refl refl)
     (waits-either (eqb b 2) _ _ (waits-either (ltb (length o) 60) _ _ refl refl)
     (waits-either (eqb b 3) _ _ (waits-either (ltb (length o) 24) _ _ refl refl)
-    (waits-either (eqb b 4) _ _ (waits-either (ltb (length o) 38) _ _ refl refl) refl)))) in
+    (waits-either (eqb b 4) _ _ (waits-either (ltb (length o) 38) _ _ refl refl)
+    (waits-either (eqb b 5) _ _ refl refl))))) in
     let z : _≡_ {A = Bool} true false = sym w ∙ there in cc
 
 -- a block that was not ended

@@ -10,10 +10,10 @@ use Rattle.lane.specs.declared.Lane.{Lane}
 use Rattle.lane.specs.declared.Answer.{Answer}
 use Rattle.lane.specs.declared.Reply.{Reply}
 use Rattle.lane.specs.declared.Reply.the-variants.{Refused, Stay, Idle, IdleAt}
-use Rattle.lane.specs.Step.{opened, begun, stepped}
+use Rattle.lane.specs.Step.{opened, begun, stepped, closed}
 use Rattle.lane.specs.Part.{partOf}
 use Rattle.commands.specs.declared.Command.{Command}
-use Rattle.commands.specs.declared.Command.the-variants.{End, Open, Begin, Step, Unknown, Short}
+use Rattle.commands.specs.declared.Command.the-variants.{End, Open, Begin, Step, Unknown, Short, Close}
 use Rattle.lines.specs.declared.Written.{Written}
 use Rattle.lines.specs.declared.Written.the-variants.{At, NoRoom}
 use Rattle.lines.specs.Line.{recordLine, callText, maxSlots, largerOf}
@@ -38,19 +38,11 @@ called p (Begin b) = (begun (p .0) b (p .1) (p .2), p .1, p .2)
 called p (Step s) = stepped (p .0) s (p .1) (p .2)
 called p Unknown = unchanged (Refused 1) p
 called p Short = unchanged (Refused 2) p
+called p Close = closed (p .0) (p .1) (p .2)
 
 -- the lane and the buffers after a call
 abbrev pub next : Called → State
 next c = (c .0 .lane, c .1, c .2)
-
--- the call's index, which a phase line has
-abbrev pub indexOf : Command → ℕ
-indexOf End = 0
-indexOf (Open s carries) = 0
-indexOf (Begin b) = b .index
-indexOf (Step s) = s .index
-indexOf Unknown = 0
-indexOf Short = 0
 
 abbrev pub refusedOf : Reply → Bool
 refusedOf (Refused n) = true
@@ -66,22 +58,24 @@ shownOf r l o ook fsk = cond (refusedOf r) (take 0 ook) (partOf l o ook fsk)
 abbrev pub recordText : Lane → Out → List ℕ → List ℕ → List ℕ
 recordText l o ook fsk = recordLine o (partOf l o ook fsk)
 
--- the lines of a reply with the two records of the lane
-unfoldable pub answerText : Reply → Lane → List ℕ → List ℕ → ℕ → List ℕ
-answerText r l ook fsk index = callText r (recordText l (l .burst .«out_fsk») ook fsk ++ recordText l (l .burst .«out_ook») ook fsk) index
+-- the lines of a reply with the two records of the lane. A phase line has the lane's last index: that of the step which ends a burst, and
+-- of the last begin or step where a close does (R-13)
+unfoldable pub answerText : Reply → Lane → List ℕ → List ℕ → List ℕ
+answerText r l ook fsk = callText r (recordText l (l .burst .«out_fsk») ook fsk ++ recordText l (l .burst .«out_ook») ook fsk) (l .last)
 
 -- the lines of a call
-abbrev pub calledText : Called → ℕ → List ℕ
-calledText c index = answerText (c .0 .reply) (c .0 .lane) (c .1) (c .2) index
+abbrev pub calledText : Called → List ℕ
+calledText c = answerText (c .0 .reply) (c .0 .lane) (c .1) (c .2)
 
 -- what a command prints: nothing where there is none
 abbrev pub textOf : Command → Called → List ℕ
 textOf End c = []
-textOf (Open s carries) c = calledText c 0
-textOf (Begin b) c = calledText c (b .index)
-textOf (Step s) c = calledText c (s .index)
-textOf Unknown c = calledText c 0
-textOf Short c = calledText c 0
+textOf (Open s carries) c = calledText c
+textOf (Begin b) c = calledText c
+textOf (Step s) c = calledText c
+textOf Unknown c = calledText c
+textOf Short c = calledText c
+textOf Close c = calledText c
 
 -- the place after lines that were written
 abbrev pub placeOf : Written → ℕ → ℕ
@@ -98,6 +92,7 @@ waits last (Begin b) = false
 waits last (Step s) = false
 waits last Unknown = false
 waits last Short = not last
+waits last Close = false
 
 abbrev pub smallerOf : ℕ → ℕ → ℕ
 smallerOf n m = cond (ltb m n) m n

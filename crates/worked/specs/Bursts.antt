@@ -1,4 +1,4 @@
--- Document 01, "Worked bursts", M6 to M8 and M10, and bursts of document 02's R-2: the commands go in as bytes, and the answer is what the listing program prints of them, from the lane
+-- Document 01, "Worked bursts", M6 to M8 and M10, and bursts of document 02's R-2 and R-13: the commands go in as bytes, and the answer is what the listing program prints of them, from the lane
 -- that never had settings on. The settings are OOK, 2, 4, 4, 1000, 4, alpha 0.5, gap_ratio 100, others 0; index from 10, noise 0, factor 1, history 0,
 -- samples (1, 0).
 use Prim.Native.Nat.{ℕ, _+_}
@@ -27,9 +27,10 @@ use Rattle.lane.specs.Answers.{replyOf, phaseOf}
 use Rattle.lane.specs.Begin.{historyOf, beginLeadOf, clearedOf, leadLane}
 use Rattle.lane.specs.Idle.{noBurst, idleLane}
 use Rattle.lane.specs.Part.{front, namedOf, partOf}
-use Rattle.lane.specs.Refusals.{openedOk, laneOk, historyOk, beginFloatsOk, stepFloatsOk, followsOf, openRefusal, beginRefusal, stepRefusal}
+use Rattle.lane.specs.Refusals.{openedOk, laneOk, historyOk, beginFloatsOk, stepFloatsOk, followsOf, openRefusal, beginRefusal, stepRefusal, closeRefusal}
 use Rattle.lane.specs.Serial.{stampOf}
-use Rattle.lane.specs.Step.{newLane, opened, begun, stepped}
+use Rattle.lane.specs.Close.{idleWith, endBurstOf, closeOf}
+use Rattle.lane.specs.Step.{newLane, opened, begun, stepped, closed}
 use Rattle.words.specs.Words.{u32At, u64At, encode}
 use Rattle.commands.specs.Command.{settingsOf, carrySettingsOf, historyOf as historyBytes, beginArgsOf, stepArgsOf, decoded}
 use Rattle.lines.specs.Line.{leading, decimal, hex8, widths, trainLine, recordLine, idleLine, carrierLine, refusedLine, callText}
@@ -91,5 +92,5 @@ burstWith e es = burstBy 1000 4 e es
 
 -- what is printed of commands, with the program's buffers
 unfoldable pub printed : List ℕ → List ℕ
-unfolding listed listing called answerText decoded settingsOf carrySettingsOf beginArgsOf stepArgsOf historyBytes u32At u64At encode callText recordLine trainLine widths idleLine carrierLine refusedLine decimal leading hex8 snapOf nearStartOf roundOf narrowOf wholeRoot roundExact exactOf sqrtOf absOf midpointOf flushOf crossOf nearestIn widthBy carriedAt boundOf satAddOf inc refineLevelOf refineLoOf excessOf splitFrom refineInOf refineOf lengthenOf rejoinOf beginRunOf beginsOf advanceRunOf zeroIf pacRunOf beginEnvOf pushPulseOf closeGapOf emptyTrainOf finishOf endTrainOf pulseDoneOf gapRatioExceededOf dueOf confirmIf riseOf fallOf confirmOf actOf thresholdOf onOf refineDueOf highOf pacOf seeOf carrierOf goneOf hasPulsesOf gapOverOf waitOf tailOf leadAddOf largestFrom beginBurstOf leadAtOf replayFrom replayOf leadFullOf snapIfOf lastOf restOf sampleOf settingsOk unsetOk firstFailed frameOk burstOk leadOk candOk settleOf fillOf replayStep leadStep burstStep advanceOf replyOf phaseOf historyOf beginLeadOf clearedOf leadLane noBurst idleLane front namedOf partOf openedOk laneOk historyOk beginFloatsOk stepFloatsOk followsOf openRefusal beginRefusal stepRefusal stampOf newLane opened begun stepped add sub mul div neg lt le eq ofBits toBits ofInt toUnsigned isNan
+unfolding listed listing called answerText decoded settingsOf carrySettingsOf beginArgsOf stepArgsOf historyBytes u32At u64At encode callText recordLine trainLine widths idleLine carrierLine refusedLine decimal leading hex8 snapOf nearStartOf roundOf narrowOf wholeRoot roundExact exactOf sqrtOf absOf midpointOf flushOf crossOf nearestIn widthBy carriedAt boundOf satAddOf inc refineLevelOf refineLoOf excessOf splitFrom refineInOf refineOf lengthenOf rejoinOf beginRunOf beginsOf advanceRunOf zeroIf pacRunOf beginEnvOf pushPulseOf closeGapOf emptyTrainOf finishOf endTrainOf pulseDoneOf gapRatioExceededOf dueOf confirmIf riseOf fallOf confirmOf actOf thresholdOf onOf refineDueOf highOf pacOf seeOf carrierOf goneOf hasPulsesOf gapOverOf waitOf tailOf leadAddOf largestFrom beginBurstOf leadAtOf replayFrom replayOf leadFullOf snapIfOf lastOf restOf sampleOf settingsOk unsetOk firstFailed frameOk burstOk leadOk candOk settleOf fillOf replayStep leadStep burstStep advanceOf replyOf phaseOf historyOf beginLeadOf clearedOf leadLane noBurst idleLane front namedOf partOf openedOk laneOk historyOk beginFloatsOk stepFloatsOk followsOf openRefusal beginRefusal stepRefusal closeRefusal stampOf idleWith endBurstOf closeOf newLane opened begun stepped closed add sub mul div neg lt le eq ofBits toBits ofInt toUnsigned isNan
 printed commands = listing (newLane, replicate 4096 0, replicate 4096 0) commands

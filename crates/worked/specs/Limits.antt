@@ -186,10 +186,10 @@ limits =
     -- R-1: carry, and a held boundary
     ∷ limit [] carry 1
     ∷ limit [] bound (2 ^ 47)
-    -- R-6: every serial that the lane holds
-    ∷ limit [] serial (2 ^ 48 + 2 ^ 40)
-    ∷ limit [] «ook_serial» (2 ^ 48 + 2 ^ 40)
-    ∷ limit [] «fsk_serial» (2 ^ 48 + 2 ^ 40)
+    -- R-6 and R-13: every serial that the lane holds
+    ∷ limit [] serial (2 ^ 48 + 2 ^ 40 + 1)
+    ∷ limit [] «ook_serial» (2 ^ 48 + 2 ^ 40 + 1)
+    ∷ limit [] «fsk_serial» (2 ^ 48 + 2 ^ 40 + 1)
     ∷ flags 18
 
 -- lanes that a limit does not hold for, and lanes that another rule refuses

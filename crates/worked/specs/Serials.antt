@@ -1,4 +1,4 @@
--- Document 02, R-6, in rows: which calls refusal 13 meets and in which order, the serials that an accepted call leaves, and which record
+-- Document 02, R-6 and R-13, in rows: which calls refusal 13 meets and in which order, the serials that an accepted call leaves, and which record
 -- gives its part to which lane.
 use Prim.Native.Nat.{ℕ, _+_, _-_, _^_}
 use mathlib.Core.Bool.{Bool, true, false}
@@ -25,9 +25,10 @@ use Rattle.lane.specs.Answers.{refusalNumberOf}
 use Rattle.lane.specs.Begin.{historyOf, beginLeadOf, clearedOf, leadLane}
 use Rattle.lane.specs.Idle.{noBurst, idleLane}
 use Rattle.lane.specs.Part.{front, namedOf, partRefusal, partOf}
-use Rattle.lane.specs.Refusals.{openedOk, laneOk, historyOk, beginFloatsOk, stepFloatsOk, followsOf, openRefusal, beginRefusal, stepRefusal}
+use Rattle.lane.specs.Refusals.{openedOk, laneOk, historyOk, beginFloatsOk, stepFloatsOk, followsOf, openRefusal, beginRefusal, stepRefusal, closeRefusal}
 use Rattle.lane.specs.Serial.{stampOf}
-use Rattle.lane.specs.Step.{newLane, opened, begun, stepped}
+use Rattle.lane.specs.Close.{idleWith, closeOf}
+use Rattle.lane.specs.Step.{newLane, opened, begun, stepped, closed}
 use Rattle.worked.specs.Limits.{Field, phase, serial, «ook_serial», «fsk_serial», «lead_n», laneOf, changed}
 
 -- ---- calls
@@ -51,23 +52,25 @@ beginArgs index = record { index = index; factor = zero32; envelope = zero32; x 
 abbrev stepArgs : ℕ → StepArgs
 stepArgs index = record { index = index; noise = zero32; envelope = zero32; x = zeroC32 }
 
--- an opening with these max_pulses, a begin and a step with this index; the buffers have eight slots
+-- an opening with these max_pulses, a begin and a step with this index, a close; the buffers have eight slots
 pub data Call : Type 0 where
   opening : ℕ → Call
   begin : ℕ → Call
   step : ℕ → Call
+  close : Call
 
 abbrev answered : Lane → Call → Answer
 answered l (opening max) = opened l (settings max)
 answered l (begin index) = begun l (beginArgs index) (replicate 8 0) (replicate 8 0)
 answered l (step index) = stepped l (stepArgs index) (replicate 8 0) (replicate 8 0) .0
+answered l close = closed l (replicate 8 0) (replicate 8 0) .0
 
 -- the number of the refusal, 0 for none; then the serials of the lane, of its OOK record and of its FSK record after the call
 abbrev seen : Answer → List ℕ
 seen a = refusalNumberOf (a .reply) ∷ a .lane .serial ∷ a .lane .burst .«out_ook» .serial ∷ a .lane .burst .«out_fsk» .serial ∷ []
 
 unfoldable pub after : From → Call → List ℕ
-unfolding laneOf newLane idleLane noBurst opened begun stepped openRefusal beginRefusal stepRefusal firstFailed laneOk openedOk settingsOk unsetOk burstOk frameOk leadOk candOk historyOk beginFloatsOk stepFloatsOk followsOf stampOf leadLane beginLeadOf historyOf clearedOf advanceOf leadStep fillOf leadAddOf inc neg le ofBits toBits
+unfolding laneOf newLane idleLane noBurst opened begun stepped openRefusal beginRefusal stepRefusal firstFailed laneOk openedOk settingsOk unsetOk burstOk frameOk leadOk candOk historyOk beginFloatsOk stepFloatsOk followsOf stampOf leadLane beginLeadOf historyOf clearedOf advanceOf leadStep fillOf leadAddOf closed closeRefusal closeOf idleWith inc neg le ofBits toBits
 after l c = seen (answered (lane l) c)
 
 -- a lane with this serial, and records of other calls
@@ -90,7 +93,7 @@ abbrev spent : ℕ
 spent = 2 ^ 48
 
 abbrev most : ℕ
-most = 2 ^ 48 + 2 ^ 40
+most = 2 ^ 48 + 2 ^ 40 + 1
 
 pub data Row : Type 0 where
   row : From → Call → List ℕ → Row
@@ -119,6 +122,12 @@ calls =
     ∷ row (of (leading spent)) (step 1) (taken (spent + 1))
     ∷ row (of (leading most)) (step 1) (taken (most + 1))
     ∷ row (of (leading (most + 1))) (step 1) (refused 4 (most + 1))
+    -- R-13: a close raises it too, and never meets 13
+    ∷ row (of (leading 41)) close (taken 42)
+    ∷ row (of (leading spent)) close (taken (spent + 1))
+    ∷ row (of (leading (most + 1))) close (refused 4 (most + 1))
+    ∷ row (of (at 41)) close (refused 5 41)
+    ∷ row new close (5 ∷ 0 ∷ 0 ∷ 0 ∷ [])
     -- a refused call raises nothing
     ∷ row (of (leading 41)) (step 2) (refused 6 41)
     ∷ []

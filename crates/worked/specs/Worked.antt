@@ -1,4 +1,4 @@
--- Document 01, "Worked bursts": the examples M1 to M10 as one table, with bursts of document 02's R-1 and R-2. A row has a question and the numbers that the paper gives for it.
+-- Document 01, "Worked bursts": the examples M1 to M10 as one table, with bursts of document 02's R-1, R-2 and R-13. A row has a question and the numbers that the paper gives for it.
 -- A question of a further kind is a constructor of `Asked` and a clause of `answer`.
 use Prim.Native.Nat.{ℕ}
 use mathlib.Core.Path.{_≡_}
@@ -19,7 +19,7 @@ pub data Asked : Type 0 where
   a-gain : ℕ → Asked
   lead-len : ℕ → Asked
   fsk-widths : List ℕ → Asked
-  -- the bytes of commands (M6 to M8, M10, R-1, R-2): the answer is the text that the listing program prints
+  -- the bytes of commands (M6 to M8, M10, R-1, R-2, R-13): the answer is the text that the listing program prints
   commands : List ℕ → Asked
 
 abbrev one : ℕ → List ℕ
@@ -108,6 +108,22 @@ table =
     (111 ∷ 111 ∷ 107 ∷ 32 ∷ 49 ∷ 49 ∷ 32 ∷ 50 ∷ 48 ∷ 32 ∷ 49 ∷ 32 ∷ 57 ∷ 32 ∷ 52 ∷ 49 ∷ 48 ∷ 48 ∷ 48 ∷ 48 ∷ 48
     ∷ 48 ∷ 32 ∷ 118 ∷ 101 ∷ 99 ∷ 116 ∷ 111 ∷ 114 ∷ 32 ∷ 52 ∷ 48 ∷ 52 ∷ 48 ∷ 48 ∷ 48 ∷ 48 ∷ 48 ∷ 32 ∷ 48 ∷ 48 ∷ 48
     ∷ 48 ∷ 48 ∷ 48 ∷ 48 ∷ 48 ∷ 32 ∷ 49 ∷ 32 ∷ 51 ∷ 32 ∷ 51 ∷ 10 ∷ 105 ∷ 100 ∷ 108 ∷ 101 ∷ 32 ∷ 50 ∷ 49 ∷ 10 ∷ [])
+    -- R-13, M6's settings; 0, three 8s, three 0s, three 8s, then 05: the gap that the second pulse's start closed stays as the last one:
+    --   ook 11 14 0 3 41000000 vector 40400000 00000000 1 3 3
+    --   idle 19
+    ∷ row (commands (burstWith 0 (eight ∷ eight ∷ eight ∷ 0 ∷ 0 ∷ 0 ∷ eight ∷ eight ∷ eight ∷ []) ++ (5 ∷ [])))
+    (111 ∷ 111 ∷ 107 ∷ 32 ∷ 49 ∷ 49 ∷ 32 ∷ 49 ∷ 52 ∷ 32 ∷ 48 ∷ 32 ∷ 51 ∷ 32
+    ∷ 52 ∷ 49 ∷ 48 ∷ 48 ∷ 48 ∷ 48 ∷ 48 ∷ 48 ∷ 32
+    ∷ 118 ∷ 101 ∷ 99 ∷ 116 ∷ 111 ∷ 114 ∷ 32
+    ∷ 52 ∷ 48 ∷ 52 ∷ 48 ∷ 48 ∷ 48 ∷ 48 ∷ 48 ∷ 32
+    ∷ 48 ∷ 48 ∷ 48 ∷ 48 ∷ 48 ∷ 48 ∷ 48 ∷ 48 ∷ 32
+    ∷ 49 ∷ 32 ∷ 51 ∷ 32 ∷ 51 ∷ 10
+    ∷ 105 ∷ 100 ∷ 108 ∷ 101 ∷ 32 ∷ 49 ∷ 57 ∷ 10 ∷ [])
+    -- and 0, six 8s, 0, then 05 twice: in a burst without a finished pulse there is no train, and the lane is idle then
+    --   idle 17
+    --   refused 5
+    ∷ row (commands (burstWith 0 (eight ∷ eight ∷ eight ∷ eight ∷ eight ∷ eight ∷ 0 ∷ []) ++ (5 ∷ 5 ∷ [])))
+    (105 ∷ 100 ∷ 108 ∷ 101 ∷ 32 ∷ 49 ∷ 55 ∷ 10 ∷ 114 ∷ 101 ∷ 102 ∷ 117 ∷ 115 ∷ 101 ∷ 100 ∷ 32 ∷ 53 ∷ 10 ∷ [])
     -- R-1, M6's settings; 0 8 4 0 0 8 4, then 0. Opened by 01, and by 04 with carry 0:
     --   ook 11 16 0 5 41000000 vector 40800000 00000000 2 2 3 2 0
     --   idle 21

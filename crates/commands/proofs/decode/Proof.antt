@@ -35,10 +35,14 @@ returns-7 c = simp (le-ltb _ _ (c .before .before .before .before .before .befor
 
 returns-8 : tie.Need-returns-8
 unfolding decoded
-returns-8 c = simp (le-ltb _ _ (c .before .before .before .before .before .before .if1 .left), c .before .before .before .if2 .left, c .before .before .if3 .left, c .before .if5 .left, c .if7 .left)
+returns-8 c = simp (le-ltb _ _ (c .before .before .before .before .before .before .before .if1 .left), c .before .before .before .before .if2 .left, c .before .before .before .if3 .left, c .before .before .if5 .left, c .before .if7 .left, c .if8 .taken)
+
+returns-9 : tie.Need-returns-9
+unfolding decoded
+returns-9 c = simp (le-ltb _ _ (c .before .before .before .before .before .before .before .if1 .left), c .before .before .before .before .if2 .left, c .before .before .before .if3 .left, c .before .before .if5 .left, c .before .if7 .left, c .if8 .left)
 
 pub decode-spec : {M : Type 1} → statement M
 decode-spec =
     tie.close
     (tie.spec returns (search needs) (search needs) (search needs) returns-2 returns-3 (search needs) returns-4 returns-5 (search needs) returns-6
-    (search needs) returns-7 returns-8)
+    (search needs) returns-7 returns-8 returns-9)

@@ -10,7 +10,7 @@ returns c =
     ∙ called-step _ _ _ (sym (c .before .before .before .before .before .before .before .before .before .is-step .ensures) ∙ c .before .before .before .before .before .before .before .before .if1 .taken) (c .before .before .before .before .before .before .before .args-of .ensures)
 
 returns-2 : tie.Need-returns-2
-returns-2 c = c .call-still .ensures (sym (c .before .before .before .before .is-step .ensures) ∙ c .before .before .before .if1 .left)
+returns-2 c = c .before .before .call-other .ensures (sym (c .before .before .before .before .before .before .is-step .ensures) ∙ c .before .before .before .before .before .if1 .left)
 
 pub call-spec : {M : Type 1} → statement M
 call-spec =

@@ -16,18 +16,19 @@ steps-requires c κs =
 returns : tie.Need-returns
 returns c = c .before .before .before .before .steps .ensures
 
-add-used : tie.Need-add-t22
+add-used : tie.Need-add-t21
 add-used c =
-    let start = c .before .before .before .before .before .before .before .before .before .before .before in
-    record { fits = omega (arith, start .good .1 .1, c .before .before .before .before .before .size-of .ensures, ap sizeOf (start .pre .1), size-fits (drop (start .args .from) (start .args .s .now)), length-drop (start .args .from) (start .args .s .now), start .pre .0) }
+    let start = c .before .before .before .before .before .before .before .before .before .before .before .before in
+    record { fits = omega (arith, start .good .1 .1, c .size-of .ensures, ap sizeOf (start .pre .1), size-fits (drop (start .args .from) (start .args .s .now)), length-drop (start .args .from) (start .args .s .now), start .pre .0) }
 
 returns-2 : tie.Need-returns-2
 returns-2 c =
-    let start = c .before .before .before .before .before .before .before .before .before .before .before in
-    passed-one _ (start .args .s .now) (start .args .from) (start .args .k) _ _ (c .before .before .before .before .before .size-of .result) (start .pre .0) (start .pre .2) (start .pre .1) (bytes-there (start .args .s .now) (start .args .from) (start .args .k) (start .pre .0) (start .pre .1)) (c .before .before .before .before .before .size-of .ensures) (c .before .before .before .before .index-of .ensures) refl
-    (c .before .call-still .ensures (sym (c .before .before .before .before .before .before .before .is-step .ensures) ∙ c .before .before .before .before .before .before .if1 .left)) refl refl
+    let start = c .before .before .before .before .before .before .before .before .before .before .before .before in
+    let other = c .before .before .before .before .call-other in
+    passed-one _ (start .args .s .now) (start .args .from) (start .args .k) _ _ (c .size-of .result) (start .pre .0) (start .pre .2) (start .pre .1) (bytes-there (start .args .s .now) (start .args .from) (start .args .k) (start .pre .0) (start .pre .1)) (c .size-of .ensures) refl
+    (other .ensures (sym (c .before .before .before .before .before .before .before .before .is-step .ensures) ∙ c .before .before .before .before .before .before .before .if1 .left)) (omega (arith, other .kept .1 .1 .0)) refl
 
 pub pass-spec : {M : Type 1} → statement M
 pass-spec =
     tie.close
-    (tie.spec (search needs) steps-requires (search needs) (search needs) returns (search needs) (search needs) (search needs) add-used (search needs) (search needs) returns-2)
+    (tie.spec (search needs) steps-requires (search needs) (search needs) returns (search needs) (search needs) add-used (search needs) (search needs) returns-2)

@@ -7,7 +7,7 @@ use Rattle.turns.proofs.put_answer.Tie as tie
 returns : tie.Need-returns
 returns c =
     let s = c .before .before .before .before .before .before .before .before .before .before .before .before in
-    answered _ _ (s .args .ook .now) (s .args .fsk .now) _ _ _ _ _ _ _ _ (s .pre)
+    answered _ _ (s .args .ook .now) (s .args .fsk .now) _ _ _ _ _ _ _ (s .pre)
     (c .before .before .before .before .before .before .shown .ensures) (c .before .before .before .before .before .shown2 .ensures) (c .before .before .before .call-lines .ensures) (c .place-of .ensures)
 
 pub put-answer-spec : {M : Type 1} → statement M

@@ -24,13 +24,13 @@ no-step : (s : List ℕ) (from used : ℕ) → used ≡ from → isStepOf (decod
 no-step s from used e h n = let z : _≡_ {A = Bool} true false = sym h ∙ ap (λ (k : ℕ). isStepOf (decoded (drop k s))) (sym e) ∙ n in let y : _≡_ {A = ℕ} 0 1 = cc in omega arith
 
 abbrev Inv-loop : tie.InvT-loop
-Inv-loop s from ook₀ fsk₀ c₀ es₀ re₀ im₀ ring₀ cs₀ used₀ reply₀ index₀ ook fsk c es re im ring cs used reply index =
+Inv-loop s from ook₀ fsk₀ c₀ es₀ re₀ im₀ ring₀ cs₀ used₀ reply₀ ook fsk c es re im ring cs used reply =
     let p : State = (joinedOf c₀ es₀ re₀ im₀ ring₀ cs₀, ook₀, fsk₀) in
     let l : Lane = joinedOf c es re im ring cs in
-    (length es ≡ 16) × (length re ≡ 17) × (length im ≡ 17) × (used ≤ length s) × Sound (p .0) × Steps p s from (pastOf l used reply index) (l, ook, fsk)
+    (length es ≡ 16) × (length re ≡ 17) × (length im ≡ 17) × (used ≤ length s) × Sound (p .0) × Steps p s from (pastOf l used reply) (l, ook, fsk)
 
 abbrev μ-loop : tie.MeasureT-loop
-μ-loop s from ook₀ fsk₀ c₀ es₀ re₀ im₀ ring₀ cs₀ used₀ reply₀ index₀ ook fsk c es re im ring cs used reply index = length s - used
+μ-loop s from ook₀ fsk₀ c₀ es₀ re₀ im₀ ring₀ cs₀ used₀ reply₀ ook fsk c es re im ring cs used reply = length s - used
 
 loop-holds : tie.Need-loop-holds Inv-loop μ-loop
 loop-holds c =
@@ -69,7 +69,7 @@ loop-again c =
     let start = c .before .before .before .before .before .before .before .before .before .before .before .before .before .before .before .before .before .before .before .before .before .before .before .before .before .before .before .before .before in
     let ook : length (step .last .1 .1 .1 .1 .1 .1 .1 .0) ≡ length (v .ook) = omega (arith, step .kept .1 .1 .1 .1 .1 .1 .1 .0) in
     let fsk : length (step .last .1 .1 .1 .1 .1 .1 .1 .1 .0) ≡ length (v .fsk) = omega (arith, step .kept .1 .1 .1 .1 .1 .1 .1 .1 .0) in
-    let took = step-on _ (start .args .s .now) (start .args .from) _ _ (at .result) _ _ (v .inv .4) (v .inv .5) (c .before .before .before .before .before .before .before .before .before .before .before .before .before .before .before .before .before .before .loop-test .taken) (at .ensures) refl refl (step .ensures .0) ook fsk in (
+    let took = step-on _ (start .args .s .now) (start .args .from) _ _ (at .result) _ _ (v .inv .4) (v .inv .5) (c .before .before .before .before .before .before .before .before .before .before .before .before .before .before .before .before .before .before .loop-test .taken) (at .ensures) refl (step .ensures .0) ook fsk in (
       step .ensures .1 ∙ v .inv .0,
       step .ensures .2 ∙ v .inv .1,
       step .ensures .3 ∙ v .inv .2,
@@ -101,12 +101,12 @@ returns c =
     let back = joined-back (start .args .lane) (core .result) (es .result) (re .result) (im .result) (start .pre .2) (core .ensures) (es .ensures .0) (re .ensures .0) (im .ensures .0) in
     of-lanes back (c .joined .ensures)
     (⊎-elim
-    (λ w. met (w .1) (w .2) (w .3) (w .4) (w .5) (w .6) (w .7) (w .8) (w .9) (w .10) (w .11) (steps-end (v .inv .5) (λ e. omega (arith, e, w .0 .left, start .pre .0))))
+    (λ w. met (w .1) (w .2) (w .3) (w .4) (w .5) (w .6) (w .7) (w .8) (w .9) (w .10) (steps-end (v .inv .5) (λ e. omega (arith, e, w .0 .left, start .pre .0))))
     (⊎-elim
-    (λ w. met (w .3) (w .4) (w .5) (w .6) (w .7) (w .8) (w .9) (w .10) (w .11) (w .12) (w .13)
+    (λ w. met (w .3) (w .4) (w .5) (w .6) (w .7) (w .8) (w .9) (w .10) (w .11) (w .12)
     (steps-end (v .inv .5) (λ e. no-step (start .args .s .now) (start .args .from) (v .used) e (start .pre .1) (sym (w .1 .ensures) ∙ not-true _ (w .2 .taken)))))
-    (λ w. met (w .19) (w .20) (w .21) (w .22) (w .23) (w .24) (w .25) (w .26) (w .27) (w .28) (w .29)
-    (step-on _ (start .args .s .now) (start .args .from) _ _ (w .3 .result) _ _ (v .inv .4) (v .inv .5) (w .0 .taken) (w .3 .ensures) refl refl (w .11 .ensures .0)
+    (λ w. met (w .19) (w .20) (w .21) (w .22) (w .23) (w .24) (w .25) (w .26) (w .27) (w .28)
+    (step-on _ (start .args .s .now) (start .args .from) _ _ (w .3 .result) _ _ (v .inv .4) (v .inv .5) (w .0 .taken) (w .3 .ensures) refl (w .11 .ensures .0)
     (omega (arith, w .11 .kept .1 .1 .1 .1 .1 .1 .1 .0)) (omega (arith, w .11 .kept .1 .1 .1 .1 .1 .1 .1 .1 .0)))))
     (c .before .loop-test .came))
 
