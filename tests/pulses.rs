@@ -3,7 +3,9 @@
 //! pulse that starts behind the train. A close ends a burst with the last step, and in lead gives no train. Where a gap is under
 //! way, the train of a close, in any mode, is the one that the published lane gives where the gap has run out. In carry mode the slots
 //! up to the last pulse are the differences of R-1's boundaries, taken from the record's edges, and add up to the last pulse's rounded
-//! end. Long bursts come then, and last the widths of single rows of edges, some of which no list of calls has.
+//! end. R-9: the same holds of every Auto burst in which `fsk_phase` is 0 after each sample of its record, or no frame was found; and
+//! as long as an OOK burst is under way, its calls have brought fewer samples than the bound on the wait allows. Long bursts come then,
+//! and last the widths of single rows of edges, some of which no list of calls has.
 //!
 //!     pulses [--streams N] [--calls N]
 
@@ -69,8 +71,15 @@ fn rounded(boundary: u64) -> u64 {
 }
 
 /// What a run must have seen, at the least.
-const LEAST: [(&str, u64); 16] = [
+const LEAST: [(&str, u64); 23] = [
     ("bursts", 16_000),
+    ("Auto bursts without a frame", 8000),
+    ("Auto trains without a frame", 3500),
+    ("Auto bursts with a frame begun", 3000),
+    ("Auto bursts with other trains, which had a frame", 900),
+    ("waits", 1_500_000),
+    ("waits to the last sample that is allowed", 4500),
+    ("waits for the lead alone", 13_000),
     ("trains", 10_000),
     ("cut trains", 800),
     ("pulses", 35_000),
@@ -132,8 +141,10 @@ fn check_last_gap(kept: &[[f64; 2]], next: Option<f64>, carry: bool, train: &Tra
 /// Demand 3 for an ended burst and the trains that its calls gave.
 fn check(c: &mut Census, record: &[Sample], limits: Limits, trains: &[Train]) -> Result<(), String> {
     let (pulses, under_way) = pulses(record, limits.min_steps);
+    let (bursts, listed) =
+        if limits.auto { ("Auto bursts without a frame", "Auto trains without a frame") } else { ("bursts", "trains") };
     let mut count = |what: &str, n: usize| *c.entry(what.to_string()).or_default() += n as u64;
-    count("bursts", 1);
+    count(bursts, 1);
     if pulses.is_empty() && trains.is_empty() {
         return Ok(());
     }
@@ -141,7 +152,7 @@ fn check(c: &mut Census, record: &[Sample], limits: Limits, trains: &[Train]) ->
         return Err(format!("{} pulses, {} trains", pulses.len(), trains.len()));
     };
     let pairs = train.slots.len() / 2;
-    count("trains", 1);
+    count(listed, 1);
     count("trains of 300 pairs or more", usize::from(pairs >= 300));
     count("cut trains", usize::from(train.cut));
     count("pulses", pairs);
@@ -158,6 +169,41 @@ fn check(c: &mut Census, record: &[Sample], limits: Limits, trains: &[Train]) ->
     if !train.slots.iter().step_by(2).copied().eq(widths) {
         return Err(format!("pulses {kept:?}, train {:?}", train.slots));
     }
+    Ok(())
+}
+
+/// Demand 3 for a burst that ended; in Auto mode R-9's, of one in which `fsk_phase` stays 0, and of one in which no frame was found.
+/// Of the others it may be false, and is for some.
+fn check_ended(c: &mut Census, receiver: &Receiver, limits: Limits, trains: &[Train]) -> Result<(), String> {
+    let record = receiver.record();
+    let split = record.iter().any(|s| s.fsk_phase != 0);
+    if !limits.auto || !split || !receiver.framed() {
+        *c.entry("Auto bursts with a frame begun".to_string()).or_default() += u64::from(limits.auto && split);
+        return check(c, record, limits, trains);
+    }
+    if check(&mut Census::new(), record, limits, trains).is_err() {
+        *c.entry("Auto bursts with other trains, which had a frame".to_string()).or_default() += 1;
+    }
+    Ok(())
+}
+
+/// R-9 for an OOK burst under way, whose calls have brought so many samples: they are fewer than would have ended it, by the low ones
+/// behind the last high one, and by those of the lead.
+fn check_waits(c: &mut Census, record: &[Sample], limits: Limits, samples: usize) -> Result<(), String> {
+    let wait = limits.min_steps.max(limits.gap_steps + 1);
+    let last_high = record.iter().rposition(|s| s.high).map_or(0, |i| i + 1);
+    let by = (last_high + wait).max(limits.lead_len);
+    let quiet = record.chunk_by(|a, b| a.high == b.high).any(|run| !run[0].high && run.len() >= wait);
+    if quiet || samples >= by || (!record.is_empty() && record.len() != samples) {
+        return Err(format!(
+            "{samples} samples, {} of them in the record, the last high one {last_high}",
+            record.len()
+        ));
+    }
+    let mut count = |what: &str, n: bool| *c.entry(what.to_string()).or_default() += u64::from(n);
+    count("waits", true);
+    count("waits to the last sample that is allowed", samples + 1 == by && !record.is_empty());
+    count("waits for the lead alone", record.is_empty() && samples >= wait);
     Ok(())
 }
 
@@ -190,19 +236,26 @@ fn check_closed(
 
 fn follow(c: &mut Census, mut input: &[u8]) -> Result<(), String> {
     let mut receiver = Receiver::new();
-    let mut trains = Vec::new();
+    let (mut trains, mut samples) = (Vec::new(), 0);
     while !input.is_empty() {
         let found = if input.starts_with(&CLOSE) { receiver.found() } else { Vec::new() };
         let run_out = found.first().and_then(|_| receiver.run_out());
         let reply = receiver.call(&mut input);
         match reply {
-            Reply::Begun => trains.clear(),
+            Reply::Begun => (trains, samples) = (Vec::new(), 1),
             Reply::Refused(_) => {}
-            _ => trains.extend(receiver.decided()),
+            _ => {
+                trains.extend(receiver.decided());
+                samples += 1;
+            }
+        }
+        let limits = receiver.limits();
+        if let (Reply::Begun | Reply::Stayed, Some(limits @ Limits { auto: false, .. })) = (&reply, limits) {
+            check_waits(c, receiver.record(), limits, samples)?;
         }
         let ended = matches!(reply, Reply::Idle { .. } | Reply::Carrier { .. } | Reply::Closed { .. });
-        if let (true, Some(limits)) = (ended, receiver.in_ook_mode()) {
-            check(c, receiver.record(), limits, &trains)?;
+        if let (true, Some(limits)) = (ended, limits) {
+            check_ended(c, &receiver, limits, &trains)?;
             found.iter().for_each(|kind| *c.entry(kind.to_string()).or_default() += 1);
         }
         if let Reply::Closed { .. } = reply {
@@ -264,7 +317,7 @@ fn run() -> Result<String, String> {
     }
     let mut c = Census::new();
     for seed in 1..=streams {
-        for kind in [Kind::Ook, Kind::Exact, Kind::Edges, Kind::Damaged] {
+        for kind in [Kind::Ook, Kind::Auto, Kind::Exact, Kind::Edges, Kind::Damaged] {
             for (name, made) in SORTS {
                 let s = made(seed, calls, Some(kind));
                 follow(&mut c, &s.bytes).map_err(|e| format!("seed {seed}, {kind:?}, {name}: {e}"))?;
@@ -277,7 +330,7 @@ fn run() -> Result<String, String> {
     }
     let rows = worked()?;
     let words = verdict::words(&c);
-    let figures = format!("OOK bursts that ended, with each train as in its record: {words}; {rows} rows of edges");
+    let figures = format!("bursts that ended, with each train as in its record: {words}; {rows} rows of edges");
     at_least(&c, &LEAST).map_err(|e| format!("{figures}\n{e}"))?;
     Ok(figures)
 }

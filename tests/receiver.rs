@@ -186,11 +186,12 @@ pub struct Receiver {
 }
 
 /// A sample of a burst's record (document 01, "Lists, burst records and pulses"): its level, and the edge of the run under way
-/// as it stands after the sample.
+/// and `fsk_phase` as they stand after the sample.
 #[derive(Clone, Copy)]
 pub struct Sample {
     pub high: bool,
     pub edge: f64,
+    pub fsk_phase: u32,
 }
 
 impl Receiver {
@@ -326,7 +327,7 @@ impl Receiver {
 }
 
 fn sample_of(lane: &Lane) -> Sample {
-    Sample { high: lane.level == 1, edge: lane.t_run }
+    Sample { high: lane.level == 1, edge: lane.t_run, fsk_phase: u32::from(lane.fsk_phase) }
 }
 
 /// The samples of the lead that the step fills, as `lead` replays them: up to the first answer that is not stay.
@@ -355,24 +356,40 @@ pub struct Train {
     pub slots: Vec<u32>,
 }
 
-/// What demand 3 asks of the settings of a lane in OOK mode.
+/// What demand 3 and R-9 ask of the settings of a lane in OOK or in Auto mode.
 #[derive(Clone, Copy)]
 pub struct Limits {
+    pub auto: bool,
     pub min_steps: usize,
+    pub gap_steps: usize,
     pub max_pulses: usize,
+    pub lead_len: usize,
     pub carry: bool,
 }
 
 /// What demand 3 speaks of.
 impl Receiver {
-    pub fn in_ook_mode(&self) -> Option<Limits> {
-        let p = self.settings.filter(|p| p.modulation == PulseModulation::Ook)?;
-        Some(Limits { min_steps: p.min_steps as usize, max_pulses: p.max_pulses as usize, carry: p.carry })
+    /// The settings, where the mode is not FSK.
+    pub fn limits(&self) -> Option<Limits> {
+        let p = self.settings.filter(|p| p.modulation != PulseModulation::Fsk)?;
+        Some(Limits {
+            auto: p.modulation == PulseModulation::Auto,
+            min_steps: p.min_steps as usize,
+            gap_steps: p.gap_steps as usize,
+            max_pulses: p.max_pulses as usize,
+            lead_len: p.lead_len as usize,
+            carry: p.carry,
+        })
     }
 
     /// The samples of the burst so far; none before its lead is full.
     pub fn record(&self) -> &[Sample] {
         &self.record
+    }
+
+    /// Whether a frame was found in the burst.
+    pub fn framed(&self) -> bool {
+        self.lane.frames > 0
     }
 
     /// The OOK train that the last accepted call decided.

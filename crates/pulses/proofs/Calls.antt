@@ -12,10 +12,11 @@ use Rattle.lane.specs.Begin.{clearedOf, leadLane}
 use Rattle.lane.specs.Serial.{stampOf, stamped}
 use Rattle.lane.specs.Step.{stay, opened, begun, stepped, closed}
 use Rattle.pulses.specs.Runs.{Sample}
-use Rattle.pulses.specs.Yardstick.{as-left, other, lent, Call, opening, begin, step, close, Given, Yardstick, refusal, accepts, stepSamples, stepOf, closingOf, fetched, answeredBy, advanced, ends, lentWell, handedOn}
-use Rattle.pulses.specs.Demand.{returnedBy, theLane, Place, after, afterAll, bursts, Each, NoneYet}
+use Rattle.pulses.specs.Yardstick.{as-left, other, lent, Call, opening, begin, step, close, Given, Yardstick, refusal, accepts, stepSamples, stepPhases, stepOf, closingOf, fetched, answeredBy, advanced, ends, lentWell, handedOn}
+use Rattle.pulses.specs.Demand.{returnedBy, theLane, Place, after, afterAll, bursts}
+use Rattle.pulses.specs.Auto.{EachWhere, NoneYetWhere}
 use Rattle.ook.specs.Tests.{both-true}
-use Rattle.pulses.proofs.Measure.{Good, Fine, call-fine, good, none-yet}
+use Rattle.pulses.proofs.Measure.{ListedAt, Good, Fine, call-fine, good, none-yet}
 use Rattle.pulses.proofs.Flags.{clash}
 use Rattle.pulses.proofs.BurstEnd.{given-none}
 use Rattle.pulses.proofs.Accepted.{open-accepted, open-refused, begin-accepted, begin-refused, step-accepted, step-refused, close-accepted, close-refused}
@@ -37,29 +38,30 @@ module _ (k : Place theLane) (S : Same k) where
       e = ap (λ (l : Lane). begun l b ook fsk) (S .lane) ∙ begin-accepted (y .lane) b ook fsk q
 
   -- a step or a close: the lane answers q and the yardstick r
-  answer-same : (q r : Answer × List ℕ × List ℕ) (xs : List (Sample Float)) → q ≡ r
-      → Same (record { lane = q .0 .lane; ook = q .1; trains = k .trains ++ fetched q; yard = answeredBy y r xs })
-  answer-same q r xs e = record {
+  answer-same : (q r : Answer × List ℕ × List ℕ) (xs : List (Sample Float)) (ns : List ℕ) → q ≡ r
+      → Same (record { lane = q .0 .lane; ook = q .1; trains = k .trains ++ fetched q; yard = answeredBy y r xs ns })
+  answer-same q r xs ns e = record {
     lane = ap (λ (a : Answer × List ℕ × List ℕ). a .0 .lane) e;
     ook = ap (λ (a : Answer × List ℕ × List ℕ). a .1) e;
     trains = ap (λ (a : Answer × List ℕ × List ℕ). k .trains ++ fetched a) e ∙ ap (λ (ts : List Given). ts ++ fetched r) (S .trains);
   }
 
+  pub step-answers : (s : StepArgs) (fsk : List ℕ) → accepts y (step s as-left fsk) ≡ true → stepped (k .lane) s (k .ook) fsk ≡ stepOf y s fsk
+  unfolding refusal lent
+  step-answers s fsk q = ap (λ (l : Lane). stepped l s (k .ook) fsk) (S .lane) ∙ ap (λ (o : List ℕ). stepped (y .lane) s o fsk) (S .ook) ∙ step-accepted (y .lane) s (y .ook) fsk q
+
   step-same : (s : StepArgs) (fsk : List ℕ) → accepts y (step s as-left fsk) ≡ true → Same (after theLane true k (step s as-left fsk))
-  unfolding after advanced returnedBy refusal lent
-  step-same s fsk q = answer-same (stepped (k .lane) s (k .ook) fsk) (stepOf y s fsk) (y .recorded ++ stepSamples (y .lane) s (y .ook) fsk) e
-    where
-      e : stepped (k .lane) s (k .ook) fsk ≡ stepOf y s fsk
-      e = ap (λ (l : Lane). stepped l s (k .ook) fsk) (S .lane) ∙ ap (λ (o : List ℕ). stepped (y .lane) s o fsk) (S .ook) ∙ step-accepted (y .lane) s (y .ook) fsk q
+  unfolding after advanced returnedBy lent
+  step-same s fsk q = answer-same (stepped (k .lane) s (k .ook) fsk) (stepOf y s fsk) (y .recorded ++ stepSamples (y .lane) s (y .ook) fsk) (y .phases ++ stepPhases (y .lane) s (y .ook) fsk) (step-answers s fsk q)
 
   close-same : (fsk : List ℕ) → accepts y (close as-left fsk) ≡ true → Same (after theLane true k (close as-left fsk))
   unfolding after advanced returnedBy refusal lent
-  close-same fsk q = answer-same (closed (k .lane) (k .ook) fsk) (closingOf y fsk) (y .recorded) e
+  close-same fsk q = answer-same (closed (k .lane) (k .ook) fsk) (closingOf y fsk) (y .recorded) (y .phases) e
     where
       e : closed (k .lane) (k .ook) fsk ≡ closingOf y fsk
       e = ap (λ (l : Lane). closed l (k .ook) fsk) (S .lane) ∙ ap (λ (o : List ℕ). closed (y .lane) o fsk) (S .ook) ∙ close-accepted (y .lane) (y .ook) fsk q
 
-  after-same : (c : Call) (a : Bool) → accepts y c ≡ a → lentWell a c ≡ true → Same (after theLane a k c)
+  pub after-same : (c : Call) (a : Bool) → accepts y c ≡ a → lentWell a c ≡ true → Same (after theLane a k c)
   unfolding after advanced returnedBy refusal lentWell
   after-same (opening p) true q h = record { lane = ap (λ (l : Lane). opened l p .lane) (S .lane) ∙ ap (λ (a : Answer). a .lane) (open-accepted (y .lane) p q); ook = S .ook; trains = refl }
   after-same (opening p) false q h = record { lane = ap (λ (l : Lane). opened l p .lane) (S .lane) ∙ open-refused (y .lane) p q; ook = S .ook; trains = S .trains }
@@ -89,7 +91,7 @@ module _ (k : Place theLane) (S : Same k) where
         trains = S .trains;
       }
 
-yard-after : (k : Place theLane) (c : Call) (a : Bool) → after theLane a k c .yard ≡ advanced a (k .yard) c
+pub yard-after : (k : Place theLane) (c : Call) (a : Bool) → after theLane a k c .yard ≡ advanced a (k .yard) c
 unfolding after
 yard-after k (opening p) a = refl
 yard-after k (begin b ook fsk) a = refl
@@ -97,20 +99,20 @@ yard-after k (step s o fsk) a = refl
 yard-after k (close o fsk) a = refl
 
 -- a burst that ends
-ended : (k : Place theLane) (e : Bool) → Same k → Fine (k .yard) e → Each (cond e (k ∷ []) [])
-unfolding Fine Each
+ended : (k : Place theLane) (e : Bool) → Same k → Fine (k .yard) e → EachWhere ListedAt (cond e (k ∷ []) [])
+unfolding Fine EachWhere
 ended k false S F = tt
 ended k true S F = ((λ o. record { gives = rw (S .trains) (F .1 refl o); numbers = S .trains }), tt)
 
-each-append : (bs cs : List (Place theLane)) → Each bs → Each cs → Each (bs ++ cs)
-unfolding Each
+each-append : (bs cs : List (Place theLane)) → EachWhere ListedAt bs → EachWhere ListedAt cs → EachWhere ListedAt (bs ++ cs)
+unfolding EachWhere
 each-append [] cs h k = k
 each-append (b ∷ bs) cs h k = (h .0, each-append bs cs (h .1) k)
 
 -- from any place of a list on
 pub from : (cs : List Call) (k : Place theLane) → Good (k .yard) → Same k → handedOn (k .yard) cs ≡ true
-    → Each (bursts theLane k cs) × NoneYet (afterAll theLane k cs)
-unfolding handedOn bursts afterAll Each
+    → EachWhere ListedAt (bursts theLane k cs) × NoneYetWhere ListedAt (afterAll theLane k cs)
+unfolding handedOn bursts afterAll EachWhere
 from [] k G S H = (tt, λ h o. S .trains ∙ none-yet (k .yard) G h o)
 from (c ∷ cs) k G S H =
     let a : Bool = accepts (k .yard) c in

@@ -7,9 +7,11 @@ pub mod Edges
 pub mod RunState
 pub mod TrainState
 pub mod OokSample
+pub mod Presence
 pub mod BurstState
 pub mod BurstEnd
 pub mod Accepted
+pub mod Phases
 pub mod Measure
 pub mod Calls
 pub mod Theorem
@@ -17,3 +19,4 @@ pub mod Refuted
 pub mod Sums
 pub mod Hollow
 pub mod Examples
+pub mod AutoExamples

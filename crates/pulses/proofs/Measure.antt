@@ -30,17 +30,22 @@ use Rattle.lane.specs.Close.{idleWith, endBurstOf, closeOf}
 use Rattle.lane.specs.Serial.{stampOf, stampedWith}
 use Rattle.lane.specs.Part.{partOf, part-named}
 use Rattle.pulses.specs.Runs.{Sample, pulses}
-use Rattle.pulses.specs.Yardstick.{lent, Call, opening, begin, step, close, Yardstick, refusal, accepts, levelled, replayed, burstAt, stepSamples, fetched, answeredBy, advanced, ends}
+use Rattle.pulses.specs.Yardstick.{lent, Call, opening, begin, step, close, Yardstick, refusal, accepts, levelled, replayed, phaseAfter, phasesReplayed, burstAt, stepSamples, stepPhases, fetched, answeredBy, advanced, ends}
 use Rattle.pulses.specs.Demand.{Gives}
 use Rattle.pulses.proofs.Flags.{clash}
 use Rattle.pulses.proofs.Machine.{emitted}
 use Rattle.pulses.proofs.TrainState.{Claim, no-pulse, claim-numbered}
 use Rattle.pulses.proofs.OokSample.{given, stays, over, idle-not, idle-at-not, train-ends}
-use Rattle.pulses.proofs.BurstState.{Under, Next-is, stepped-follows, full-follows}
+use Rattle.pulses.proofs.BurstState.{Under, Next-is, Listed, apart, listed-on, listed-before, sample-frames, stepped-follows, full-follows}
 use Rattle.pulses.proofs.BurstEnd.{given-none, claim-gives}
+use Rattle.pulses.proofs.Phases.{lead-step, burst-step}
 use Rattle.pulses.proofs.Accepted.{begin-tells, step-tells, close-tells}
 
--- in burst, in OOK mode
+-- the burst's pulses are listed
+abbrev pub ListedAt : Yardstick → Type 0
+ListedAt y = Listed (y .lane .settings) (y .phases) (y .lane .burst .frames)
+
+-- in burst, where they are
 pub record Running (y : Yardstick) : Type 0 where
   pub under : Under (y .lane .settings) (y .lane .burst) (y .ook) (y .recorded)
   pub no-trains : y .trains ≡ []
@@ -54,22 +59,22 @@ pub record Leading (y : Yardstick) : Type 0 where
 pub data Good (y : Yardstick) : Type 0 where
   at-rest : y .lane .phase ≡ 0 → Good y
   in-lead : y .lane .phase ≡ 1 → InDomain (y .lane .settings) → Leading y → Good y
-  in-burst : y .lane .phase ≡ 2 → InDomain (y .lane .settings) → (y .lane .settings .mode ≡ 0 → Running y) → Good y
+  in-burst : y .lane .phase ≡ 2 → InDomain (y .lane .settings) → (ListedAt y → Running y) → Good y
 
 -- after a call that ends a burst where e is true
 unfoldable pub Fine : Yardstick → Bool → Type 0
-Fine y e = Good y × (e ≡ true → y .lane .settings .mode ≡ 0 → Gives (y .lane .settings) (pulses (y .lane .settings .«min_steps») (y .recorded)) (y .trains))
+Fine y e = Good y × (e ≡ true → ListedAt y → Gives (y .lane .settings) (pulses (y .lane .settings .«min_steps») (y .recorded)) (y .trains))
 
 abbrev endsWith : Answer × List ℕ × List ℕ → Bool
 endsWith r = not (eqb (replyNumberOf (r .0 .reply)) 0)
 
--- the step answers r, to which the serial is still to come, and adds ms to the record
-StepFine : Yardstick → Answer × List ℕ × List ℕ → List (Sample Float) → Type 0
-StepFine y r ms = Fine (answeredBy y (stampedWith (y .lane) r) (y .recorded ++ ms)) (endsWith r)
+-- the step answers r, to which the serial is still to come, and adds ms to the record, after which fsk_phase is as in ns
+StepFine : Yardstick → Answer × List ℕ × List ℕ → List (Sample Float) → List ℕ → Type 0
+StepFine y r ms ns = Fine (answeredBy y (stampedWith (y .lane) r) (y .recorded ++ ms) (y .phases ++ ns)) (endsWith r)
 
 -- a close answers r and adds nothing
 CloseFine : Yardstick → Answer × List ℕ × List ℕ → Type 0
-CloseFine y r = Fine (answeredBy y (stampedWith (y .lane) r) (y .recorded)) true
+CloseFine y r = Fine (answeredBy y (stampedWith (y .lane) r) (y .recorded) (y .phases)) true
 
 module _ (y : Yardstick) (D : InDomain (y .lane .settings)) where
   abbrev p : Settings
@@ -95,7 +100,7 @@ module _ (y : Yardstick) (D : InDomain (y .lane .settings)) where
   unfolding CloseFine Fine idleWith stampOf clearedOf emitted
   close-lead L fsk = (at-rest refl, λ e o. rw (L .unrecorded) (end-gives (idleWith (y .lane) (clearedOf (y .lane .burst)), y .ook, fsk) [] (L .no-trains) (no-pulse refl refl)))
 
-  close-burst : (fsk : List ℕ) → (p .mode ≡ 0 → Running y)
+  close-burst : (fsk : List ℕ) → (ListedAt y → Running y)
       → CloseFine y (idleWith (y .lane) (endBurstOf (y .lane .burst) (y .ook) .0), endBurstOf (y .lane .burst) (y .ook) .1, fsk)
   unfolding CloseFine Fine idleWith endBurstOf stampOf clearedOf
   close-burst fsk R = (
@@ -107,13 +112,14 @@ module _ (y : Yardstick) (D : InDomain (y .lane .settings)) where
   -- ---- steps
   module _ (s : StepArgs) where
     -- a sample of a burst, or the replay of its lead-in, is answered
-    answered : (ld : Lead) (ring : List Float) (r : Sampled × List ℕ × List ℕ) (ms : List (Sample Float)) → (p .mode ≡ 0 → Next-is p r (y .recorded ++ ms)) → (p .mode ≡ 0 → y .trains ≡ [])
-        → StepFine y (settled (y .lane) s ld ring r) ms
+    answered : (ld : Lead) (ring : List Float) (r : Sampled × List ℕ × List ℕ) (ms : List (Sample Float)) (ns : List ℕ)
+        → (Listed p (y .phases ++ ns) (r .0 .burst .frames) → Next-is p r (y .recorded ++ ms)) → (Listed p (y .phases ++ ns) (r .0 .burst .frames) → y .trains ≡ [])
+        → StepFine y (settled (y .lane) s ld ring r) ms ns
     unfolding StepFine Fine settleOf stampOf replyOf phaseOf
-    answered ld ring r ms H T = go (r .0 .next) refl
+    answered ld ring r ms ns H T = go (r .0 .next) refl
       where
         y′ : Yardstick
-        y′ = answeredBy y (stampedWith (y .lane) (settled (y .lane) s ld ring r)) (y .recorded ++ ms)
+        y′ = answeredBy y (stampedWith (y .lane) (settled (y .lane) s ld ring r)) (y .recorded ++ ms) (y .phases ++ ns)
 
         on-stay : r .0 .next ≡ next.Stay → Next-is p r (y .recorded ++ ms) → y .trains ≡ [] → Running y′
         on-stay n (stays n′ F) t = record { under = record { run = F .run; train = F .train; undecided = F .undecided }; no-trains = rw t (given-none _ _ (F .undecided)) }
@@ -124,7 +130,7 @@ module _ (y : Yardstick) (D : InDomain (y .lane .settings)) where
         on-end n (over n′ C′) t = end-gives (settled (y .lane) s ld ring r) (y .recorded ++ ms) t C′
 
         go : (n : Next) → r .0 .next ≡ n
-            → Good y′ × (not (eqb (replyNumberOf (replyOf n)) 0) ≡ true → p .mode ≡ 0 → Gives p (pulses (p .«min_steps») (y .recorded ++ ms)) (y′ .trains))
+            → Good y′ × (not (eqb (replyNumberOf (replyOf n)) 0) ≡ true → Listed p (y .phases ++ ns) (r .0 .burst .frames) → Gives p (pulses (p .«min_steps») (y .recorded ++ ms)) (y′ .trains))
         go next.Stay n = (in-burst (ap phaseOf n) D (λ o. on-stay n (H o) (T o)), λ e. clash (sym e))
         go next.Idle n = (at-rest (ap phaseOf n), λ e o. on-end (λ q. idle-not (sym n ∙ q)) (H o) (T o))
         go (next.IdleAt v) n = (at-rest (ap phaseOf n), λ e o. on-end (λ q. idle-at-not v (sym n ∙ q)) (H o) (T o))
@@ -133,14 +139,22 @@ module _ (y : Yardstick) (D : InDomain (y .lane .settings)) where
     abbrev ring : List Float
     ring = ringOf (y .lane .ring) (s .index) (s .envelope)
 
-    burst-fine : (fsk : List ℕ) → (p .mode ≡ 0 → Running y)
-        → StepFine y (burstStep (y .lane) s ring (y .ook) fsk) (levelled p (atOf (y .lane) s) ring (clearedOf (y .lane .burst)) ∷ [])
+    -- and its sample
+    abbrev own : List ℕ → Sampled × List ℕ × List ℕ
+    own fsk = sampleOf p (atOf (y .lane) s) ring (clearedOf (y .lane .burst)) (y .ook) fsk
+
+    burst-fine : (fsk : List ℕ) → (ListedAt y → Running y)
+        → StepFine y (burstStep (y .lane) s ring (y .ook) fsk) (levelled p (atOf (y .lane) s) ring (clearedOf (y .lane .burst)) ∷ []) (phaseAfter (own fsk) ∷ [])
     unfolding burstStep clearedOf
     burst-fine fsk R =
-        answered (y .lane .lead) ring (sampleOf p (atOf (y .lane) s) ring (clearedOf (y .lane .burst)) (y .ook) fsk) (levelled p (atOf (y .lane) s) ring (clearedOf (y .lane .burst)) ∷ [])
-        (λ o. stepped-follows p D o (atOf (y .lane) s) ring (clearedOf (y .lane .burst)) (y .ook) fsk (y .recorded)
-        (record { run = R o .under .run; train = R o .under .train; undecided = refl }))
-        (λ o. R o .no-trains)
+        answered (y .lane .lead) ring (own fsk) (levelled p (atOf (y .lane) s) ring (clearedOf (y .lane .burst)) ∷ []) (phaseAfter (own fsk) ∷ [])
+        (λ o. stepped-follows p D (atOf (y .lane) s) ring (clearedOf (y .lane .burst)) (y .ook) fsk (y .recorded)
+        (record { run = R (before o) .under .run; train = R (before o) .under .train; undecided = refl })
+        (apart p (own fsk .0 .burst) [] (own fsk .0 .burst .frames) (λ q z. z) (listed-on p (y .phases) (phaseAfter (own fsk) ∷ []) _ o)))
+        (λ o. R (before o) .no-trains)
+      where
+        before : Listed p (y .phases ++ (phaseAfter (own fsk) ∷ [])) (own fsk .0 .burst .frames) → ListedAt y
+        before o = listed-before p (y .phases) (phaseAfter (own fsk) ∷ []) _ _ (sample-frames p D (atOf (y .lane) s) ring (clearedOf (y .lane .burst)) (y .ook) fsk) o
 
     -- a step in lead
     abbrev ld : Lead
@@ -149,7 +163,7 @@ module _ (y : Yardstick) (D : InDomain (y .lane .settings)) where
     abbrev len : ℕ
     len = leadLenOf (p .«min_steps»)
 
-    wait-fine : Leading y → (fsk : List ℕ) → StepFine y (fillOf (y .lane) s ld ring, y .ook, fsk) []
+    wait-fine : Leading y → (fsk : List ℕ) → StepFine y (fillOf (y .lane) s ld ring, y .ook, fsk) [] []
     unfolding StepFine Fine fillOf stampOf clearedOf
     wait-fine L fsk = (
       in-lead refl D
@@ -165,44 +179,30 @@ module _ (y : Yardstick) (D : InDomain (y .lane .settings)) where
     abbrev replay : List ℕ → List (Sample Float)
     replay fsk = replayed p (s .noise) ring ld len 0 (staying (burstAt ld len (clearedOf (y .lane .burst))) (y .ook) fsk)
 
-    replay-fine : Leading y → (fsk : List ℕ) → StepFine y (replayStep (y .lane) s ld ring (y .ook) fsk) (replay fsk)
+    abbrev phases : List ℕ → List ℕ
+    phases fsk = phasesReplayed p (s .noise) ring ld len 0 (staying (burstAt ld len (clearedOf (y .lane .burst))) (y .ook) fsk)
+
+    replay-fine : Leading y → (fsk : List ℕ) → StepFine y (replayStep (y .lane) s ld ring (y .ook) fsk) (replay fsk) (phases fsk)
     unfolding replayStep clearedOf
     replay-fine L fsk =
-        answered ld ring (leadFullOf p (s .noise) ring ld (clearedOf (y .lane .burst)) (y .ook) fsk) (replay fsk)
-        (λ o. rw (L .unrecorded) (full-follows p D o (s .noise) ring ld (clearedOf (y .lane .burst)) (y .ook) fsk refl (L .room)))
+        answered ld ring (leadFullOf p (s .noise) ring ld (clearedOf (y .lane .burst)) (y .ook) fsk) (replay fsk) (phases fsk)
+        (λ o. rw (L .unrecorded) (full-follows p D (s .noise) ring ld (clearedOf (y .lane .burst)) (y .ook) fsk refl (L .room) (listed-on p (y .phases) (phases fsk) _ o)))
         (λ o. L .no-trains)
 
-    lead-fine : Leading y → (fsk : List ℕ) → StepFine y (leadStep (y .lane) s ring (y .ook) fsk) (cond (ltb (ld .«lead_n») len) [] (replay fsk))
+    lead-fine : Leading y → (fsk : List ℕ) → StepFine y (leadStep (y .lane) s ring (y .ook) fsk) (cond (ltb (ld .«lead_n») len) [] (replay fsk)) (cond (ltb (ld .«lead_n») len) [] (phases fsk))
     unfolding leadStep
     lead-fine L fsk = go (ltb (ld .«lead_n») len)
       where
-        go : (b : Bool) → StepFine y (cond b (fillOf (y .lane) s ld ring, y .ook, fsk) (replayStep (y .lane) s ld ring (y .ook) fsk)) (cond b [] (replay fsk))
+        go : (b : Bool) → StepFine y (cond b (fillOf (y .lane) s ld ring, y .ook, fsk) (replayStep (y .lane) s ld ring (y .ook) fsk)) (cond b [] (replay fsk)) (cond b [] (phases fsk))
         go true = wait-fine L fsk
         go false = replay-fine L fsk
 
 -- an accepted step, in either phase
 step-fine : (y : Yardstick) (s : StepArgs) (fsk : List ℕ) → Good y → (y .lane .phase ≡ 0 → ⊥) → StepFine y (advanceOf (y .lane) s (y .ook) fsk) (stepSamples (y .lane) s (y .ook) fsk)
-unfolding advanceOf stepSamples
-step-fine y s fsk G h = go G
-  where
-    r : List Float
-    r = ringOf (y .lane .ring) (s .index) (s .envelope)
-
-    d : Lead
-    d = leadAddOf (y .lane .lead) (s .envelope) (s .x)
-
-    m : ℕ
-    m = leadLenOf (y .lane .settings .«min_steps»)
-
-    In : ℕ → Type 0
-    In n = StepFine y (cond (eqb n 1) (leadStep (y .lane) s r (y .ook) fsk) (burstStep (y .lane) s r (y .ook) fsk))
-        (cond (eqb n 1) (cond (ltb (d .«lead_n») m) [] (replayed (y .lane .settings) (s .noise) r d m 0 (staying (burstAt d m (clearedOf (y .lane .burst))) (y .ook) fsk)))
-        (levelled (y .lane .settings) (atOf (y .lane) s) r (clearedOf (y .lane .burst)) ∷ []))
-
-    go : Good y → In (y .lane .phase)
-    go (at-rest q) = absurd (h q)
-    go (in-lead q D L) = subst In (sym q) (lead-fine y D s L fsk)
-    go (in-burst q D R) = subst In (sym q) (burst-fine y D s fsk R)
+    (stepPhases (y .lane) s (y .ook) fsk)
+step-fine y s fsk (at-rest q) h = absurd (h q)
+step-fine y s fsk (in-lead q D L) h = lead-step (y .lane) s (y .ook) fsk (StepFine y) q (lead-fine y D s L fsk)
+step-fine y s fsk (in-burst q D R) h = burst-step (y .lane) s (y .ook) fsk (StepFine y) q (burst-fine y D s fsk R)
 
 -- an accepted close, in either phase
 close-fine : (y : Yardstick) (fsk : List ℕ) → Good y → (y .lane .phase ≡ 0 → ⊥) → CloseFine y (closeOf (y .lane) (y .ook) fsk)
@@ -233,7 +233,7 @@ pub good : (y : Yardstick) (e : Bool) → Fine y e → Good y
 unfolding Fine
 good y e F = F .0
 
-pub none-yet : (y : Yardstick) → Good y → (y .lane .phase ≡ 0 → ⊥) → y .lane .settings .mode ≡ 0 → y .trains ≡ []
+pub none-yet : (y : Yardstick) → Good y → (y .lane .phase ≡ 0 → ⊥) → ListedAt y → y .trains ≡ []
 none-yet y (at-rest q) h o = absurd (h q)
 none-yet y (in-lead q D L) h o = L .no-trains
 none-yet y (in-burst q D R) h o = R o .no-trains

@@ -1,4 +1,4 @@
--- One sample in OOK mode, stage by stage: where the burst so far follows the run machine, it does so after the sample, or the
+-- One sample outside FSK mode, stage by stage: where the burst so far follows the run machine, it does so after the sample, or the
 -- burst ends with the train that demand 3 asks for.
 use mathlib.Core.Path.{_≡_, refl, sym, ap, _∙_, subst}
 use mathlib.Core.Bool.{Bool, true, false, cond}
@@ -112,7 +112,7 @@ module _ (p : Settings) (xs : List (Sample Float)) (x : Sample Float) where
   claimed out ook ps qp C = rw (emitted-snoc (p .«min_steps») (lowed 0) xs x, qp) C
 
 -- ---- a run begins to count, or none does
-module _ (p : Settings) (D : InDomain p) (mode : p .mode ≡ 0) (v : Env) (t : Train) (out : Out) (ook : List ℕ) (xs : List (Sample Float)) (F : Follows p v t out ook xs)
+module _ (p : Settings) (D : InDomain p) (mode : eqb (p .mode) 1 ≡ false) (v : Env) (t : Train) (out : Out) (ook : List ℕ) (xs : List (Sample Float)) (F : Follows p v t out ook xs)
     (pac : C32) (high : Float) (w : Env) where
   abbrev next : Bool → Sample Float
   next on = sample on (w .times .«t_run»)
@@ -250,10 +250,6 @@ module _ (p : Settings) (D : InDomain p) (v : Env) (t : Train) (out : Out) (ook 
 abbrev pub doneOf : Acted → Done
 doneOf q = record { next = q .next; train = q .train; out = q .out }
 
--- what follows the confirmation in OOK mode, where presence is not asked
-abbrev pub endOf : Settings → Seen → Float → Absence → Acted × List ℕ → Done × List ℕ
-endOf p s e b q = cond (isStayOf (q .0 .next)) (tailOf p (s .on) e (q .0 .env .run) b (s .high) (q .0 .train) (q .0 .out) (q .1)) (doneOf (q .0), q .1)
-
 -- ---- the level, the run and its edge
 either : (v w : Env) (b c : Bool) → w .run ≡ v .run → w .times .«t_prev» ≡ v .times .«t_prev» → eqb (w .«ref_pending») 1 ≡ false → (m : ℕ) → eqb (v .«ref_pending») 1 ≡ b
     → (refineAtOf m ≤ v .run .«run_len» → c ≡ true) → Refined m v (cond b (cond c w v) v)
@@ -267,8 +263,8 @@ refine-due m a ring high on v =
     either v (withRefined (refineOf ring m high (a .noise) on (a .«lead_at») (a .idx) v) v) (eqb (v .«ref_pending») 1)
     (leb (refineAtOf m) (v .run .«run_len»)) refl refl refl m refl (λ l. le-leb (refineAtOf m) (v .run .«run_len») l)
 
--- ---- the sample
-module _ (p : Settings) (D : InDomain p) (mode : p .mode ≡ 0) (a : At) (ring : List Float) (high e : Float) (v : Env) (pac : C32) (t : Train) (out : Out) (ook : List ℕ)
+-- ---- the sample, up to the confirmation
+module _ (p : Settings) (D : InDomain p) (mode : eqb (p .mode) 1 ≡ false) (a : At) (ring : List Float) (high e : Float) (v : Env) (pac : C32) (t : Train) (out : Out) (ook : List ℕ)
     (xs : List (Sample Float))
     (F : Follows p v t out ook xs) where
   abbrev seen : Seen
@@ -282,29 +278,15 @@ module _ (p : Settings) (D : InDomain p) (mode : p .mode ≡ 0) (a : At) (ring :
   unfolding seeOf
   seen-level = ap (λ (r : Run). r .level) (refine-due (p .«min_steps») a ring high (seen .on) _ .same-run) ∙ level-after v (seen .on) _ (a .idx)
 
-  acted : After p (actOf p seen t out ook .0 .env) (doneOf (actOf p seen t out ook .0)) (actOf p seen t out ook .1) (xs ++ (sample (seen .on) (seen .env .times .«t_run») ∷ []))
+  pub acted : After p (actOf p seen t out ook .0 .env) (doneOf (actOf p seen t out ook .0)) (actOf p seen t out ook .1) (xs ++ (sample (seen .on) (seen .env .times .«t_run») ∷ []))
   unfolding actOf
   acted = act-follows p D mode v t out ook xs F (seen .pac) (seen .high) (seen .env) (seen .on) seen-outcome
 
   -- confirming a run leaves its level
-  acted-level : actOf p seen t out ook .0 .env .run .level ≡ bit (seen .on)
+  pub acted-level : actOf p seen t out ook .0 .env .run .level ≡ bit (seen .on)
   unfolding actOf confirmIf
   acted-level = go (dueOf (p .«min_steps») (seen .env .run))
     where
       go : (b : Bool) → confirmIf b (seen .env) .run .level ≡ bit (seen .on)
       go true = seen-level
       go false = seen-level
-
-  pub sample-follows : (b : Absence) → After p (actOf p seen t out ook .0 .env) (endOf p seen (a .e) b (actOf p seen t out ook) .0)
-      (endOf p seen (a .e) b (actOf p seen t out ook) .1) (xs ++ (sample (seen .on) (seen .env .times .«t_run») ∷ []))
-  sample-follows b = go acted
-    where
-      ys : List (Sample Float)
-      ys = xs ++ (sample (seen .on) (seen .env .times .«t_run») ∷ [])
-
-      q : Acted × List ℕ
-      q = actOf p seen t out ook
-
-      go : After p (q .0 .env) (doneOf (q .0)) (q .1) ys → After p (q .0 .env) (endOf p seen (a .e) b q .0) (endOf p seen (a .e) b q .1) ys
-      go (stays n G) = rw n (tail-follows p D (q .0 .env) (q .0 .train) (q .0 .out) (q .1) ys G (seen .on) (a .e) b (seen .high) acted-level)
-      go (over n C) = rw (not-stay (q .0 .next) n) (over n C)

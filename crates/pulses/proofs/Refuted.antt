@@ -14,6 +14,7 @@ use Rattle.ook.specs.Counts.{bit}
 use Rattle.pulses.specs.Runs.{Pulse, edges}
 use Rattle.pulses.specs.Yardstick.{Call, Given}
 use Rattle.pulses.specs.Demand.{Program, Place, slotsBetween, Gives, settingsAt, pulsesAt, Holds, Each, NoneYet, Demand3}
+use Rattle.pulses.specs.Auto.{EachWhere, Demand3Where, InMode}
 use Rattle.pulses.specs.Ran.{Ran, ran}
 use Rattle.pulses.specs.Hollow.{Fails}
 use Rattle.pulses.proofs.Flags.{clash}
@@ -44,21 +45,25 @@ equal [] (y ∷ ys) = false
 equal (x ∷ xs) [] = false
 equal (x ∷ xs) (y ∷ ys) = eqb x y && equal xs ys
 
--- of an OOK burst that ended: its trains tell what its record asks; their slots are those of demand 2's definition. Of one under way:
+-- of a burst that ended: its trains tell what its record asks; their slots are those of demand 2's definition. Of one under way:
 -- there is no train yet.
 pub data Test : Type 0 where
   by-pulses : Test
   by-slots : Test
   under-way : Test
 
-unfoldable pub every : {W : Program} → (Place W → Bool) → List (Place W) → Bool
-every f [] = true
-every f (k ∷ ks) = cond (eqb (settingsAt k .mode) 0) (f k) true && every f ks
+-- of every burst in mode m
+unfoldable pub every : {W : Program} → ℕ → (Place W → Bool) → List (Place W) → Bool
+every m f [] = true
+every m f (k ∷ ks) = cond (eqb (settingsAt k .mode) m) (f k) true && every m f ks
+
+unfoldable pub tellsAsked : {W : Program} → Place W → Bool
+tellsAsked k = equal (told (k .trains)) (asked (settingsAt k) (pulsesAt k))
 
 unfoldable pub passes : {W : Program} → Test → Ran W → Bool
-unfolding told numbers asked parts equal every
-passes by-pulses r = every (λ k. equal (told (k .trains)) (asked (settingsAt k) (pulsesAt k))) (r .ended)
-passes by-slots r = every (λ k. equal (parts (k .trains)) (parts (k .yard .trains))) (r .ended)
+unfolding told numbers asked parts equal every tellsAsked
+passes by-pulses r = every 0 (λ k. tellsAsked k) (r .ended)
+passes by-slots r = every 0 (λ k. equal (parts (k .trains)) (parts (k .yard .trains))) (r .ended)
 passes under-way r = cond (eqb (r .last .yard .lane .phase) 0) true (cond (eqb (settingsAt (r .last) .mode) 0) (equal (told (r .last .trains)) []) true)
 
 -- ---- each passes where demand 3 holds
@@ -76,14 +81,24 @@ tells p [] ts q = ap told q
 tells p (q ∷ qs) ts (g, e, T) = ap told e ∙ rw (ap numbers (T .slots), T .kind, T .pairs, T .cut, append-nil)
 
 module _ {W : Program} where
-  each-passes : (f : Place W → Bool) → ((k : Place W) → Holds k → f k ≡ true) → (ks : List (Place W)) → Each ks → every f ks ≡ true
-  unfolding Each every
-  each-passes f h [] E = refl
-  each-passes f h (k ∷ ks) E = rw (each-passes f h ks (E .1)) (go (eqb (settingsAt k .mode) 0) refl)
+  each-passes : (m : ℕ) (f : Place W → Bool) → ((k : Place W) → Holds k → f k ≡ true) → (ks : List (Place W)) → EachWhere (InMode m) ks → every m f ks ≡ true
+  unfolding EachWhere every
+  each-passes m f h [] E = refl
+  each-passes m f h (k ∷ ks) E = rw (each-passes m f h ks (E .1)) (go (eqb (settingsAt k .mode) m) refl)
     where
-      go : (o : Bool) → eqb (settingsAt k .mode) 0 ≡ o → (cond o (f k) true && true) ≡ true
-      go true q = rw (h k (E .0 (eqb-true (settingsAt k .mode) 0 q)))
+      go : (o : Bool) → eqb (settingsAt k .mode) m ≡ o → (cond o (f k) true && true) ≡ true
+      go true q = rw (h k (E .0 (eqb-true (settingsAt k .mode) m q)))
       go false q = refl
+
+  -- demand 3's bursts are those in mode 0
+  in-ook : (ks : List (Place W)) → Each ks → EachWhere (InMode 0) ks
+  unfolding Each EachWhere
+  in-ook [] E = tt
+  in-ook (k ∷ ks) E = (E .0, in-ook ks (E .1))
+
+  tells-asked : (k : Place W) → Holds k → tellsAsked k ≡ true
+  unfolding tellsAsked
+  tells-asked k H = equal-same (told (k .trains)) (asked (settingsAt k) (pulsesAt k)) (tells (settingsAt k) (pulsesAt k) (k .trains) (H .gives))
 
   waits : (k : Place W) → NoneYet k → cond (eqb (k .yard .lane .phase) 0) true (cond (eqb (settingsAt k .mode) 0) (equal (told (k .trains)) []) true) ≡ true
   unfolding told equal
@@ -96,11 +111,16 @@ module _ {W : Program} where
 
   all-pass : (t : Test) (r : Ran W) → Each (r .ended) → NoneYet (r .last) → passes t r ≡ true
   unfolding passes
-  all-pass by-pulses r E N = each-passes _ (λ k H. equal-same (told (k .trains)) (asked (settingsAt k) (pulsesAt k)) (tells (settingsAt k) (pulsesAt k) (k .trains) (H .gives))) (r .ended) E
-  all-pass by-slots r E N = each-passes _ (λ k H. equal-same (parts (k .trains)) (parts (k .yard .trains)) (ap parts (H .numbers))) (r .ended) E
+  all-pass by-pulses r E N = each-passes 0 _ tells-asked (r .ended) (in-ook (r .ended) E)
+  all-pass by-slots r E N = each-passes 0 _ (λ k H. equal-same (parts (k .trains)) (parts (k .yard .trains)) (ap parts (H .numbers))) (r .ended) (in-ook (r .ended) E)
   all-pass under-way r E N = waits (r .last) N
 
 -- a list that is handed on, in which the program does not pass
 pub refuted : (t : Test) (W : Program) (cs : List Call) → ran W cs .handed ≡ true → passes t (ran W cs) ≡ false → Fails W
 unfolding Demand3 ran
 refuted t W cs h q D = clash (sym (all-pass t (ran W cs) (D cs h .0) (D cs h .1)) ∙ q)
+
+-- and a list in which it does not tell what the records of its bursts in mode m ask
+pub refuted-in : (m : ℕ) (W : Program) (cs : List Call) → ran W cs .handed ≡ true → every m (λ k. tellsAsked k) (ran W cs .ended) ≡ false → Demand3Where (InMode m) W → ⊥
+unfolding Demand3Where ran
+refuted-in m W cs h q D = clash (sym (each-passes m _ tells-asked (ran W cs .ended) (D cs h .0)) ∙ q)

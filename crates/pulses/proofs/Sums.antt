@@ -9,11 +9,12 @@ use Rattle.ook.specs.declared.Settings.{Settings}
 use Rattle.slots.specs.Slots.{slotsOf}
 use Rattle.slots.specs.Sum.{sum, adds-up, all-edges}
 use Rattle.pulses.specs.Runs.{Pulse}
-use Rattle.pulses.specs.Yardstick.{Given}
+use Rattle.pulses.specs.Yardstick.{Given, Yardstick}
 use Rattle.pulses.specs.Demand.{Program, theLane, Place, start, bursts, slotsBetween, TrainOf, Gives, settingsAt, pulsesAt, Each, Demand3}
 use Rattle.pulses.specs.Sums.{AddsUp, EachAdds, SumsUp}
+use Rattle.pulses.specs.Auto.{EachWhere, Demand3Where, EachAddsWhere, SumsUpWhere, StaysZero, FindsNone}
 use Rattle.pulses.proofs.Refuted.{numbers}
-use Rattle.pulses.proofs.Theorem.{demand-3}
+use Rattle.pulses.proofs.Theorem.{demand-3, auto-pulses, auto-pulses-wide}
 
 train-adds : (p : Settings) (ps : List (Pulse Float)) (g : Given) → TrainOf p ps g → p .carry ≡ 1 → AddsUp p ps g
 unfolding AddsUp slotsBetween numbers
@@ -46,3 +47,20 @@ all-sum-up W D cs h = each-adds (bursts W (start W) cs) (D cs h .0)
 
 pub lane-sums-up : SumsUp theLane
 lane-sums-up = all-sum-up theLane demand-3
+
+-- and of the bursts of which C is true, where demand 3 holds of them
+module _ (C : Yardstick → Type 0) where
+  each-adds-where : {W : Program} (ks : List (Place W)) → EachWhere C ks → EachAddsWhere C ks
+  unfolding EachWhere EachAddsWhere
+  each-adds-where [] E = tt
+  each-adds-where (k ∷ ks) E = ((λ o c g q. gives-adds (settingsAt k) (pulsesAt k) (k .trains) (E .0 o .gives) c g q), each-adds-where ks (E .1))
+
+  pub sum-up-where : (W : Program) → Demand3Where C W → SumsUpWhere C W
+  unfolding Demand3Where SumsUpWhere
+  sum-up-where W D cs h = each-adds-where (bursts W (start W) cs) (D cs h .0)
+
+pub auto-sums-up : SumsUpWhere StaysZero theLane
+auto-sums-up = sum-up-where StaysZero theLane auto-pulses
+
+pub auto-sums-up-wide : SumsUpWhere FindsNone theLane
+auto-sums-up-wide = sum-up-where FindsNone theLane auto-pulses-wide

@@ -12,7 +12,7 @@ use Rattle.pulses.specs.Lists.{settings, opens, slots, first, at, eight,
 use Rattle.pulses.specs.Ran.{Ran, ran}
 
 -- what a burst shows: its mode, its record's length, of each pulse of the record how many high runs, and of each train pairs, cut mark and part
-abbrev Shown : Type 0
+abbrev pub Shown : Type 0
 Shown = ℕ × ℕ × List ℕ × List (ℕ × ℕ × List ℕ)
 
 unfoldable pub shown : Place theLane → Shown

@@ -49,7 +49,7 @@ abbrev trainChanged : (Returned Lane → Returned Lane) → Program
 trainChanged f = changed (λ r. cond (decides r) (f r) r)
 
 -- the lane has settings other than those that it is opened with; where it so refuses a step or a close, it returns the number alone
-abbrev opensWith : (Settings → Settings) → Program
+abbrev pub opensWith : (Settings → Settings) → Program
 opensWith f = record {
   Lanes = Lane;
   new = theLane .new;
@@ -63,7 +63,7 @@ opensWith f = record {
     alone : Returned Lane → Returned Lane
     alone r = cond (eqb (replyNumberOf (r .reply)) 3) (withOut noOut r) r
 
-abbrev withSteps : ℕ → ℕ → ℕ → Settings → Settings
+abbrev pub withSteps : ℕ → ℕ → ℕ → Settings → Settings
 withSteps min gap pre p =
     record {
       mode = p .mode;

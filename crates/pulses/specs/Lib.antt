@@ -4,7 +4,9 @@ pub mod Runs
 pub mod Yardstick
 pub mod Demand
 pub mod Sums
+pub mod Auto
 pub mod Lists
 pub mod Ran
 pub mod Hollow
 pub mod Examples
+pub mod AutoExamples

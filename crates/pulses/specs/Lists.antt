@@ -1,8 +1,8 @@
 -- Small lists of calls, for the hollow programs and the examples. Indices, noise and samples are those of document 01's "Worked bursts".
 use mathlib.Core.List.{List, [], _∷_, _++_}
 use Prim.Native.Nat.{ℕ, zero, suc, _+_}
-use lib.ListN.{replicate}
-use lib.Ieee.{Float, binary32, ofBits}
+use lib.ListN.{length, replicate}
+use lib.Ieee.{Float, binary32, neg, ofBits}
 use Rattle.arith.specs.declared.C32.{C32}
 use Rattle.arith.specs.Leaves.{zero32, one32}
 use Rattle.ook.specs.declared.Settings.{Settings}
@@ -44,9 +44,12 @@ past = record { e1 = zero32; e2 = zero32; e3 = zero32; e4 = zero32; e5 = zero32;
 abbrev pub slots : ℕ → List ℕ
 slots n = replicate n 0
 
--- a begin at index i and envelope 0, and the arguments of a step at envelope 0 or 8
+-- a begin at index i and envelope 0, with this factor or 1, and the arguments of a step at envelope 0 or 8
+abbrev pub firstBy : Float → ℕ → List ℕ → Call
+firstBy factor i ook = begin (record { index = i; factor = factor; envelope = zero32; x = one; before = one; history = past }) ook (slots 8)
+
 abbrev pub first : ℕ → List ℕ → Call
-first i ook = begin (record { index = i; factor = one32; envelope = zero32; x = one; before = one; history = past }) ook (slots 8)
+first i ook = firstBy one32 i ook
 
 abbrev pub at : Float → ℕ → StepArgs
 at e i = record { index = i; noise = zero32; envelope = e; x = one }
@@ -97,3 +100,32 @@ halves carry = opening (settingsBy carry 0 4 1000) ∷ first 10 (slots 8) ∷ hi
 -- a burst that does not end: one pulse in, it waits for the next
 abbrev pub unended : ℕ → List ℕ → List Call
 unended i ook = first i ook ∷ his (i + 1) 4 ++ los (i + 5) 3
+
+-- ---- lists in Auto mode (document 02, R-9)
+abbrev pub opensAuto : List Call
+opensAuto = opening (settings 2 4 1000) ∷ []
+
+-- a quarter turn n times, so that the sample is n quarters round
+unfoldable pub turned : ℕ → C32
+turned zero = one
+turned (suc n) = let x : C32 = turned n in record { re = neg (x .im); im = x .re }
+
+-- steps from index i on at this envelope and noise 1, the samples so many quarters round
+unfoldable pub tones : ℕ → Float → List ℕ → List Call
+tones i e [] = []
+tones i e (q ∷ qs) = step (record { index = i; noise = one32; envelope = e; x = turned q }) as-left (slots 8) ∷ tones (i + 1) e qs
+
+-- high and low samples of one tone
+abbrev pub plain : ℕ → ℕ → ℕ → List Call
+plain i high low = tones i eight (slots high) ++ tones (i + high) zero32 (slots low)
+
+-- runs of 3 samples, three of them and a fourth, with a quarter turn a sample in every second one
+abbrev pub three-runs : List ℕ
+three-runs = 0 ∷ 0 ∷ 0 ∷ 1 ∷ 2 ∷ 3 ∷ 3 ∷ 3 ∷ 3 ∷ []
+
+abbrev pub four-runs : List ℕ
+four-runs = three-runs ++ (0 ∷ 1 ∷ 2 ∷ [])
+
+-- a burst of high samples so turned, and 5 low ones: with four runs it has a frame, with three it has not
+abbrev pub keyed : ℕ → List ℕ → List Call
+keyed i qs = first i (slots 8) ∷ tones (i + 1) eight qs ++ tones (i + 1 + length qs) zero32 (slots 5)

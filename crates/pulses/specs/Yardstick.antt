@@ -17,6 +17,7 @@ use Rattle.stages.specs.See.{seeOf}
 use Rattle.burst.specs.declared.Burst.{Burst}
 use Rattle.burst.specs.declared.Lead.{Lead}
 use Rattle.burst.specs.declared.Sampled.{Sampled}
+use Rattle.burst.specs.Sample.{sampleOf}
 use Rattle.burst.specs.Lead.{leadAddOf, largestOf, beginBurstOf, leadAtOf, onward, staying}
 use Rattle.lane.specs.declared.Lane.{Lane}
 use Rattle.lane.specs.declared.Answer.{Answer}
@@ -62,16 +63,18 @@ unfoldable pub givenBy : Out → List ℕ → List Given
 givenBy out part = cond (eqb (out .state) 1) (record { out = out; part = part } ∷ []) []
 
 -- ---- demand 2's definition, run by itself
--- Its lane and OOK buffer, and of the last burst the record so far and the trains that the definition gives.
+-- Its lane and OOK buffer, and of the last burst the record so far, the trains that the definition gives, and its `fsk_phase` after each
+-- sample of the record.
 pub record Yardstick : Type 0 where
   pub lane : Lane
   pub ook : List ℕ
   pub recorded : List (Sample Float)
   pub trains : List Given
+  pub phases : List ℕ
 
 -- "The list starts from the idle lane that never had settings."
 unfoldable pub unused : Yardstick
-unused = record { lane = newLane; ook = []; recorded = []; trains = [] }
+unused = record { lane = newLane; ook = []; recorded = []; trains = []; phases = [] }
 
 -- A call is accepted where no refusal applies, of document 01's and 13 of document 02: the number of the first that does, or 0.
 unfoldable pub refusal : Yardstick → Call → ℕ
@@ -96,6 +99,16 @@ replayed p noise ring ld (suc k) i r =
     let more : List (Sample Float) = replayed p noise ring ld k (i + 1) (onward p (leadAtOf noise ld i) ring r) in
     cond (isStayOf (r .0 .next)) (levelled p (leadAtOf noise ld i) ring (r .0 .burst) ∷ more) []
 
+-- Document 02, R-9: `fsk_phase` after each of the same samples, that of the sample which ends the burst among them.
+abbrev pub phaseAfter : Sampled × List ℕ × List ℕ → ℕ
+phaseAfter r = r .0 .burst .frame .«fsk_phase»
+
+unfoldable pub phasesReplayed : Settings → Float → List Float → Lead → ℕ → ℕ → Sampled × List ℕ × List ℕ → List ℕ
+phasesReplayed p noise ring ld zero i r = []
+phasesReplayed p noise ring ld (suc k) i r =
+    let next : Sampled × List ℕ × List ℕ = onward p (leadAtOf noise ld i) ring r in
+    cond (isStayOf (r .0 .next)) (phaseAfter next ∷ phasesReplayed p noise ring ld k (i + 1) next) []
+
 -- the burst at its first sample, with a lead-in of len samples: the one that demand 2's `leadFullOf` replays from (`full-replays` in
 -- proofs/BurstState)
 abbrev pub burstAt : Lead → ℕ → Burst → Burst
@@ -112,6 +125,16 @@ stepSamples l s ook fsk =
     let own : List (Sample Float) = levelled (l .settings) (atOf l s) ring (clearedOf (l .burst)) ∷ [] in
     cond (eqb (l .phase) 1) (cond (ltb (ld .«lead_n») len) [] lead) own
 
+-- and `fsk_phase` after each of them
+unfoldable pub stepPhases : Lane → StepArgs → List ℕ → List ℕ → List ℕ
+stepPhases l s ook fsk =
+    let ring : List Float = ringOf (l .ring) (s .index) (s .envelope) in
+    let ld : Lead = leadAddOf (l .lead) (s .envelope) (s .x) in
+    let len : ℕ = leadLenOf (l .settings .«min_steps») in
+    let lead : List ℕ = phasesReplayed (l .settings) (s .noise) ring ld len 0 (staying (burstAt ld len (clearedOf (l .burst))) ook fsk) in
+    let own : List ℕ = phaseAfter (sampleOf (l .settings) (atOf l s) ring (clearedOf (l .burst)) ook fsk) ∷ [] in
+    cond (eqb (l .phase) 1) (cond (ltb (ld .«lead_n») len) [] lead) own
+
 -- demand 2's accepted step and close, on the yardstick's own OOK buffer
 abbrev pub stepOf : Yardstick → StepArgs → List ℕ → Answer × List ℕ × List ℕ
 stepOf y s fsk = stampedWith (y .lane) (advanceOf (y .lane) s (y .ook) fsk)
@@ -123,19 +146,19 @@ closingOf y fsk = stampedWith (y .lane) (closeOf (y .lane) (y .ook) fsk)
 abbrev pub fetched : Answer × List ℕ × List ℕ → List Given
 fetched r = let out : Out = r .0 .lane .burst .«out_ook» in givenBy out (partOf (r .0 .lane) out (r .1) (r .2))
 
--- after the answer r, with this record
-abbrev pub answeredBy : Yardstick → Answer × List ℕ × List ℕ → List (Sample Float) → Yardstick
-answeredBy y r xs = record { lane = r .0 .lane; ook = r .1; recorded = xs; trains = y .trains ++ fetched r }
+-- after the answer r, with this record and these phases
+abbrev pub answeredBy : Yardstick → Answer × List ℕ × List ℕ → List (Sample Float) → List ℕ → Yardstick
+answeredBy y r xs phases = record { lane = r .0 .lane; ook = r .1; recorded = xs; trains = y .trains ++ fetched r; phases = phases }
 
 -- After a call, accepted (true) or refused: "an accepted opening puts a new lane in its place, and a refused call leaves it as it was".
 -- "A burst starts with an accepted begin." Each accepted call raises the serial by 1 (R-6). A close adds no sample: the pulses "are those of
 -- the record up to the last step" (R-13).
 unfoldable pub advanced : Bool → Yardstick → Call → Yardstick
 advanced false y c = y
-advanced true y (opening p) = record { lane = stamped (y .lane) (stay (idleLane 1 p)) .lane; ook = y .ook; recorded = []; trains = [] }
-advanced true y (begin b ook fsk) = record { lane = stamped (y .lane) (stay (leadLane (y .lane) b)) .lane; ook = ook; recorded = []; trains = [] }
-advanced true y (step s o fsk) = answeredBy y (stepOf y s fsk) (y .recorded ++ stepSamples (y .lane) s (y .ook) fsk)
-advanced true y (close o fsk) = answeredBy y (closingOf y fsk) (y .recorded)
+advanced true y (opening p) = record { lane = stamped (y .lane) (stay (idleLane 1 p)) .lane; ook = y .ook; recorded = []; trains = []; phases = [] }
+advanced true y (begin b ook fsk) = record { lane = stamped (y .lane) (stay (leadLane (y .lane) b)) .lane; ook = ook; recorded = []; trains = []; phases = [] }
+advanced true y (step s o fsk) = answeredBy y (stepOf y s fsk) (y .recorded ++ stepSamples (y .lane) s (y .ook) fsk) (y .phases ++ stepPhases (y .lane) s (y .ook) fsk)
+advanced true y (close o fsk) = answeredBy y (closingOf y fsk) (y .recorded) (y .phases)
 
 -- "The burst ends at the first sample whose stepping or replay answers idle or idle-at", numbers 1 and 2, and not stay, 0. An accepted close
 -- "ends a burst as if its gap had run out" (R-13). "In lead it gives no train": the record is empty there.
