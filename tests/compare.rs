@@ -8,7 +8,6 @@
 //! target/tests/differing.bin.
 
 use std::process::ExitCode;
-use std::time::{Duration, Instant};
 
 mod generator;
 mod long;
@@ -16,19 +15,20 @@ mod program;
 mod random;
 #[allow(dead_code)]
 mod receiver;
+mod reduced;
 mod signal;
 mod verdict;
 
 use generator::{Stream, by_seed};
 use program::{printed, shortened};
 use receiver::{Receiver, Reply};
+use reduced::{shrunken, words};
 use signal::{KINDS, Kind};
 use verdict::{Census, at_least};
 
 const LEFT: &str = "target/tests/differing.bin";
 
-/// The time for cutting a stream down, and the calls of what is left that are printed.
-const SHRINKING: Duration = Duration::from_secs(20);
+/// The calls of a stream cut down that are printed.
 const SHOWN: usize = 60;
 
 /// What a run of streams of every kind must have seen, at the least; one of a single kind sees fewer.
@@ -148,54 +148,8 @@ fn joined(calls: &[Call]) -> Vec<u8> {
     bytes
 }
 
-/// Without every stretch of calls that the difference does not need, long stretches first, as far as the time goes.
-fn shrunken(program: &str, mut kept: Vec<Call>) -> Vec<Call> {
-    let until = Instant::now() + SHRINKING;
-    let mut size = kept.len() / 2;
-    while size > 0 {
-        let mut at = 0;
-        while at + size <= kept.len() {
-            if Instant::now() > until {
-                return kept;
-            }
-            let mut fewer = kept.clone();
-            fewer.drain(at..at + size);
-            if differs(program, &joined(&fewer)) {
-                kept = fewer;
-            } else {
-                at += size;
-            }
-        }
-        size /= 2;
-    }
-    kept
-}
-
-/// A command in words: its byte, then numbers and the bits of floats.
-fn words(bytes: &[u8]) -> String {
-    let whole = matches!((bytes[0], bytes.len()), (1, 38) | (2, 61) | (3, 25) | (4, 39) | (5, 1));
-    if !whole {
-        return format!("{bytes:02x?}");
-    }
-    let u32_at = |i: usize| u32::from_le_bytes(bytes[i..i + 4].try_into().unwrap());
-    let floats = |from: usize, end: usize| {
-        let each = (from..end).step_by(4).map(|i| f32::from_bits(u32_at(i)));
-        each.map(|x| format!(" {x:?}")).collect::<String>()
-    };
-    if bytes[0] == 5 {
-        return "05".to_string();
-    }
-    if bytes[0] == 1 || bytes[0] == 4 {
-        let counts: String = (2..22).step_by(4).map(|i| format!(" {}", u32_at(i))).collect();
-        let carry = bytes.get(38).map_or(String::new(), |c| format!(" carry {c}"));
-        return format!("{:02x} {}{counts}{}{carry}", bytes[0], bytes[1], floats(22, 38));
-    }
-    let index = u64::from_le_bytes(bytes[1..9].try_into().unwrap());
-    format!("{:02x} {index}{}", bytes[0], floats(9, bytes.len()))
-}
-
 fn reported(program: &str, seed: u64, input: &[u8]) -> String {
-    let kept = shrunken(program, calls(input));
+    let kept = shrunken(calls(input), |fewer| differs(program, &joined(fewer)));
     let bytes = joined(&kept);
     let left = std::fs::write(LEFT, &bytes).map_or_else(|e| e.to_string(), |()| LEFT.to_string());
     let mut report = format!("seed {seed}: {} calls differ ({left})\n", kept.len());

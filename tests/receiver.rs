@@ -1,6 +1,6 @@
 //! The reference receiver: the published lane, as tests/cut gives it, with what document 01 adds around it ("Added around
-//! the lane", "Commands", "Replies other than an answer"), and of document 02 R-1's carry mode (its widths are in carry.rs) and R-13's
-//! close. All that is not the lane is written from these texts alone and reads no Rattle source.
+//! the lane", "Commands", "Replies other than an answer"), and of document 02 R-1's carry mode (its widths are in carry.rs), R-13's
+//! close and R-4's refusal 12. All that is not the lane is written from these texts alone and reads no Rattle source.
 
 include!("../target/tests/published.rs");
 
@@ -20,6 +20,21 @@ const INDEX_MOST: u64 = 1 << 40;
 const OPENING_BYTES: usize = 37;
 const BEGIN_BYTES: usize = 60;
 const STEP_BYTES: usize = 24;
+
+/// R-4: begin is refused where so many other lanes are out of idle.
+const OTHERS_OUT: usize = 4;
+
+/// The operand bytes of a command; none of a byte that is no command.
+pub fn operand_bytes(command: u8) -> Option<usize> {
+    match command {
+        1 => Some(OPENING_BYTES),
+        2 => Some(BEGIN_BYTES),
+        3 => Some(STEP_BYTES),
+        4 => Some(OPENING_BYTES + 1),
+        5 => Some(0),
+        _ => None,
+    }
+}
 
 /// A refusal's number.
 pub type Refused = u32;
@@ -240,7 +255,8 @@ impl Receiver {
         Ok(())
     }
 
-    fn begin(&mut self, b: &Begin) -> Result<(), Refused> {
+    /// Begins beside so many other lanes that are out of idle.
+    fn begin(&mut self, b: &Begin, others: usize) -> Result<(), Refused> {
         let p = self.settings.ok_or(3u32)?;
         if self.lane.mode != IDLE {
             return Err(5);
@@ -255,6 +271,9 @@ impl Receiver {
             && b.earlier.iter().all(|&e| within(e, VALUE_MOST));
         if !values {
             return Err(7);
+        }
+        if others >= OTHERS_OUT {
+            return Err(12);
         }
         if !self.room(&p) {
             return Err(8);
@@ -544,22 +563,23 @@ impl Reply {
 impl Receiver {
     /// Makes the call at the front of `input` and leaves what follows it there; `input` is not empty.
     pub fn call(&mut self, input: &mut &[u8]) -> Reply {
-        let (command, size) = match input[0] {
-            n @ 1 => (n, OPENING_BYTES),
-            n @ 2 => (n, BEGIN_BYTES),
-            n @ 3 => (n, STEP_BYTES),
-            n @ 4 => (n, OPENING_BYTES + 1),
-            n @ 5 => (n, 0),
-            _ => return Reply::Refused(1),
+        let command = input[0];
+        let Some(size) = operand_bytes(command) else {
+            return Reply::Refused(1);
         };
         let Some((operands, rest)) = input[1..].split_at_checked(size) else {
             return Reply::Refused(2);
         };
         *input = rest;
+        self.called(command, operands, 0)
+    }
+
+    /// Makes the call of a command with its operands, of which none is missing, beside so many other lanes that are out of idle.
+    pub fn called(&mut self, command: u8, operands: &[u8], others: usize) -> Reply {
         let operands = Operands(operands);
         let reply = match command {
             1 | 4 => self.open(&operands.opening()).map(|()| Reply::Opened),
-            2 => self.begin(&operands.begin()).map(|()| Reply::Begun),
+            2 => self.begin(&operands.begin(), others).map(|()| Reply::Begun),
             5 => self.close().map(|()| Reply::Closed { index: self.last }),
             _ => self.stepped(&operands.step()),
         };

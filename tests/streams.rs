@@ -3,6 +3,7 @@
 //!     streams [--seed N] [--calls N] [--kind KIND] [--carry] [--close] [--census]
 //!     streams --long [--seed N]      the long bursts of the kept stream instead, a seed each
 //!     streams --short [--seed N] [--calls N]     bursts of short pulses instead, those of the benchmark
+//!     streams --antennas [--seed N] [--calls N] [--census]     commands for sixteen antennas instead (document 02, R-4)
 //!
 //! Kinds: ook, fsk, auto (settings of that mode), exact (values that meet thresholds and ties exactly), edges (values and
 //! settings at and past the ends of the domain), damaged (commands with changed, lost or repeated bytes; such a stream may end
@@ -13,11 +14,14 @@ use std::io::{self, Write};
 
 mod generator;
 mod long;
+mod mixed;
 mod random;
 #[allow(dead_code)]
 mod receiver;
 mod signal;
+mod sixteen;
 mod verdict;
+mod worked;
 
 use generator::{carried, carried_closed, closed, stream};
 use receiver::Receiver;
@@ -25,7 +29,8 @@ use signal::KINDS;
 
 fn main() -> io::Result<()> {
     let (mut seed, mut calls, mut kind) = (1u64, 10_000u64, None);
-    let (mut carry, mut close, mut census, mut long, mut short) = (false, false, false, false, false);
+    let (mut carry, mut close, mut census) = (false, false, false);
+    let (mut long, mut short, mut antennas) = (false, false, false);
     let mut args = std::env::args().skip(1);
     while let Some(a) = args.next() {
         let mut value = || args.next().unwrap_or_else(|| usage());
@@ -38,6 +43,7 @@ fn main() -> io::Result<()> {
             "--census" => census = true,
             "--long" => long = true,
             "--short" => short = true,
+            "--antennas" => antennas = true,
             _ => usage(),
         }
     }
@@ -56,19 +62,25 @@ fn main() -> io::Result<()> {
         (false, true) => closed,
         (true, true) => carried_closed,
     };
-    let s = if short { long::short_pulses(seed, calls) } else { made(seed, calls, kind) };
+    let (bytes, counts) = if antennas {
+        let m = mixed::mixed(seed, calls);
+        (m.bytes, m.census)
+    } else {
+        let s = if short { long::short_pulses(seed, calls) } else { made(seed, calls, kind) };
+        (s.bytes, s.census)
+    };
     if census {
-        for (what, n) in &s.census {
+        for (what, n) in &counts {
             eprintln!("{n:9} {what}");
         }
     }
-    io::stdout().lock().write_all(&s.bytes)
+    io::stdout().lock().write_all(&bytes)
 }
 
 fn usage() -> ! {
     eprintln!(
         "streams [--seed N] [--calls N] [--kind ook|fsk|auto|exact|edges|damaged|any] [--carry] [--close] [--census] \
-         [--long | --short]"
+         [--long | --short | --antennas]"
     );
     std::process::exit(2)
 }

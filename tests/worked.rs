@@ -57,6 +57,21 @@ pub fn tones() -> Vec<u8> {
     settings.command().into_iter().chain(begin).chain(steps).collect()
 }
 
+/// In FSK mode with alpha 1 and noise 1, from index 10 on: a low sample, six runs of two tones, a quarter turn up and one down for each
+/// sample, of so many samples each, and five low samples, of which the second ends the frame and the last the burst.
+pub fn two_tones(len: usize) -> Vec<u8> {
+    let settings = Settings { mode: 1, floats: [1.0, 100.0, 0.0, 0.0], ..WORKED };
+    let turns = [[1.0, 0.0], [0.0, 1.0], [-1.0, 0.0], [0.0, -1.0]];
+    let up = (0..6).flat_map(|run| vec![if run % 2 == 0 { 1 } else { 3 }; len]);
+    let high = up.scan(0, |turn, by| {
+        *turn = (*turn + by) % 4;
+        Some(Tick { noise: 1.0, envelope: 8.0, sample: turns[*turn] })
+    });
+    let steps = (11..).zip(high.chain([tick(1.0, 0.0); 5])).flat_map(|(i, t)| step_command(i, &t));
+    let begin = begin_command(10, 1.0, &tick(1.0, 0.0), [1.0, 0.0], &[0.0; 7]);
+    settings.command().into_iter().chain(begin).chain(steps).collect()
+}
+
 /// The settings of M6 to M8 by command 04, with this carry.
 pub const fn carrying(carry: u8) -> Settings {
     Settings { carry: Some(carry), ..WORKED }
@@ -101,4 +116,9 @@ pub fn burst(envelopes: &[f32]) -> Vec<u8> {
 /// The same with other settings and noise.
 pub fn burst_by(settings: Settings, noise: f32, envelopes: &[f32]) -> Vec<u8> {
     [settings.command(), noisy_calls(10, noise, envelopes).concat()].concat()
+}
+
+/// A command for one of sixteen antennas (document 02, R-4): its number comes right after the command byte.
+pub fn to_antenna(antenna: u8, command: &[u8]) -> Vec<u8> {
+    [&command[..1], &[antenna], &command[1..]].concat()
 }

@@ -1,6 +1,7 @@
 // The commands of the listing program, decoded from bytes (document 01, "Commands", and its
 // refusals 1 and 2; document 02 has 04 and 05).
 ghost use mathlib.Core.Path.{_≡_};
+ghost use mathlib.Core.List.{_∷_};
 ghost use Prim.Native.Nat.{_+_, _≤_, _<_};
 ghost use lib.ListN.{length, drop};
 ghost use Rattle.commands.specs.Command.{pairAt, historyOf, settingsOf, openingOf, beginArgsOf, stepArgsOf, decoded, openSize, sizeOf, isStepOf};
@@ -92,7 +93,7 @@ fn begin_args(o: &[u8]) -> BeginArgs
     }
 }
 
-fn step_args(o: &[u8]) -> StepArgs
+pub fn step_args(o: &[u8]) -> StepArgs
     requires { ⌜ 24 ≤ length (now o) ⌝ }
     ensures { λ r. ⌜ r ≡ stepArgsOf (now (o .entry)) ⌝ }
 {
@@ -107,7 +108,7 @@ fn step_args(o: &[u8]) -> StepArgs
 // ---- commands
 
 // The bytes from a place on, none where there are not so many.
-fn after(s: &[u8], a: usize) -> &[u8]
+pub fn after(s: &[u8], a: usize) -> &[u8]
     ensures { λ r. ⌜ now r ≡ drop a (now (s .entry)) ⌝ }
 {
     if a <= s.len() {
@@ -136,15 +137,10 @@ fn decode_open(o: &[u8], carries: bool) -> Command
     Command::Open(p, false)
 }
 
-// What stands at the front of the bytes.
-fn decode(s: &[u8]) -> Command
-    ensures { λ r. ⌜ r ≡ decoded (now (s .entry)) ⌝ }
+// A command by its command byte and the bytes after that one.
+pub fn decode_by(b: u8, o: &[u8]) -> Command
+    ensures { λ r. ⌜ r ≡ decoded (b ∷ now (o .entry)) ⌝ }
 {
-    if s.len() < 1 {
-        return Command::End;
-    }
-    let b = s[0];
-    let o = after(s, 1);
     let opens = b == 1;
     if opens {
         return decode_open(o, false);
@@ -174,6 +170,16 @@ fn decode(s: &[u8]) -> Command
         return Command::Close;
     }
     Command::Unknown
+}
+
+// What stands at the front of the bytes.
+fn decode(s: &[u8]) -> Command
+    ensures { λ r. ⌜ r ≡ decoded (now (s .entry)) ⌝ }
+{
+    if s.len() < 1 {
+        return Command::End;
+    }
+    decode_by(s[0], after(s, 1))
 }
 
 // What stands at a place of the bytes.

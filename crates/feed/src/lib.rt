@@ -8,7 +8,7 @@ ghost use Rattle.feed.specs.Feeds.{Feeds};
 use lane::Lane;
 
 // Moves the bytes from `from` to `end` to the front, and answers how many they are.
-fn shift(buf: &mut [u8], from: usize, end: usize) -> usize
+pub fn shift(buf: &mut [u8], from: usize, end: usize) -> usize
     requires { ⌜ (from ≤ end) × (end ≤ length (now buf)) ⌝ }
     ensures { λ r. ⌜ (r ≤ length (now (buf .exit))) × (take r (now (buf .exit)) ≡ drop from (take end (now (buf .entry)))) ⌝ }
 {

@@ -209,7 +209,7 @@ fn put_train(o: Out, part: &[u32], text: &mut [u8], at: usize) -> usize
 }
 
 // A record's line, if it decides a train.
-fn put_record(o: Out, part: &[u32], text: &mut [u8], at: usize) -> usize
+pub fn put_record(o: Out, part: &[u32], text: &mut [u8], at: usize) -> usize
     requires { ⌜ at + trainRoom (length (now part)) ≤ length (now text) ⌝ }
     ensures { λ r. ⌜ Put (recordLine o (now (part .entry))) (trainRoom (length (now (part .entry)))) at (now (text .entry)) r (now (text .exit)) ⌝ }
 {
@@ -231,7 +231,7 @@ fn put_records(f: Out, fs: &[u32], o: Out, os: &[u32], text: &mut [u8], at: usiz
 
 // ---- the lines of a call
 
-fn put_idle(index: u64, text: &mut [u8], at: usize) -> usize
+pub fn put_idle(index: u64, text: &mut [u8], at: usize) -> usize
     requires { ⌜ at + 48 ≤ length (now text) ⌝ }
     ensures { λ r. ⌜ Put (idleLine index) 48 at (now (text .entry)) r (now (text .exit)) ⌝ }
 {
@@ -240,7 +240,7 @@ fn put_idle(index: u64, text: &mut [u8], at: usize) -> usize
     put_byte(10, text, b)
 }
 
-fn put_idle_at(index: u64, e: f32, text: &mut [u8], at: usize) -> usize
+pub fn put_idle_at(index: u64, e: f32, text: &mut [u8], at: usize) -> usize
     requires { ⌜ at + 48 ≤ length (now text) ⌝ }
     ensures { λ r. ⌜ Put (carrierLine index e) 48 at (now (text .entry)) r (now (text .exit)) ⌝ }
 {
@@ -250,7 +250,7 @@ fn put_idle_at(index: u64, e: f32, text: &mut [u8], at: usize) -> usize
     put_byte(10, text, c)
 }
 
-fn put_refused(number: u32, text: &mut [u8], at: usize) -> usize
+pub fn put_refused(number: u32, text: &mut [u8], at: usize) -> usize
     requires { ⌜ at + 48 ≤ length (now text) ⌝ }
     ensures { λ r. ⌜ Put (refusedLine number) 48 at (now (text .entry)) r (now (text .exit)) ⌝ }
 {

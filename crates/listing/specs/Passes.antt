@@ -13,19 +13,7 @@ use Rattle.turns.specs.Turn.{State}
 use Rattle.turns.specs.Blocks.{Blocks, none, Over}
 use Rattle.feed.specs.declared.Fed.{Fed}
 use Rattle.feed.specs.Feeds.{Feeds, feeds-more, feeds-over, feeds-on}
-use Rattle.listing.specs.declared.Input.{Input}
 use Rattle.listing.specs.declared.Passed.{Passed}
-
--- bytes come after the first `have` of the buffer b, which stay
-pub record Came (b : List ℕ) (have : ℕ) (i : Input) (x : List ℕ) : Type 0 where
-  pub inside : have + i .came ≤ length x
-  pub front : take have x ≡ take have b
-
--- none come once the input has ended, nor where bytes that are there may still be answered
-pub record Quiet (last full : Bool) (i : Input) : Type 0 where
-  pub none-after : last ≡ true → i .came ≡ 0
-  pub ended-stays : last ≡ true → i .last ≡ true
-  pub none-while : full ≡ true → i .came ≡ 0
 
 -- before the first read
 abbrev pub startedWith : Lane → Passed

@@ -6,65 +6,8 @@ ghost use mathlib.Core.Path.{_≡_};
 ghost use lib.ListN.{length};
 ghost use Rattle.lane.specs.Step.{newLane};
 ghost use Rattle.reached.specs.Reached.{Sound};
-ghost use Rattle.listing.specs.Passes.{Came, Quiet, started, Passes, Runs};
+ghost use Rattle.listing.specs.Passes.{started, Passes, Runs};
 use feed::Fed;
-use libc::STDIN_FILENO;
-use libc::STDOUT_FILENO;
-
-struct Input {
-    came: usize,
-    // Whether the input has ended: nothing is read after that.
-    last: bool,
-    failed: bool,
-}
-
-// One read to the place `have` of the buffer. A read that fails is said on standard error.
-fn fill(buf: &mut [u8], have: usize) -> Input
-    requires { ⌜ have ≤ length (now buf) ⌝ }
-    ensures { λ r. ⌜ Came (now (buf .entry)) have r (now (buf .exit)) ⌝ }
-{
-    let got = libc::read(STDIN_FILENO, &mut buf[have..]);
-    if got < 0 {
-        os::fail(b"listing: read");
-        return Input {
-            came: 0,
-            last: false,
-            failed: true,
-        };
-    }
-    let came = io::count(got, &buf[have..]);
-    Input {
-        came,
-        last: came == 0,
-        failed: false,
-    }
-}
-
-// The bytes that come next. Nothing is read where the input has ended, where bytes that are there
-// may still be answered (`full`), or where the buffer has no room.
-fn read_more(buf: &mut [u8], have: usize, last: bool, full: bool) -> Input
-    requires { ⌜ have ≤ length (now buf) ⌝ }
-    ensures { λ r. ⌜ Came (now (buf .entry)) have r (now (buf .exit)) × Quiet last full r ⌝ }
-{
-    let stays = last | full | (have == buf.len());
-    if stays {
-        return Input {
-            came: 0,
-            last,
-            failed: false,
-        };
-    }
-    fill(buf, have)
-}
-
-// Writes the lines. A write that fails is said on standard error.
-fn put(text: &[u8]) -> bool {
-    let written = io::write_all(STDOUT_FILENO, text);
-    if !written {
-        os::fail(b"listing: write");
-    }
-    written
-}
 
 struct Passed {
     // What was fed last: its bytes that no command has taken are at the front of the buffer.
@@ -101,11 +44,11 @@ fn pass(p: Passed, buf: &mut [u8], ook: &mut [u32], fsk: &mut [u32], text: &mut 
 {
     let q = p.fed;
     let lane = q.lane;
-    let i = read_more(buf, q.left, p.last, q.full);
+    let i = input::read_more(buf, q.left, p.last, q.full, b"listing: read");
     let end = q.left + i.came;
     let f = feed::feed(lane, buf, end, i.last, ook, fsk, text);
     let at = f.at;
-    let written = put(&text[..at]);
+    let written = input::put(&text[..at], b"listing: write");
     Passed {
         fed: f,
         last: i.last,

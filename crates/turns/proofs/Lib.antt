@@ -1,3 +1,3 @@
 -- What the proofs of this crate cite.
-mod Taken
-mod Cores
+pub mod Taken
+pub mod Cores

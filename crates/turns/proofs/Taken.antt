@@ -208,7 +208,7 @@ steps-onward (some up quiet keeps g) = omega (arith, up)
 abbrev pub coreStep : Lane → StepArgs → List ℕ → List ℕ → Called
 coreStep l a ook fsk = steppedBy (stepRefusalBy true (l .settings) (l .phase) (l .last) a (length ook) (length fsk)) l a ook fsk
 
-core-steps : (q : State) (a : StepArgs) → Sound (q .0) → coreStep (q .0) a (q .1) (q .2) ≡ called q (Step a)
+pub core-steps : (q : State) (a : StepArgs) → Sound (q .0) → coreStep (q .0) a (q .1) (q .2) ≡ called q (Step a)
 unfolding called stepped stepRefusal
 core-steps q a h = ap (λ (b : Bool). steppedBy (stepRefusalBy b (q .0 .settings) (q .0 .phase) (q .0 .last) a (length (q .1)) (length (q .2))) (q .0) a (q .1) (q .2)) (sym (sound-ok h))
 
@@ -230,7 +230,7 @@ pub steps-kept : {p : State} {s : List ℕ} {from : ℕ} {r : Past} {q : State} 
 steps-kept (none e d) = record { settings = ap (λ (q : State). q .0 .settings) d; ook = ap (λ (q : State). length (q .1)) d; fsk = ap (λ (q : State). length (q .2)) d }
 steps-kept (some up quiet keeps g) = keeps
 
-step-settings : (l : Lane) (a : StepArgs) (ook fsk : List ℕ) → stepped l a ook fsk .0 .lane .settings ≡ l .settings
+pub step-settings : (l : Lane) (a : StepArgs) (ook fsk : List ℕ) → stepped l a ook fsk .0 .lane .settings ≡ l .settings
 unfolding stepped stampOf advanceOf leadStep fillOf replayStep burstStep settleOf
 step-settings l a ook fsk = go (eqb (stepRefusal l a (length ook) (length fsk)) 0) (eqb (l .phase) 1) (ltb (ld .«lead_n») (leadLenOf (l .settings .«min_steps»)))
   where

@@ -22,7 +22,7 @@ use ook::Out;
 
 // ---- one command
 
-fn is_step(k: Command) -> bool
+pub fn is_step(k: Command) -> bool
     ensures { λ r. ⌜ r ≡ isStepOf k ⌝ }
 {
     match k {
@@ -87,7 +87,7 @@ fn anew(l: Lane) -> Lane
 }
 
 // The lane's answer to a command that is no step, or refusal 1 or 2. The FSK buffer is not written.
-fn call_other(l: Lane, k: Command, ook: &mut [u32], fsk: &[u32]) -> Answer
+pub fn call_other(l: Lane, k: Command, ook: &mut [u32], fsk: &[u32]) -> Answer
     ensures { λ r. ⌜ (isStepOf k ≡ false → _≡_ {A = Called} (r, now (ook .exit), now (fsk .entry)) (called (l, now (ook .entry), now (fsk .entry)) k)) ⌝ }
 {
     let m = anew(l);
@@ -147,7 +147,7 @@ fn is_refused(r: Reply) -> bool
 }
 
 // The part of a record that a call prints: none where it is refused, whatever the lane still holds.
-fn shown<'a>(r: Reply, l: Lane, o: Out, ook: &'a [u32], fsk: &'a [u32]) -> &'a [u32]
+pub fn shown<'a>(r: Reply, l: Lane, o: Out, ook: &'a [u32], fsk: &'a [u32]) -> &'a [u32]
     ensures { λ s. ⌜ now s ≡ shownOf r l o (now (ook .entry)) (now (fsk .entry)) ⌝ }
 {
     let refused = is_refused(r);
@@ -187,7 +187,7 @@ struct Past {
 }
 
 // Whether a call prints nothing: it stays, and decides no record.
-fn is_quiet(r: Reply, f: u32, o: u32) -> bool
+pub fn is_quiet(r: Reply, f: u32, o: u32) -> bool
     ensures { λ b. ⌜ b ≡ quietOf r f o ⌝ }
 {
     match r {
@@ -316,7 +316,7 @@ pub struct Ran {
 
 // Whether a command is not made yet: nothing is left, or only the beginning of a command and more
 // may come.
-fn waits(last: bool, k: Command) -> bool
+pub fn waits(last: bool, k: Command) -> bool
     ensures { λ r. ⌜ r ≡ Turn·waits last k ⌝ }
 {
     match k {
@@ -343,7 +343,7 @@ pub fn smaller(n: usize, m: usize) -> usize
 // The most slots of a record's part that a call prints: two for each pulse of the settings, and no
 // more than the larger buffer has. Settings outside the domain print no record: each call that would
 // is refused.
-fn most_of(pulses: u32, ook: usize, fsk: usize) -> usize
+pub fn most_of(pulses: u32, ook: usize, fsk: usize) -> usize
     ensures { λ r. ⌜ r ≡ slotsOf pulses ook fsk ⌝ }
 {
     let slots = 2 * (pulses as usize);

@@ -1,48 +1,29 @@
--- `commands::decode` meets its contract: by its tests and what the calls ensure. Assumes nothing.
-use borrow.Author.Tests.{lt-ltb, le-ltb}
+-- `commands::decode` meets its contract: bytes that are some are their first and those after it. Assumes nothing.
+use Prim.Native.Nat.{ℕ, _≤_}
+use mathlib.Core.Path.{_≡_, refl, ap, _∙_}
+use mathlib.Core.List.{List, [], _∷_}
+use native.Mathlib.Nat.{not-suc-le-zero}
+use lib.ListN.{length, getD, drop}
+use borrow.Author.Tests.{lt-ltb}
 use Rattle.commands.specs.Command.{decoded}
 use borrow.Author.Needs.{needs}
 use Rattle.commands.proofs.decode.Statement.{statement}
 use Rattle.commands.proofs.decode.Tie as tie
+
+first-and-rest : (s : List ℕ) → 1 ≤ length s → getD s 0 0 ∷ drop 1 s ≡ s
+first-and-rest [] h = absurd (not-suc-le-zero h)
+first-and-rest (b ∷ o) h = refl
+
+front : (s o : List ℕ) → 1 ≤ length s → o ≡ drop 1 s → decoded (getD s 0 0 ∷ o) ≡ decoded s
+front s o h e = ap (λ (u : List ℕ). decoded (getD s 0 0 ∷ u)) e ∙ ap decoded (first-and-rest s h)
 
 returns : tie.Need-returns
 unfolding decoded
 returns c = simp (lt-ltb _ _ (c .if1 .taken))
 
 returns-2 : tie.Need-returns-2
-unfolding decoded
-returns-2 c = simp (le-ltb _ _ (c .before .before .before .before .if1 .left), ← c .before .before .after .ensures, c .before .if2 .taken, ← c .decode-open .ensures)
-
-returns-3 : tie.Need-returns-3
-unfolding decoded
-returns-3 c = simp (le-ltb _ _ (c .before .before .before .before .before .if1 .left), ← c .before .before .before .after .ensures, c .before .before .if2 .left, c .before .if3 .taken, lt-ltb _ _ (c .if4 .taken))
-
-returns-4 : tie.Need-returns-4
-unfolding decoded
-returns-4 c = simp (le-ltb _ _ (c .before .before .before .before .before .before .if1 .left), ← c .before .before .before .before .after .ensures, c .before .before .before .if2 .left, c .before .before .if3 .taken, le-ltb _ _ (c .before .if4 .left), ← c .begin-args .ensures)
-
-returns-5 : tie.Need-returns-5
-unfolding decoded
-returns-5 c = simp (le-ltb _ _ (c .before .before .before .before .before .before .if1 .left), ← c .before .before .before .before .after .ensures, c .before .before .before .if2 .left, c .before .before .if3 .left, c .before .if5 .taken, lt-ltb _ _ (c .if6 .taken))
-
-returns-6 : tie.Need-returns-6
-unfolding decoded
-returns-6 c = simp (le-ltb _ _ (c .before .before .before .before .before .before .before .if1 .left), ← c .before .before .before .before .before .after .ensures, c .before .before .before .before .if2 .left, c .before .before .before .if3 .left, c .before .before .if5 .taken, le-ltb _ _ (c .before .if6 .left), ← c .step-args .ensures)
-
-returns-7 : tie.Need-returns-7
-unfolding decoded
-returns-7 c = simp (le-ltb _ _ (c .before .before .before .before .before .before .before .if1 .left), ← c .before .before .before .before .before .after .ensures, c .before .before .before .before .if2 .left, c .before .before .before .if3 .left, c .before .before .if5 .left, c .before .if7 .taken, ← c .decode-open2 .ensures)
-
-returns-8 : tie.Need-returns-8
-unfolding decoded
-returns-8 c = simp (le-ltb _ _ (c .before .before .before .before .before .before .before .if1 .left), c .before .before .before .before .if2 .left, c .before .before .before .if3 .left, c .before .before .if5 .left, c .before .if7 .left, c .if8 .taken)
-
-returns-9 : tie.Need-returns-9
-unfolding decoded
-returns-9 c = simp (le-ltb _ _ (c .before .before .before .before .before .before .before .if1 .left), c .before .before .before .before .if2 .left, c .before .before .before .if3 .left, c .before .before .if5 .left, c .before .if7 .left, c .if8 .left)
+returns-2 c = c .decode-by .ensures ∙ front _ _ (c .before .before .before .if1 .left) (c .before .after .ensures)
 
 pub decode-spec : {M : Type 1} → statement M
 decode-spec =
-    tie.close
-    (tie.spec returns (search needs) (search needs) (search needs) returns-2 returns-3 (search needs) returns-4 returns-5 (search needs) returns-6
-    (search needs) returns-7 returns-8 returns-9)
+    tie.close (tie.spec returns (search needs) (search needs) (search needs) returns-2)

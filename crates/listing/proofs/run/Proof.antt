@@ -4,9 +4,9 @@ use mathlib.Core.Path.{_≡_, refl, sym, subst}
 use native.Mathlib.Omega.{arith}
 use lib.ListN.{length}
 use Rattle.lane.specs.Step.{newLane}
+use Rattle.input.proofs.Laws.{first-false}
 use Rattle.listing.specs.declared.Passed.{Passed}
 use Rattle.listing.specs.Passes.{Standing, starts, goes, stops, stands}
-use Rattle.listing.proofs.Laws.{first-false}
 use borrow.Author.Needs.{needs}
 use Rattle.listing.proofs.run.Statement.{statement}
 use Rattle.listing.proofs.run.Tie as tie

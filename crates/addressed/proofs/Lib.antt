@@ -1,0 +1,2 @@
+-- The laws of addressed commands.
+pub mod Laws

@@ -1,0 +1,1 @@
+// What sixteen antennas have in common is about definitions alone: see specs/.

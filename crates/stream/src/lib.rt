@@ -1,0 +1,1 @@
+// Laws alone: what a program prints of a stream of bytes, read block after block.

@@ -1,0 +1,3 @@
+-- The laws of tagged lines, and their examples.
+pub mod Laws
+pub mod Examples
