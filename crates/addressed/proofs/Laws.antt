@@ -13,8 +13,9 @@ use borrow.Author.Tests.{le-ltb}
 use Rattle.commands.specs.declared.Command.{Command}
 use Rattle.commands.specs.declared.Command.the-variants.{End, Open, Begin, Step, Unknown, Short, Close}
 use Rattle.commands.specs.Command.{stepArgsOf, openingOf, decoded, sizeOf, isStepOf}
-use Rattle.commands.specs.Stream.{whole, decoded-more}
-use Rattle.commands.specs.Stream.{size-fits as fits, step-there as step-in, long-front as front}
+use Rattle.commands.specs.Stream.{whole}
+use Rattle.commands.proofs.Stream.{decoded-more}
+use Rattle.commands.proofs.Stream.{size-fits as fits, step-there as step-in, long-front as front}
 use Rattle.addressed.specs.Addressed.{withoutAntenna, addressedOf, antennaOf, addressedSize}
 
 -- ---- the layout

@@ -18,10 +18,11 @@ use Rattle.lane.specs.declared.Answer.{Answer}
 use Rattle.lane.specs.Refusals.{laneOk, beginFloatsOk, beginRefusal}
 use Rattle.lane.specs.Idle.{idleLane}
 use Rattle.lane.specs.Step.{newLane, refuse, begun, begunBy}
-use Rattle.reached.specs.Reached.{Sound, open-sound, begin-sound, step-sound, close-sound}
+use Rattle.reached.specs.Reached.{Sound}
+use Rattle.reached.proofs.Reached.{open-sound, begin-sound, step-sound, close-sound}
 use Rattle.commands.specs.declared.Command.{Command}
 use Rattle.commands.specs.declared.Command.the-variants.{End, Open, Begin, Step, Unknown, Short, Close}
-use Rattle.turns.specs.Turn.{State, Called, called}
+use Rattle.calls.specs.Turn.{State, Called, called}
 use Rattle.among.specs.Among.{places, beginRefusalAmong, begunAmong, calledAmong, outOf, outs}
 use Rattle.among.specs.Settled.{isBeginOf, lateOf, settledOf}
 

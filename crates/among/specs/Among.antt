@@ -17,7 +17,7 @@ use Rattle.lane.specs.Refusals.{laneOk, beginFloatsOk}
 use Rattle.lane.specs.Step.{newLane, begunBy}
 use Rattle.commands.specs.declared.Command.{Command}
 use Rattle.commands.specs.declared.Command.the-variants.{End, Open, Begin, Step, Unknown, Short, Close}
-use Rattle.turns.specs.Turn.{State, Called, unchanged, called}
+use Rattle.calls.specs.Turn.{State, Called, unchanged, called}
 
 -- "Lanes are numbered 0 to 15", and four of them may be out of idle
 abbrev pub antennas : ℕ

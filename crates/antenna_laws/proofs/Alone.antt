@@ -8,7 +8,7 @@ use lib.Dec.{eqb, ltb, leb}
 use borrow.Author.Tests.{eqb-true, eqb-false}
 use Rattle.lane.specs.declared.Reply.the-variants.{Refused}
 use Rattle.commands.specs.declared.Command.{Command}
-use Rattle.turns.specs.Turn.{State, Called, called, next, unchanged}
+use Rattle.calls.specs.Turn.{State, Called, called, next, unchanged}
 use Rattle.among.specs.Among.{antennas, places, calledAmong, Lanes, laneAt, othersOut, noAntenna, answerTo, afterCall}
 use Rattle.among.specs.Settled.{isBeginOf, lateOf}
 use Rattle.antenna_laws.specs.Calls.{Sent, afterAll, Sized, met12, keepIf, heard, commandsOf, answersOf, alone, aloneAfter}

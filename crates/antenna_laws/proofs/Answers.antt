@@ -8,9 +8,9 @@ use lib.ListN.{length}
 use lib.Dec.{eqb, ltb}
 use lib.Ieee.{Float}
 use Rattle.arith.specs.Leaves.{leadLenOf}
-use Rattle.ook.specs.declared.Next.{Next}
-use Rattle.ook.specs.declared.Next.the-variants as next
-use Rattle.ook.specs.declared.Settings.{Settings}
+use Rattle.types.specs.declared.Next.{Next}
+use Rattle.types.specs.declared.Next.the-variants as next
+use Rattle.types.specs.declared.Settings.{Settings}
 use Rattle.burst.specs.declared.Lead.{Lead}
 use Rattle.burst.specs.Lead.{leadAddOf, leadFullOf}
 use Rattle.burst.specs.Sample.{sampleOf}
@@ -33,7 +33,7 @@ use Rattle.lane.specs.Serial.{stamped, stampedWith}
 use Rattle.lane.specs.Step.{refuse, stay, opened, begun, stepped, closed}
 use Rattle.commands.specs.declared.Command.{Command}
 use Rattle.commands.specs.declared.Command.the-variants.{End, Open, Begin, Step, Unknown, Short, Close}
-use Rattle.turns.specs.Turn.{State, called, refusedOf}
+use Rattle.calls.specs.Turn.{State, called, refusedOf}
 
 -- ---- accepted calls are answered
 

@@ -8,7 +8,7 @@ use native.Mathlib.Omega.{arith}
 use lib.ListN.{length, set}
 use lib.Dec.{leb, eqb}
 use borrow.Author.Tests.{leb-false, eqb-true, eq-eqb, ne-eqb}
-use Rattle.ook.specs.declared.Settings.{Settings}
+use Rattle.types.specs.declared.Settings.{Settings}
 use Rattle.lane.specs.declared.Lane.{Lane}
 use Rattle.lane.specs.declared.BeginArgs.{BeginArgs}
 use Rattle.lane.specs.declared.StepArgs.{StepArgs}
@@ -21,7 +21,7 @@ use Rattle.lane.specs.Serial.{stampOf, stamped, stampedWith}
 use Rattle.lane.specs.Step.{newLane, refuse, stay, opened, begun, stepped, closed}
 use Rattle.commands.specs.declared.Command.{Command}
 use Rattle.commands.specs.declared.Command.the-variants.{End, Open, Begin, Step, Unknown, Short, Close}
-use Rattle.turns.specs.Turn.{State, Called, called}
+use Rattle.calls.specs.Turn.{State, Called, called}
 use Rattle.pulses.proofs.Accepted.{step-tells, close-tells}
 use Rattle.among.specs.Among.{antennas, places, calledAmong, Lanes, laneAt, outOf, outs, othersOut, answerTo, afterCall}
 use Rattle.among.specs.Settled.{lateOf}

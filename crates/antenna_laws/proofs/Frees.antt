@@ -9,7 +9,7 @@ use borrow.Author.Tests.{lt-leb}
 use Rattle.lane.specs.declared.Lane.{Lane}
 use Rattle.lane.specs.Step.{newLane}
 use Rattle.commands.specs.declared.Command.{Command}
-use Rattle.turns.specs.Turn.{State, called}
+use Rattle.calls.specs.Turn.{State, called}
 use Rattle.among.specs.Among.{places, calledAmong, Lanes, laneAt, outs, othersOut, answerTo, afterCall}
 use Rattle.among.specs.Settled.{isBeginOf, lateOf}
 use Rattle.among.proofs.Laws.{outs-set}

@@ -14,7 +14,7 @@ use Rattle.lane.specs.Answers.{refusalNumberOf}
 use Rattle.lane.specs.Step.{newLane, refuse}
 use Rattle.commands.specs.declared.Command.{Command}
 use Rattle.commands.specs.declared.Command.the-variants.{End, Open, Begin, Step, Unknown, Short, Close}
-use Rattle.turns.specs.Turn.{State, Called, called, next, unchanged}
+use Rattle.calls.specs.Turn.{State, Called, called, next, unchanged}
 use Rattle.among.specs.Among.{antennas, places, calledAmong, Lanes, laneAt, putAt, othersOut, noAntenna, answerTo, afterCall}
 use Rattle.among.specs.Settled.{isBeginOf, lateOf, settledOf}
 use Rattle.among.proofs.Laws.{settled}

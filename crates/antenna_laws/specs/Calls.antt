@@ -10,7 +10,7 @@ use Rattle.lane.specs.declared.Reply.{Reply}
 use Rattle.lane.specs.Answers.{refusalNumberOf}
 use Rattle.lane.specs.Step.{newLane}
 use Rattle.commands.specs.declared.Command.{Command}
-use Rattle.turns.specs.Turn.{State, Called, called, next}
+use Rattle.calls.specs.Turn.{State, Called, called, next}
 use Rattle.among.specs.Among.{antennas, Lanes, answerTo, afterCall}
 
 -- the number of an antenna, and a command for it

@@ -8,7 +8,7 @@ use lib.ListN.{length}
 use Rattle.lane.specs.declared.Lane.{Lane}
 use Rattle.lane.specs.declared.Reply.the-variants.{Refused, Stay}
 use Rattle.commands.specs.declared.Command.{Command}
-use Rattle.turns.specs.Turn.{State, called, unchanged}
+use Rattle.calls.specs.Turn.{State, called, unchanged}
 use Rattle.among.specs.Among.{antennas, places, Lanes, laneAt, outs, othersOut, answerTo, afterCall}
 use Rattle.among.specs.Settled.{isBeginOf}
 use Rattle.antenna_laws.specs.Calls.{Sent, afterAll, Sized, newLanes, others, heard, commandsOf, answersOf, alone, aloneAfter}

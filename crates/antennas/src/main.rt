@@ -38,7 +38,7 @@ fn feed(
     requires { ⌜ AllSound lanes × Sized (lanes, now ook, now fsk) ⌝ }
     ensures { λ r. ⌜ Feeds machine (lanes, now (ook .entry), now (fsk .entry)) (take end (now (buf .entry))) last (restOf r) (r .lanes, now (ook .exit), now (fsk .exit)) (now (buf .exit)) (now (text .exit)) × AllSound (r .lanes) × Sized (r .lanes, now (ook .exit), now (fsk .exit)) ⌝ }
 {
-    let n = turns::smaller(end, buf.len());
+    let n = calls::smaller(end, buf.len());
     let r = sixteen::block(lanes, &buf[..n], last, ook, fsk, text);
     let next = r.lanes;
     let left = feed::shift(buf, r.used, n);

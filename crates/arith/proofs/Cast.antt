@@ -8,11 +8,11 @@ use lib.Pow.{pow-pos}
 use lib.Ieee.{Float, nan, inf, fin, binary64, up, down, fits, toUnsigned}
 use lib.Ieee.Fits.{down-pos}
 use lib.Ieee.Exact.{HasValue}
-use Rattle.arith.specs.Units.{inUnits}
-use Rattle.arith.specs.Rounding.{roundOf, halfUp}
+use Rattle.ieee.specs.Units.{inUnits}
+use Rattle.ieee.specs.Rounding.{roundOf, halfUp}
 use Rattle.arith.specs.Leaves.{nearestIn}
-use Rattle.arith.proofs.Short.{in-units-exact}
-use Rattle.arith.proofs.HalfUp.{halfUp-same, roundOf-value}
+use Rattle.ieee.proofs.Short.{in-units-exact}
+use Rattle.ieee.proofs.HalfUp.{halfUp-same, roundOf-value}
 
 cut : (w : ℕ) (y : Float) (s : Bool) (n : ℕ) → HasValue y s n 1 → toUnsigned w y ≡ cond s 0 (min n (2 ^ w - 1))
 unfolding toUnsigned

@@ -9,19 +9,8 @@ use lib.Ieee.{Float, nan, inf, fin, binary32, binary64, add, sub, mul, div, lt, 
 use Rattle.arith.specs.declared.C32.{C32}
 use Rattle.arith.specs.declared.Steps.{Steps}
 use Rattle.arith.specs.declared.Fix64.{Fix64}
-use Rattle.arith.specs.Rounding.{halfUp, roundOf, narrowOf}
-
-abbrev pub zero32 : Float
-zero32 = ofBits binary32 0
-
-abbrev pub one32 : Float
-one32 = ofBits binary32 0x3f80_0000
-
-abbrev pub zero64 : Float
-zero64 = ofBits binary64 0
-
-abbrev pub one64 : Float
-one64 = ofBits binary64 0x3ff0_0000_0000_0000
+use Rattle.ieee.specs.Rounding.{halfUp, roundOf, narrowOf}
+use Rattle.ieee.specs.Constants.{zero32, zero64, one64}
 
 -- ---- what the Rust takes from its language and libraries
 

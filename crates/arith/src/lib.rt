@@ -1,274 +1,14 @@
-// The arithmetic below the lane: IEEE 754-2019's rounding, square root and change of width, and the
-// leaves of the Rust, one rounding for each operation. The crates above see these contracts only.
+// The leaves of the Rust's arithmetic, one rounding for each operation, and the widths between boundaries. The crates above see
+// these contracts only.
 ghost use mathlib.Core.Path.{_≡_};
-ghost use mathlib.Core.Bool.{Bool, cond};
+ghost use mathlib.Core.Bool.{cond};
 ghost use Prim.Native.Nat.{_+_, _-_, _*_, _^_, _<_, _≤_, min, max};
 ghost use lib.Ieee as Ieee;
 ghost use lib.Ieee.{binary32, binary64};
 ghost use lib.IntN.{pos};
-ghost use lib.Ieee.Nearest.{closest};
-ghost use lib.Ieee.Positive.{positive};
-ghost use lib.Dec.{T};
-ghost use Rattle.arith.specs.Root.{specialOf, answered, scaled, InRange, IsRoot, exactOf, roundExact, sqrtOf};
-ghost use Rattle.arith.specs.Rounding.{roundOf, narrowOf, widenOf};
 ghost use Rattle.arith.specs.Leaves.{absOf, midpointOf, flushOf, maxOf, minOf, cmulConjOf, crossOf, edgeOf, stepOf, wholeOf, widthOf, fskWidthOf, runFixOf, gainOf, leadLenOf};
 ghost use Rattle.arith.specs.Angle.{octant, atan2Of};
 ghost use Rattle.arith.specs.Carry.{boundOf, roundedOf, remainderOf, betweenOf, carriedAt, widthBy};
-
-// ---- bit patterns
-
-// The float of a pattern: each pattern of a NaN gives the one NaN.
-pub fn f32_of_bits(n: u32) -> f32
-    ensures { λ r. ⌜ r ≡ Ieee.ofBits binary32 n ⌝ }
-{
-    if 0x7f80_0000 < n % 0x8000_0000 {
-        return 0.0 / 0.0;
-    }
-    f32::from_bits(n)
-}
-
-pub fn f64_of_bits(n: u64) -> f64
-    ensures { λ r. ⌜ r ≡ Ieee.ofBits binary64 n ⌝ }
-{
-    if 0x7ff0_0000_0000_0000 < n % 0x8000_0000_0000_0000 {
-        return 0.0 / 0.0;
-    }
-    f64::from_bits(n)
-}
-
-// The pattern of a float: a NaN's is the quiet one with no other digit set.
-pub fn bits_of_f32(x: f32) -> u32
-    ensures { λ r. ⌜ r ≡ Ieee.toBits binary32 x ⌝ }
-{
-    if x != x {
-        return 0x7fc0_0000;
-    }
-    f32::to_bits(x)
-}
-
-pub fn bits_of_f64(x: f64) -> u64
-    ensures { λ r. ⌜ r ≡ Ieee.toBits binary64 x ⌝ }
-{
-    if x != x {
-        return 0x7ff8_0000_0000_0000;
-    }
-    f64::to_bits(x)
-}
-
-// ---- change of width and rounding to integral
-
-// v / u to the nearest whole number, a tie to the even one.
-fn closest_div(v: u64, u: u64) -> u64
-    requires { ⌜ (v < 0x8000_0000_0000_0000) × (0 < u) ⌝ }
-    ensures { λ r. ⌜ r ≡ closest v u ⌝ }
-{
-    let q = v / u;
-    let rest = v % u;
-    let over = u - rest;
-    if rest < over {
-        q
-    } else if over < rest {
-        q + 1
-    } else {
-        q + q % 2
-    }
-}
-
-// 2^j.
-fn power(j: u64) -> u64
-    requires { ⌜ j < 64 ⌝ }
-    ensures { λ r. ⌜ r ≡ 2 ^ j ⌝ }
-{
-    1u64 << j
-}
-
-// The bits below the sign of the f32 nearest to the f64 that has the exponent's field e and the
-// digits t: what is right for one sign is right for both.
-fn narrow_fields(e: u64, t: u64) -> u32
-    requires { ⌜ (e ≤ 2047) × (t < 0x10_0000_0000_0000) × (e ≡ 2047 → t ≡ 0) ⌝ }
-    ensures { λ r. ⌜ ((s : Bool) → Ieee.ofBits binary32 (cond s 0x8000_0000 0 + r) ≡ narrowOf (Ieee.ofFields binary64 s e t)) × (r ≤ 0x7f80_0000) ⌝ }
-{
-    if e < 872 {
-        return 0;
-    }
-    if 1150 < e {
-        return 0x7f80_0000;
-    }
-    let d = 0x10_0000_0000_0000 + t;
-    if e < 897 {
-        closest_div(d, power(926 - e)) as u32
-    } else {
-        ((e - 897) * 0x80_0000 + closest_div(d, 0x2000_0000)) as u32
-    }
-}
-
-// x at the narrower format, rounded to nearest, a tie to even.
-pub fn narrow(x: f64) -> f32
-    ensures { λ r. ⌜ r ≡ narrowOf x ⌝ }
-{
-    if x != x {
-        return 0.0 / 0.0;
-    }
-    let b = f64::to_bits(x);
-    let e = b % 0x8000_0000_0000_0000 / 0x10_0000_0000_0000;
-    let t = b % 0x10_0000_0000_0000;
-    let r = narrow_fields(e, t);
-    if b < 0x8000_0000_0000_0000 {
-        f32::from_bits(r)
-    } else {
-        f32::from_bits(0x8000_0000 + r)
-    }
-}
-
-// The magnitude of the f64 that has the exponent's field e and the digits t, to the nearest whole
-// number, a tie to the upper one, for magnitudes below 2^52.
-fn whole_fields(e: u64, t: u64) -> u64
-    requires { ⌜ (e < 1075) × (t < 0x10_0000_0000_0000) ⌝ }
-    ensures { λ r. ⌜ ((s : Bool) → roundOf (Ieee.ofFields binary64 s e t) ≡ Ieee.round binary64 s r 1) × (r ≤ 0x20_0000_0000_0000) ⌝ }
-{
-    if e < 1022 {
-        return 0;
-    }
-    let u = power(1075 - e);
-    (2 * (0x10_0000_0000_0000 + t) + u) / (2 * u)
-}
-
-// x to the nearest whole number, a tie away from zero; a zero keeps x's sign.
-pub fn round(x: f64) -> f64
-    ensures { λ r. ⌜ r ≡ roundOf x ⌝ }
-{
-    if x != x {
-        return x;
-    }
-    let b = f64::to_bits(x);
-    let e = b % 0x8000_0000_0000_0000 / 0x10_0000_0000_0000;
-    if 1075 <= e {
-        return x;
-    }
-    let r = whole_fields(e, b % 0x10_0000_0000_0000) as f64;
-    if b < 0x8000_0000_0000_0000 { r } else { -r }
-}
-
-// x at the wider format, which holds each f32.
-pub fn widen(x: f32) -> f64
-    ensures { λ r. ⌜ r ≡ widenOf x ⌝ }
-{
-    std::num::f32_to_f64_with_nan(x)
-}
-
-// ---- square root, in the standard's order: special operands, the exact result, the rounding
-
-// What is answered with no root taken, if anything is.
-pub struct Answer {
-    pub given: bool,
-    pub root: f32,
-}
-
-// The first step. A NaN (IEEE 754-2019, 6.2), a zero with its sign (6.3) and plus infinity (6.1) are their
-// own roots, and for what is below zero the operation is invalid: a NaN (7.2).
-fn special(x: f32) -> Answer
-    ensures { λ r. ⌜ answered r ≡ specialOf x ⌝ }
-{
-    let own = Answer {
-        given: true,
-        root: x,
-    };
-    if x != x {
-        return own;
-    }
-    if x == 0.0 {
-        return own;
-    }
-    if x == f32::from_bits(0x7f80_0000) {
-        return own;
-    }
-    if x < 0.0 {
-        let zero = 0.0f32;
-        return Answer {
-            given: true,
-            root: zero / zero,
-        };
-    }
-    Answer {
-        given: false,
-        root: x,
-    }
-}
-
-// The exact root of a positive number: its 25 digits, whether it has more, and the power.
-pub struct Exact {
-    pub root: u32,
-    pub more: bool,
-    pub power: u32,
-}
-
-// The largest whole number whose square is at most n: from the table's first digits, one more than
-// those, two steps of Newton's, (g + n / g) / 2. They end at that number or at the next one.
-fn whole_root(n: u64) -> u64
-    requires { ⌜ InRange n ⌝ }
-    ensures { λ r. ⌜ IsRoot n r ⌝ }
-{
-    let d = table::first_digits(n / 0x100_0000_0000) as u32 + 1;
-    let g = (d * 0x1_0000 + (n / 0x4_0000) as u32 / d) as u64;
-    let h = (g + n / g) / 2;
-    if n < h * h { h - 1 } else { h }
-}
-
-// The exact root of a * 2 ^ k of 4 ^ -75, brought by a power of 4 to 2 ^ 48 or more and below 2 ^ 50.
-fn exact_of(a: u32, k: u32) -> Exact
-    requires { ⌜ (0 < a) × (a < 2 ^ 24) × (k < 255) ⌝ }
-    ensures { λ r. ⌜ r ≡ exactOf (a * 2 ^ k) ⌝ }
-{
-    let s = 32 - u32::leading_zeros(a);
-    let p = (s + k + 1) / 2;
-    let n = (a as u64) << (50 + k - (p + p));
-    let r = whole_root(n);
-    Exact {
-        root: r as u32,
-        more: r * r < n,
-        power: p,
-    }
-}
-
-// The second step, for a finite number above zero, by its digits and its exponent.
-fn exact_root(x: f32) -> Exact
-    requires { ⌜ T (positive x) ⌝ }
-    ensures { λ r. ⌜ r ≡ exactOf (scaled x) ⌝ }
-{
-    let b = f32::to_bits(x);
-    let f = b / 0x80_0000;
-    let t = b % 0x80_0000;
-    if f == 0 {
-        exact_of(t, 1)
-    } else {
-        exact_of(t + 0x80_0000, f)
-    }
-}
-
-// The third step: to the nearest f32, ties to even (4.3.1), from the root's 25 digits, whether it has
-// more, and the power alone.
-fn round_exact(root: u32, more: bool, power: u32) -> f32
-    requires { ⌜ (2 ^ 24 ≤ root) × (root < 2 ^ 25) × (power ≤ 200) ⌝ }
-    ensures { λ r. ⌜ r ≡ roundExact root more power ⌝ }
-{
-    let base = (power + 50) * 0x80_0000;
-    if more {
-        return f32::from_bits(base + (root + 1) / 2);
-    }
-    f32::from_bits(base + (root + root / 2 % 2) / 2)
-}
-
-// The square root of x.
-pub fn sqrt(x: f32) -> f32
-    ensures { λ r. ⌜ r ≡ sqrtOf x ⌝ }
-{
-    let s = special(x);
-    if s.given {
-        return s.root;
-    }
-    let e = exact_root(x);
-    round_exact(e.root, e.more, e.power)
-}
 
 // ---- what the Rust takes from its language and libraries
 
@@ -296,7 +36,7 @@ pub fn abs64(x: f64) -> f64
 pub fn midpoint(a: f32, b: f32) -> f32
     ensures { λ r. ⌜ r ≡ midpointOf a b ⌝ }
 {
-    narrow((widen(a) + widen(b)) / 2.0)
+    ieee::narrow((ieee::widen(a) + ieee::widen(b)) / 2.0)
 }
 
 // +0 below 2^-126 in magnitude, which is 1.1754943508222875e-38.
@@ -436,7 +176,7 @@ pub fn cross(prev: f32, cur: f32, thr: f32) -> f64
 {
     let d = cur - prev;
     if 0.0 < abs(d) {
-        let q = widen((thr - prev) / d);
+        let q = ieee::widen((thr - prev) / d);
         if q < 0.0 {
             0.0
         } else if 1.0 < q {
@@ -502,14 +242,14 @@ pub fn edge(idx: u64, frac: f64) -> f64
 pub fn step_of(t: f64) -> u64
     ensures { λ r. ⌜ r ≡ stepOf t ⌝ }
 {
-    to_u64(round(t))
+    to_u64(ieee::round(t))
 }
 
 // A width in whole steps: rounded, at least 0, at most the largest u32.
 pub fn whole(x: f64) -> u32
     ensures { λ r. ⌜ r ≡ wholeOf x ⌝ }
 {
-    to_u32(round(x))
+    to_u32(ieee::round(x))
 }
 
 // Each unit is a type of its own: whole steps, and 64ths of a step.
@@ -617,7 +357,7 @@ pub fn width_by(carry: u32, origin: f64, before: u64, a: f64, b: f64) -> Carried
 pub fn fsk_width(a: f64, b: f64) -> Steps
     ensures { λ r. ⌜ r ≡ fskWidthOf a b ⌝ }
 {
-    Steps(whole(round(b) - round(a)))
+    Steps(whole(ieee::round(b) - ieee::round(a)))
 }
 
 // 1 / e^2 rounded up to a power of two, by the exponent's field alone; 0 unless e^2 exceeds 1e-30.

@@ -4,8 +4,8 @@ use mathlib.Core.Bool.{Bool, cond}
 use mathlib.Core.List.{List}
 use lib.Dec.{eqb}
 use lib.Ieee.{Float}
-use Rattle.ook.specs.Answers.{isStayOf}
-use Rattle.ook.specs.declared.Settings.{Settings}
+use Rattle.types.specs.Answers.{isStayOf}
+use Rattle.types.specs.declared.Settings.{Settings}
 use Rattle.ook.specs.declared.Done.{Done}
 use Rattle.fsk.specs.declared.Frame.{Frame}
 use Rattle.presence.specs.Presence.{snapOf, presenceOf}
@@ -13,13 +13,13 @@ use Rattle.presence.specs.declared.Pres.{Pres}
 use Rattle.presence.specs.declared.Inputs.{Inputs}
 use Rattle.presence.specs.declared.Snapped.{Snapped}
 use Rattle.presence.specs.declared.Present.{Present}
-use Rattle.stages.specs.See.{seeOf}
-use Rattle.stages.specs.Act.{actOf}
-use Rattle.stages.specs.Tail.{tailOf}
-use Rattle.stages.specs.declared.At.{At}
-use Rattle.stages.specs.declared.Seen.{Seen}
-use Rattle.stages.specs.declared.Acted.{Acted}
-use Rattle.stages.specs.declared.Absence.{Absence}
+use Rattle.envelope.specs.See.{seeOf}
+use Rattle.envelope.specs.Act.{actOf}
+use Rattle.envelope.specs.Tail.{tailOf}
+use Rattle.envelope.specs.declared.At.{At}
+use Rattle.envelope.specs.declared.Seen.{Seen}
+use Rattle.envelope.specs.declared.Acted.{Acted}
+use Rattle.envelope.specs.declared.Absence.{Absence}
 use Rattle.burst.specs.Makers.{withActed, bodyIn, withBody, withTrain}
 use Rattle.burst.specs.declared.Burst.{Burst}
 use Rattle.burst.specs.declared.Sampled.{Sampled}

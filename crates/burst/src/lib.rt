@@ -7,30 +7,30 @@ ghost use Rattle.burst.specs.Lead.{largestOf, beginBurstOf};
 ghost use Rattle.burst.specs.Core.{wholeBurst, wholeSampled, besideOf, atInOf, samplesOf};
 ghost use Rattle.fsk.specs.Core.{wholeFrame};
 ghost use Rattle.ook.specs.Core.{wholeDone};
-ghost use Rattle.stages.specs.Core.{wholeActed};
-ghost use Rattle.frame.specs.Core.{wholeBody};
+ghost use Rattle.envelope.specs.Core.{wholeActed};
+ghost use Rattle.frame_end.specs.Core.{wholeBody};
 ghost use Rattle.presence.specs.Core.{wholeSnapped};
 ghost use mathlib.Core.List.{List};
 ghost use lib.Ieee.{Float};
 ghost use mathlib.Core.Bool.{cond};
 use arith::C32;
-use frame::BodyCore;
+use frame_end::BodyCore;
 use fsk::Frame;
 use fsk::FrameCore;
 use ook::DoneCore;
 use ook::Env;
-use ook::Next;
-use ook::Out;
-use ook::OutCore;
-use ook::Settings;
+use types::Next;
+use types::Out;
+use types::OutCore;
+use types::Settings;
 use ook::Train;
 use presence::Inputs;
 use presence::Pres;
 use presence::SnappedCore;
-use stages::Absence;
-use stages::ActedCore;
-use stages::At;
-use stages::Seen;
+use envelope::Absence;
+use envelope::ActedCore;
+use envelope::At;
+use envelope::Seen;
 
 // The burst under way; what an earlier burst left stands in it too.
 pub struct Burst {
@@ -226,7 +226,7 @@ fn rest(
     let w = present(p, a, ep, s, b, cs, ook, fsk);
     let next = w.next;
     let n = w.burst;
-    let stay = ook::is_stay(next);
+    let stay = types::is_stay(next);
     if stay {
         let run = n.env.run;
         let absence = Absence {
@@ -236,7 +236,7 @@ fn rest(
         };
         let train = n.train;
         let out = n.out_ook;
-        let d = stages::tail(p, s.on, a.e, run, absence, n.high, train, out, ook);
+        let d = envelope::tail(p, s.on, a.e, run, absence, n.high, train, out, ook);
         return with_done(n, d);
     }
     w
@@ -255,16 +255,16 @@ pub fn sample(
 {
     let env = b.env;
     let pac = b.pac;
-    let s = stages::see(p, a, ring, b.high, b.e_prev, env, pac);
+    let s = envelope::see(p, a, ring, b.high, b.e_prev, env, pac);
     let pres = b.pres;
     let frame = b.frame;
     let n = snap_if(s.began, s.on, s.env.times.c_run, pres, frame);
     let t = b.train;
     let o = b.out_ook;
-    let d = stages::act(p, s, t, o, ook);
+    let d = envelope::act(p, s, t, o, ook);
     let next = d.next;
     let c = with_acted(a.e, s, n, d, b);
-    let stay = ook::is_stay(next);
+    let stay = types::is_stay(next);
     if stay {
         return rest(p, a, b.e_prev, s, c, cs, ook, fsk);
     }
@@ -372,7 +372,7 @@ pub fn samples(
         let r = sample(p, a, ring, cur, cs, ook, fsk);
         next = r.next;
         cur = r.burst;
-        let stay = ook::is_stay(next);
+        let stay = types::is_stay(next);
         if !stay {
             break;
         }

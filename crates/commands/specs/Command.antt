@@ -7,7 +7,7 @@ use lib.Dec.{eqb, ltb}
 use Rattle.arith.specs.declared.C32.{C32}
 unfoldable pub use Rattle.words.specs.Words.{u32At, u64At}
 pub use Rattle.words.specs.Words.{f32At}
-use Rattle.ook.specs.declared.Settings.{Settings}
+use Rattle.types.specs.declared.Settings.{Settings}
 use Rattle.lane.specs.declared.BeginArgs.{BeginArgs}
 use Rattle.lane.specs.declared.StepArgs.{StepArgs}
 use Rattle.lane.specs.declared.History.{History}

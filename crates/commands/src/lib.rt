@@ -11,7 +11,7 @@ use arith::C32;
 use lane::BeginArgs;
 use lane::History;
 use lane::StepArgs;
-use ook::Settings;
+use types::Settings;
 
 pub enum Command {
     // Nothing is left.

@@ -1,15 +1,12 @@
 -- What feeding a program's bytes to the lane says, and that feed after feed prints the lines of the whole stream.
 use Prim.Native.Nat.{ℕ, _≤_}
-use mathlib.Core.Bool.{Bool, true, false, not, _&&_, _||_}
-use mathlib.Core.Path.{_≡_, refl, sym, _∙_, ap, subst}
-use mathlib.Core.Logic.{_⊎_, inl, inr}
-use mathlib.Core.List.{List, [], _++_}
+use mathlib.Core.Bool.{Bool, not, _&&_, _||_}
+use mathlib.Core.Path.{_≡_}
+use mathlib.Core.List.{List}
 use lib.ListN.{length, take, drop}
-use Rattle.commands.specs.Command.{decoded}
-use Rattle.turns.specs.declared.Ran.{Ran}
-use Rattle.turns.specs.Turn.{State, waits}
-use Rattle.turns.specs.Stream.{May, Streamed, Stopped, ends, waiting, no-room, all-used}
-use Rattle.turns.specs.Blocks.{Blocks, more, Over}
+use Rattle.calls.specs.declared.Ran.{Ran}
+use Rattle.calls.specs.Turn.{State}
+use Rattle.calls.specs.Stream.{Streamed}
 use Rattle.feed.specs.declared.Fed.{Fed}
 
 -- the bytes s are a block, of which the text y has the lines; what no command has taken is at the front of the buffer b; and the stream is
@@ -22,59 +19,3 @@ pub record Feeds (p : State) (s : List ℕ) (last : Bool) (f : Fed) (q : State) 
   pub at-is : f .at ≡ ran .at
   pub full-is : f .full ≡ ran .full
   pub done-is : f .done ≡ (ran .ended || (last && not (ran .full)))
-
--- by the block of the bytes s, which are t
-pub feeds-made : (p q : State) (s t b y : List ℕ) (last : Bool) (r : Ran) (f : Fed) → s ≡ t → Streamed p s last r q y → f .left ≤ length b → take (f .left) b ≡ drop (r .used) s
-    → f .at ≡ r .at → f .full ≡ r .full → f .done ≡ (r .ended || (last && not (r .full))) → Feeds p t last f q b y
-feeds-made p q s t b y last r f e run inside kept at full done =
-    record {
-      ran = r;
-      block = subst (λ (u : List ℕ). Streamed p u last r q y) e run;
-      inside = inside;
-      kept = kept ∙ ap (drop (r .used)) e;
-      at-is = at;
-      full-is = full;
-      done-is = done;
-    }
-
--- one block more
-pub feeds-more : {p q o : State} {last end : Bool} {u w v c b y : List ℕ} {f : Fed}
-    → Blocks p last false u w q v → May last c → (last ≡ true → end ≡ true) → (g : Feeds q (v ++ c) end f o b y)
-    → Blocks p end (g .ran .ended) (u ++ c) (w ++ take (f .at) y) o (take (f .left) b)
-feeds-more {p = p} {o = o} {end = end} {u = u} {w = w} {c = c} {b = b} {y = y} {f = f} before came on g =
-    subst (λ (n : ℕ). Blocks p end (g .ran .ended) (u ++ c) (w ++ take n y) o (take (f .left) b)) (sym (g .at-is)) (more before came on (g .block) (g .kept))
-
--- the tests of `done`
-either-true : (a b : Bool) → (a || b) ≡ true → (a ≡ true) ⊎ (b ≡ true)
-either-true true b h = inl refl
-either-true false b h = inr h
-
-both : (a b : Bool) → (a && not b) ≡ true → (a ≡ true) × (b ≡ false)
-both true true h = (refl, let z : _≡_ {A = Bool} false true = h in cc)
-both true false h = (refl, refl)
-both false b h = (h, let z : _≡_ {A = Bool} false true = h in cc)
-
-either-false : (a b : Bool) → (a || b) ≡ false → a ≡ false
-either-false true b h = h
-either-false false b h = refl
-
--- where a feed says that the stream is over, it is
-pub feeds-over : {p q : State} {s b y : List ℕ} {last : Bool} {f : Fed} (g : Feeds p s last f q b y) → f .done ≡ true → Over last (g .ran .ended) (take (f .left) b)
-feeds-over {q = q} {s = s} {b = b} {y = y} {last = last} {f = f} g d = go (either-true (g .ran .ended) (last && not (g .ran .full)) (sym (g .done-is) ∙ d))
-  where
-    used : last ≡ true → g .ran .full ≡ false → Stopped s last (g .ran) q y → g .ran .ended ≡ false → drop (g .ran .used) s ≡ []
-    used e n (ends a k w z) h = let x : _≡_ {A = Bool} true false = sym a ∙ h in cc
-    used e n (waiting a k w) h = all-used _ (subst (λ (l : Bool). waits l (decoded (drop (g .ran .used) s)) ≡ true) e w)
-    used e n (no-room a k w z) h = let x : _≡_ {A = Bool} true false = sym k ∙ n in cc
-
-    split : (d : Bool) → g .ran .ended ≡ d → (last ≡ true) × (g .ran .full ≡ false) → Over last (g .ran .ended) (take (f .left) b)
-    split true e h = inl e
-    split false e h = inr (h .0, g .kept ∙ used (h .0) (h .1) (g .block .stopped) e)
-
-    go : (g .ran .ended ≡ true) ⊎ ((last && not (g .ran .full)) ≡ true) → Over last (g .ran .ended) (take (f .left) b)
-    go (inl h) = inl h
-    go (inr h) = split (g .ran .ended) refl (both last (g .ran .full) h)
-
--- where it says that it is not, the block did not end it
-pub feeds-on : {p q : State} {s b y : List ℕ} {last : Bool} {f : Fed} (g : Feeds p s last f q b y) → f .done ≡ false → g .ran .ended ≡ false
-feeds-on {last = last} g d = either-false (g .ran .ended) (last && not (g .ran .full)) (sym (g .done-is) ∙ d)

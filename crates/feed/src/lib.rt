@@ -46,8 +46,8 @@ pub fn feed(
     requires { ⌜ Sound lane ⌝ }
     ensures { λ r. ⌜ Feeds (lane, now (ook .entry), now (fsk .entry)) (take end (now (buf .entry))) last r (r .lane, now (ook .exit), now (fsk .exit)) (now (buf .exit)) (now (text .exit)) ⌝ }
 {
-    let n = turns::smaller(end, buf.len());
-    let r = turns::block(lane, &buf[..n], last, ook, fsk, text);
+    let n = calls::smaller(end, buf.len());
+    let r = calls::block(lane, &buf[..n], last, ook, fsk, text);
     let next = r.lane;
     let left = shift(buf, r.used, n);
     Fed {

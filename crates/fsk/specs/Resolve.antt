@@ -1,14 +1,13 @@
 -- `begin_frame` and `fsk_resolve` (source document 000): a frame begins; its first transition gives the two levels and the end of the first run.
-use Prim.Native.Nat.{ℕ, zero, suc, min, _+_, _-_, _%_, _^_, _<_, _≤_}
-use mathlib.Core.Bool.{Bool, true, false, cond, not}
-use mathlib.Core.Path.{_≡_, _∙_}
+use Prim.Native.Nat.{ℕ, zero, suc, min, _+_, _-_, _%_, _^_}
+use mathlib.Core.Bool.{Bool, false, cond, not}
 use mathlib.Core.List.{List}
-use native.Mathlib.Omega.{arith}
 use lib.ListN.{getD}
 use lib.Dec.{ltb, leb, eqb}
 use lib.Ieee.{Float, nan, binary32, binary64, add, sub, mul, div, lt, le, ofBits}
-use Rattle.arith.specs.Leaves.{zero32, one32, midpointOf, edgeOf, crossOf, absOf}
-use Rattle.ook.specs.Counts.{bit, zeroC32}
+use Rattle.ieee.specs.Constants.{zero32, one32}
+use Rattle.arith.specs.Leaves.{midpointOf, edgeOf, crossOf, absOf}
+use Rattle.types.specs.Counts.{bit, zeroC32}
 use Rattle.fsk.specs.Commit.{fskCommitOf}
 use Rattle.fsk.specs.Makers.{committedOf, runsOf, ranOf, ranBy, levelsOf, meanOf, candOf, earlyOf, frameOf, withRan}
 use Rattle.fsk.specs.declared.Committed.{Committed}
@@ -134,19 +133,3 @@ resolveAt «max_pulses» «fsk_min» fr f idx «first_upper» l fsk =
 unfoldable pub fskResolveOf : ℕ → ℕ → Frame → Float → ℕ → List ℕ → Frame × List ℕ
 fskResolveOf «max_pulses» «fsk_min» fr f idx fsk =
     resolveAt «max_pulses» «fsk_min» fr f idx (lt f (fr .mean .«f_ref»)) (hiLoOf (lt f (fr .mean .«f_ref»)) (fr .mean .«f_ref») f) fsk
-
--- one turn of the search, and its end
-module _ (up : Bool) (thr : Float) (cs : List Float) (other n : ℕ) where
-  pub first-turn : (j : ℕ) (over : Bool) → j < n → over ≡ pastOf up (getD cs j nan) thr → firstPastOf up thr cs other (n - j) j ≡ cond over j (firstPastOf up thr cs other (n - (j + 1)) (j + 1))
-  unfolding firstPastOf
-  first-turn j over h q = let e : n - j ≡ suc (n - (j + 1)) = omega arith in rw (e, q)
-
-  pub first-found : (j : ℕ) (over : Bool) → j < n → over ≡ pastOf up (getD cs j nan) thr → over ≡ true → firstPastOf up thr cs other (n - j) j ≡ j
-  first-found j over h q t = first-turn j over h q ∙ rw t
-
-  pub first-next : (j : ℕ) (over : Bool) → j < n → over ≡ pastOf up (getD cs j nan) thr → over ≡ false → firstPastOf up thr cs other (n - j) j ≡ firstPastOf up thr cs other (n - (j + 1)) (j + 1)
-  first-next j over h q t = first-turn j over h q ∙ rw t
-
-  pub first-end : (j : ℕ) → n ≤ j → firstPastOf up thr cs other (n - j) j ≡ other
-  unfolding firstPastOf
-  first-end j h = let e : n - j ≡ 0 = omega arith in rw e

@@ -4,7 +4,7 @@ use mathlib.Core.Bool.{Bool, cond, not}
 use mathlib.Core.List.{List}
 use lib.Dec.{leb, eqb}
 use lib.Ieee.{Float}
-use Rattle.ook.specs.Counts.{satAddOf, bit}
+use Rattle.types.specs.Counts.{satAddOf, bit}
 use Rattle.fsk.specs.Commit.{fskCommitOf}
 use Rattle.fsk.specs.Makers.{runsOf, withLength, withConfirmed, ranOf, ranBy}
 use Rattle.fsk.specs.declared.Committed.{Committed}

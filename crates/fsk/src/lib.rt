@@ -127,7 +127,7 @@ fn count_run(c: Committed, a: f64) -> Committed
     ensures { λ r. ⌜ r ≡ countRunOf c a ⌝ }
 {
     let o = origin_of(c.fsk_runs, a, c.f_origin);
-    let n = ook::inc(c.fsk_runs);
+    let n = types::inc(c.fsk_runs);
     let mut d = c;
     d.f_origin = o;
     d.fsk_runs = n;
@@ -139,7 +139,7 @@ pub fn put_end(fsk: &mut [u32], i: usize, origin: f64, t: f64)
     ensures { λ _. ⌜ now (fsk .exit) ≡ putEndOf (now (fsk .entry)) i origin t ⌝ }
 {
     let v = arith::run_fix(t - origin);
-    ook::put(fsk, i, v.0);
+    types::put(fsk, i, v.0);
 }
 
 fn upper_run(max: u32, c: Committed, b: f64, fsk: &mut [u32]) -> Committed
@@ -163,7 +163,7 @@ fn close_pair(c: Committed, b: f64, fsk: &mut [u32]) -> Committed
     ensures { λ r. ⌜ (r, now (fsk .exit)) ≡ closePairOf c b (now (fsk .entry)) ⌝ }
 {
     put_end(fsk, 2 * (c.fsk_n as usize) + 1, c.f_origin, b);
-    let n = ook::inc(c.fsk_n);
+    let n = types::inc(c.fsk_n);
     let mut d = c;
     d.fsk_n = n;
     d.fsk_open = 0;
@@ -210,7 +210,7 @@ pub fn fsk_commit(max: u32, c: Committed, upper: bool, a: f64, b: f64, fsk: &mut
 pub fn lengthen(r: Runs) -> Runs
     ensures { λ s. ⌜ s ≡ lengthenOf r ⌝ }
 {
-    let n = ook::sat_add(r.fsk_run, 1);
+    let n = types::sat_add(r.fsk_run, 1);
     let mut q = r;
     q.fsk_run = n;
     q
@@ -219,7 +219,7 @@ pub fn lengthen(r: Runs) -> Runs
 fn rejoin(r: Runs, level: u32) -> Runs
     ensures { λ s. ⌜ s ≡ rejoinOf r level ⌝ }
 {
-    let n = ook::sat_add(ook::sat_add(r.fsk_prev, r.fsk_run), 1);
+    let n = types::sat_add(types::sat_add(r.fsk_prev, r.fsk_run), 1);
     let mut q = r;
     q.fsk_level = level;
     q.fsk_run = n;
@@ -286,7 +286,7 @@ pub fn fsk_run_step(
 ) -> Ran
     ensures { λ s. ⌜ (s, now (fsk .exit)) ≡ fskRunStepOf max «fsk_min» r c upper (edgeOf idx (crossOf fp f thr)) (now (fsk .entry)) ⌝ }
 {
-    let level = ook::bit(upper);
+    let level = types::bit(upper);
     let same = level == r.fsk_level;
     if same {
         let q = lengthen(r);
@@ -445,7 +445,7 @@ fn turn_at(first_upper: bool, thr: f32, c: CandCore, f: f32, idx: u64, cs: &[f32
     let second = sat_sub32(c.fsk_cand, j);
     let before = before_of(cs, c.cand_before, j);
     let at = cand_at(cs, j, f);
-    let sample = ook::sat_sub(std::num::wrapping_add_u64(idx, 1), second as u64);
+    let sample = types::sat_sub(std::num::wrapping_add_u64(idx, 1), second as u64);
     let tc = arith::edge(sample, arith::cross(before, at, thr));
     Turn { tc, second }
 }
@@ -522,7 +522,7 @@ fn second_run(
 ) -> Runs
     ensures { λ r. ⌜ r ≡ secondRunOf «first_upper» run t from confirmed «has_prev» ⌝ }
 {
-    let level = ook::bit(!first_upper);
+    let level = types::bit(!first_upper);
     let prev = sat_sub32(run, t.second);
     Runs {
         ft_run: t.tc,

@@ -7,7 +7,8 @@ use lib.Dec.{T, ltb, eqb}
 use lib.Ieee.Bits.{ofBits-toBits}
 use borrow.Author.Tests.{eqb-true}
 use lib.Ieee.{Float, binary64, fits, ofBits, toBits, add, sub, mul, div, lt, le}
-use Rattle.arith.specs.Leaves.{absOf, zero64}
+use Rattle.arith.specs.Leaves.{absOf}
+use Rattle.ieee.specs.Constants.{zero64}
 use Rattle.grid.specs.Slots.{lastRise, upTo, transitionsOf, fold}
 use Rattle.grid.specs.Fit.{symbolsOf, kAfter, runTol, runNear, runAfter, fitOf, checkOf, checkLine, secondOf, gridFitOf}
 use Rattle.grid.specs.Widths.{oneSymbol, addedOf, meanAfter, betterOf, triedOf, tryAfter, tryStep, firstTry, searchOf, gridOf, runsOf, measuredOf, endOf, clockOf, onGridOf, atStart, widthsOn, fskWidthsOf}

@@ -15,9 +15,10 @@ use lib.Ieee as Ieee
 use lib.Ieee.Exact.{HasValue, round-exact}
 use lib.Ieee.Fits.{down-pos}
 use lib.Ieee.Scale.{round-same}
-use Rattle.arith.specs.Rounding.{roundOf, halfUp}
-use Rattle.arith.specs.Leaves.{wholeOf, nearestIn, widthOf, zero64}
-use Rattle.arith.proofs.HalfUp.{roundOf-at}
+use Rattle.ieee.specs.Rounding.{roundOf, halfUp}
+use Rattle.arith.specs.Leaves.{wholeOf, nearestIn, widthOf}
+use Rattle.ieee.specs.Constants.{zero64}
+use Rattle.ieee.proofs.HalfUp.{roundOf-at}
 use Rattle.grid.specs.Slots.{timeOf, fix, slotBefore, transitionsOf}
 use Rattle.grid.specs.Widths.{measuredOf, placeOf, onGridOf, atStart, runsOf, gridOf, widthsOn, fskWidthsOf}
 use Rattle.grid.specs.declared.Clock.{Clock}

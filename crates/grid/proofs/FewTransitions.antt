@@ -6,7 +6,7 @@ use native.Mathlib.Omega.{arith}
 use lib.ListN.{length}
 use lib.Ieee.{Float}
 use borrow.Author.Tests.{lt-leb}
-use Rattle.arith.specs.Leaves.{zero64}
+use Rattle.ieee.specs.Constants.{zero64}
 use Rattle.grid.specs.Slots.{transitionsOf, fold}
 use Rattle.grid.specs.Widths.{runsStep, runsOf, noRuns, gridOf, measuredOf, widthsOn, fskWidthsOf}
 use Rattle.grid.specs.declared.Runs.{Runs}

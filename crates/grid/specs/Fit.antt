@@ -5,8 +5,9 @@ use mathlib.Core.Path.{_≡_}
 use Prim.Native.Nat.{ℕ, _≤_}
 use lib.ListN.{length}
 use lib.Ieee.{Float, binary64, add, sub, mul, div, lt, le, ofBits}
-use Rattle.arith.specs.Rounding.{roundOf}
-use Rattle.arith.specs.Leaves.{absOf, maxOf, zero64, one64}
+use Rattle.ieee.specs.Rounding.{roundOf}
+use Rattle.arith.specs.Leaves.{absOf, maxOf}
+use Rattle.ieee.specs.Constants.{zero64, one64}
 use Rattle.grid.specs.Slots.{upTo, fold}
 use Rattle.grid.specs.declared.Prev.{Prev}
 use Rattle.grid.specs.declared.Prev.the-variants.{Unset, At}

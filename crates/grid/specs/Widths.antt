@@ -5,8 +5,9 @@ use mathlib.Core.List.{List, [], _∷_}
 use lib.ListN.{length, getD}
 use lib.Dec.{ltb, leb, eqb}
 use lib.Ieee.{Float, binary64, add, sub, mul, div, lt, ofBits}
-use Rattle.arith.specs.Rounding.{roundOf}
-use Rattle.arith.specs.Leaves.{minOf, widthOf, zero64, one64}
+use Rattle.ieee.specs.Rounding.{roundOf}
+use Rattle.arith.specs.Leaves.{minOf, widthOf}
+use Rattle.ieee.specs.Constants.{zero64, one64}
 use Rattle.grid.specs.Slots.{timeOf, fix, transitionsOf, fold}
 use Rattle.grid.specs.Fit.{symbolsOf, kAfter, sumsOf, gridFitOf}
 use Rattle.grid.specs.declared.Prev.{Prev}

@@ -7,7 +7,7 @@ ghost use Prim.Native.Nat.{_+_, _<_, _≤_};
 ghost use lib.ListN.{length};
 ghost use lib.Dec.{ltb, eqb};
 ghost use lib.Ieee.{binary64, toBits};
-ghost use Rattle.arith.specs.Leaves.{zero64};
+ghost use Rattle.ieee.specs.Constants.{zero64};
 ghost use Rattle.grid.specs.Slots.{timeOf, slotBefore, lastRise, upTo, turned};
 ghost use Rattle.grid.specs.Fit.{symbolsOf, kAfter, fitStep, sumsOf, lineWith, lineOf, fitOf, runAfter, checkStep, checkOf, secondOf, Known, gridFitOf};
 ghost use Rattle.grid.specs.Widths.{gridCand, shorterOf, runsStep, runsOf, addedOf, meanAfter, meanStep, meanOf, betterOf, triedOf, tryAfter, tryStep, searchOf, gridOf, endOf, clockOf, placeOf, atStart, onGridOf, measuredOf, fskWidthsOf};
@@ -76,7 +76,7 @@ fn last_rise(slots: &[u32]) -> usize
 fn symbols(d: f64, t: f64) -> f64
     ensures { λ r. ⌜ r ≡ symbolsOf d t ⌝ }
 {
-    arith::max64(arith::round(d / t), 1.0)
+    arith::max64(ieee::round(d / t), 1.0)
 }
 
 // The sums of a fit over the transitions so far; k is the last one's symbol number.
@@ -467,7 +467,7 @@ pub struct Fitted {
 fn same(t: f64, u: f64) -> bool
     ensures { λ r. ⌜ (r ≡ eqb (toBits binary64 t) (toBits binary64 u)) × (r ≡ true → t ≡ u) ⌝ }
 {
-    arith::bits_of_f64(t) == arith::bits_of_f64(u)
+    ieee::bits_of_f64(t) == ieee::bits_of_f64(u)
 }
 
 // The least-squares grid of the transitions for the symbol length guess: every run between two transitions is a whole
@@ -620,7 +620,7 @@ fn measured(slots: &mut [u32])
     let mut before: f64 = 0.0;
     let mut i = 0;
     while i < slots.len() {
-        let r = arith::round(time_of(arith::Fix64(slots[i])));
+        let r = ieee::round(time_of(arith::Fix64(slots[i])));
         slots[i] = arith::width(before, r).0;
         before = r;
         i += 1;
@@ -695,7 +695,7 @@ fn place_at(c: Clock, p: Place, v: u32) -> Place
         let next = seen + 1;
         return Place {
             before_raw: v,
-            before: arith::round((c.lead + k) * c.t),
+            before: ieee::round((c.lead + k) * c.t),
             seen: next,
             k,
             prev: here,
@@ -703,7 +703,7 @@ fn place_at(c: Clock, p: Place, v: u32) -> Place
     }
     Place {
         before_raw: v,
-        before: arith::round(c.stop * c.t),
+        before: ieee::round(c.stop * c.t),
         seen,
         k: p.k,
         prev,

@@ -3,9 +3,9 @@ use Prim.Native.Nat.{ℕ, _+_, _-_, _%_}
 use mathlib.Core.List.{List}
 use lib.ListN.{set, replicate}
 use lib.Ieee.{Float}
-use Rattle.arith.specs.Leaves.{zero32}
+use Rattle.ieee.specs.Constants.{zero32}
 use Rattle.arith.specs.declared.C32.{C32}
-use Rattle.ook.specs.Counts.{zeroC32}
+use Rattle.types.specs.Counts.{zeroC32}
 use Rattle.burst.specs.declared.Burst.{Burst}
 use Rattle.burst.specs.declared.Lead.{Lead}
 use Rattle.lane.specs.declared.History.{History}

@@ -1,14 +1,14 @@
 -- `Lane::default` of the Rust: every number and float is 0. An opening gives this lane with its settings.
 use Prim.Native.Nat.{ℕ}
 use lib.ListN.{replicate}
-use Rattle.arith.specs.Leaves.{zero32, zero64}
-use Rattle.ook.specs.Counts.{zeroC32}
+use Rattle.ieee.specs.Constants.{zero32, zero64}
+use Rattle.types.specs.Counts.{zeroC32}
 use Rattle.ook.specs.Train.{zeroSteps}
-use Rattle.ook.specs.declared.Settings.{Settings}
-use Rattle.ook.specs.declared.Out.{Out}
+use Rattle.types.specs.declared.Settings.{Settings}
+use Rattle.types.specs.declared.Out.{Out}
 use Rattle.ook.specs.declared.Env.{Env}
 use Rattle.ook.specs.declared.Train.{Train}
-use Rattle.ook.specs.declared.Carrier.the-variants.{Angle}
+use Rattle.types.specs.declared.Carrier.the-variants.{Angle}
 use Rattle.fsk.specs.declared.Committed.{Committed}
 use Rattle.fsk.specs.declared.Frame.{Frame}
 use Rattle.fsk.specs.declared.Runs.{Runs}

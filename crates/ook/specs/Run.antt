@@ -7,7 +7,7 @@ use Rattle.arith.specs.declared.C32.{C32}
 use Rattle.ook.specs.declared.Run.{Run}
 use Rattle.ook.specs.declared.Times.{Times}
 use Rattle.ook.specs.declared.Env.{Env}
-use Rattle.ook.specs.Counts.{satAddOf, bit, zeroC32}
+use Rattle.types.specs.Counts.{satAddOf, bit, zeroC32}
 
 -- the makers: a struct from its fields, and with some of its fields changed
 abbrev pub runOf : ℕ → ℕ → ℕ → ℕ → Run

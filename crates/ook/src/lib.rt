@@ -1,82 +1,21 @@
 // The OOK part of the lane: the run of the envelope, its refined edges, and the train of its pulses,
-// each struct by value. What the whole lane shares (settings, answers, records) is declared here.
+// each struct by value.
 ghost use mathlib.Core.Path.{_≡_};
 ghost use Prim.Native.Nat.{_+_, _*_, _-_, _<_, min, max};
-ghost use lib.ListN.{set};
 ghost use Rattle.arith.specs.Leaves.{edgeOf, crossOf};
-ghost use Rattle.ook.specs.Counts.{satAddOf};
-ghost use Rattle.ook.specs.Counts as counts;
-ghost use Rattle.ook.specs.Answers.{nextNumberOf, nextEnvelopeOf, isStayOf, carrierKindOf, carrierFirstOf, carrierSecondOf};
-ghost use Rattle.ook.specs.Core.{carrierIn, wholeOut, numbered, wholeEnded, wholeDone};
-ghost use Rattle.ook.specs.declared.Carrier.the-variants as Carrier;
-ghost use Rattle.ook.specs.Params.{fskMinOf, refineAtOf};
+ghost use Rattle.types.specs.Core.{wholeOut};
+ghost use Rattle.ook.specs.Core.{wholeEnded, wholeDone};
 ghost use Rattle.ook.specs.Run.{lengthenOf, rejoinOf, beginRunOf, beginsOf, advanceOf, zeroIf, pacRunOf, beginEnvOf};
 ghost use Rattle.ook.specs.Refine.{refineLevelOf, refineLoOf, excessOf, bestAt, splitAt, bestSplitOf, refineInOf, refineOf};
 ghost use Rattle.ook.specs.Train.{pushPulseOf, closeGapOf, emptyTrainOf, finishOf, endTrainOf, longerOf, pushedBy, pulseDoneOf, gapRatioExceededOf};
 use arith::C32;
 use arith::Steps;
+use types::Next;
+use types::Out;
+use types::OutCore;
+use types::Settings;
 
-// ---- what the lane shares
-
-// mode: 0 OOK, 1 FSK, 2 Auto. carry: 1 where widths are taken by boundaries.
-pub struct Settings {
-    pub mode: u32,
-    pub min_steps: u32,
-    pub gap_steps: u32,
-    pub pre_timeout: u32,
-    pub long_steps: u32,
-    pub max_pulses: u32,
-    pub alpha: f32,
-    pub gap_ratio: f32,
-    pub fsk_delta: f32,
-    pub fsk_split: f32,
-    pub carry: u32,
-}
-
-// What a call asks for: to stay, to be idle, or to be idle at an envelope.
-pub enum Next {
-    Stay,
-    Idle,
-    IdleAt(f32),
-}
-
-// A record's carrier: an angle, or the two sums whose angle it is, real first.
-pub enum Carrier {
-    Angle(f32),
-    Vector(f32, f32),
-}
-
-// The record of a train or a frame; state is 1 where it decides one, cut is 0 or 1, fsk is its kind. The serial
-// is that of the call that returned it; 0, in a record of no call, matches no lane.
-pub struct Out {
-    pub index: u64,
-    pub end: u64,
-    pub state: u32,
-    pub cut: u32,
-    pub pairs: u32,
-    pub level: f32,
-    pub fsk: u32,
-    pub carrier: Carrier,
-    pub serial: u64,
-}
-
-// The same in the core: the carrier as a number and two floats, which fit between the numbers around them (`carrierIn`).
-pub struct Flat {
-    pub kind: u32,
-    pub first: f32,
-    pub second: f32,
-}
-
-pub struct OutCore {
-    pub index: u64,
-    pub end: u64,
-    pub state: u32,
-    pub cut: u32,
-    pub pairs: u32,
-    pub level: f32,
-    pub fsk: u32,
-    pub carrier: Flat,
-}
+// ---- what the run and the train are
 
 // The run of the envelope.
 pub struct Run {
@@ -144,212 +83,12 @@ pub struct DoneCore {
     pub out: OutCore,
 }
 
-// ---- whole numbers
-
-pub fn sat_add(x: u32, y: u32) -> u32
-    ensures { λ r. ⌜ r ≡ satAddOf x y ⌝ }
-{
-    if x <= 4294967295 - y {
-        return x + y;
-    }
-    4294967295
-}
-
-pub fn sat_sub(x: u64, y: u64) -> u64
-    ensures { λ r. ⌜ r ≡ x - y ⌝ }
-{
-    if y <= x {
-        return x - y;
-    }
-    0
-}
-
-// One more, wrapping: the counts stay far below the limit (`inc-exact`).
-pub fn inc(n: u32) -> u32
-    ensures { λ r. ⌜ r ≡ counts.inc n ⌝ }
-{
-    std::num::wrapping_add_u32(n, 1)
-}
-
-pub fn bit(b: bool) -> u32
-    ensures { λ r. ⌜ r ≡ counts.bit b ⌝ }
-{
-    if b {
-        return 1;
-    }
-    0
-}
-
-// A slot past the end is not written.
-pub fn put(pairs: &mut [u32], i: usize, v: u32)
-    ensures { λ _. ⌜ now (pairs .exit) ≡ set (now (pairs .entry)) i v ⌝ }
-{
-    if i < pairs.len() {
-        pairs[i] = v;
-    }
-}
-
-// ---- document 01's numbers of the two enums
-
-pub fn next_number(n: Next) -> u32
-    ensures { λ r. ⌜ r ≡ nextNumberOf n ⌝ }
-{
-    match n {
-        Next::Stay => 0,
-        Next::Idle => 1,
-        Next::IdleAt(_) => 2,
-    }
-}
-
-pub fn next_envelope(n: Next) -> f32
-    ensures { λ r. ⌜ r ≡ nextEnvelopeOf n ⌝ }
-{
-    match n {
-        Next::Stay => 0.0,
-        Next::Idle => 0.0,
-        Next::IdleAt(e) => e,
-    }
-}
-
-pub fn is_stay(n: Next) -> bool
-    ensures { λ r. ⌜ r ≡ isStayOf n ⌝ }
-{
-    next_number(n) == 0
-}
-
-pub fn carrier_kind(c: Carrier) -> u32
-    ensures { λ r. ⌜ r ≡ carrierKindOf c ⌝ }
-{
-    match c {
-        Carrier::Angle(_) => 1,
-        Carrier::Vector(_, _) => 0,
-    }
-}
-
-pub fn carrier_first(c: Carrier) -> f32
-    ensures { λ r. ⌜ r ≡ carrierFirstOf c ⌝ }
-{
-    match c {
-        Carrier::Angle(a) => a,
-        Carrier::Vector(re, _) => re,
-    }
-}
-
-pub fn carrier_second(c: Carrier) -> f32
-    ensures { λ r. ⌜ r ≡ carrierSecondOf c ⌝ }
-{
-    match c {
-        Carrier::Angle(_) => 0.0,
-        Carrier::Vector(_, im) => im,
-    }
-}
-
-// ---- a carrier in the core, and a record
-
-pub fn angle(x: f32) -> Flat
-    ensures { λ r. ⌜ carrierIn r ≡ Carrier.Angle x ⌝ }
-{
-    Flat {
-        kind: 1,
-        first: x,
-        second: 0.0,
-    }
-}
-
-pub fn vector(re: f32, im: f32) -> Flat
-    ensures { λ r. ⌜ carrierIn r ≡ Carrier.Vector re im ⌝ }
-{
-    Flat {
-        kind: 0,
-        first: re,
-        second: im,
-    }
-}
-
-fn flat_of(c: Carrier) -> Flat
-    ensures { λ r. ⌜ carrierIn r ≡ c ⌝ }
-{
-    match c {
-        Carrier::Angle(x) => angle(x),
-        Carrier::Vector(re, im) => vector(re, im),
-    }
-}
-
-fn carrier_in(f: Flat) -> Carrier
-    ensures { λ r. ⌜ r ≡ carrierIn f ⌝ }
-{
-    let is_angle = f.kind == 1;
-    if is_angle {
-        return Carrier::Angle(f.first);
-    }
-    Carrier::Vector(f.first, f.second)
-}
-
-// The record of a caller, made from that of the core and its serial, and back.
-pub fn whole_out(o: OutCore, serial: u64) -> Out
-    ensures { λ r. ⌜ r ≡ numbered serial (wholeOut o) ⌝ }
-{
-    let f = o.carrier;
-    let carrier = carrier_in(f);
-    Out {
-        index: o.index,
-        end: o.end,
-        state: o.state,
-        cut: o.cut,
-        pairs: o.pairs,
-        level: o.level,
-        fsk: o.fsk,
-        carrier,
-        serial,
-    }
-}
-
-pub fn core_out(o: Out) -> OutCore
-    ensures { λ r. ⌜ numbered (o .serial) (wholeOut r) ≡ o ⌝ }
-{
-    let c = o.carrier;
-    let carrier = flat_of(c);
-    OutCore {
-        index: o.index,
-        end: o.end,
-        state: o.state,
-        cut: o.cut,
-        pairs: o.pairs,
-        level: o.level,
-        fsk: o.fsk,
-        carrier,
-    }
-}
-
-// ---- what follows min_steps
-
-pub fn fsk_min(min_steps: u32) -> u32
-    ensures { λ r. ⌜ r ≡ fskMinOf «min_steps» ⌝ }
-{
-    if min_steps < 4 {
-        return 2;
-    }
-    if 16 <= min_steps {
-        return 8;
-    }
-    min_steps / 2
-}
-
-pub fn refine_at(min_steps: u32) -> u32
-    ensures { λ r. ⌜ r ≡ refineAtOf «min_steps» ⌝ }
-{
-    if min_steps < 26 {
-        return min_steps;
-    }
-    26
-}
-
 // ---- the run of the envelope
 
 pub fn lengthen(s: Env) -> Env
     ensures { λ r. ⌜ r ≡ lengthenOf s ⌝ }
 {
-    let n = sat_add(s.run.run_len, 1);
+    let n = types::sat_add(s.run.run_len, 1);
     let mut m = s;
     m.run.run_len = n;
     m
@@ -358,8 +97,8 @@ pub fn lengthen(s: Env) -> Env
 pub fn rejoin(s: Env, on: bool) -> Env
     ensures { λ r. ⌜ r ≡ rejoinOf s on ⌝ }
 {
-    let n = sat_add(sat_add(s.run.prev_len, s.run.run_len), 1);
-    let level = bit(on);
+    let n = types::sat_add(types::sat_add(s.run.prev_len, s.run.run_len), 1);
+    let level = types::bit(on);
     let mut m = s;
     m.run.level = level;
     m.run.run_len = n;
@@ -374,7 +113,7 @@ pub fn rejoin(s: Env, on: bool) -> Env
 pub fn begin_run(s: Env, tc: f64, idx: u64, on: bool) -> Env
     ensures { λ r. ⌜ r ≡ beginRunOf s tc idx on ⌝ }
 {
-    let level = bit(on);
+    let level = types::bit(on);
     Env {
         run: Run {
             level,
@@ -396,7 +135,7 @@ pub fn begin_run(s: Env, tc: f64, idx: u64, on: bool) -> Env
 pub fn begins(r: Run, on: bool) -> bool
     ensures { λ b. ⌜ b ≡ beginsOf r on ⌝ }
 {
-    let same = bit(on) == r.level;
+    let same = types::bit(on) == r.level;
     if same {
         return false;
     }
@@ -406,7 +145,7 @@ pub fn begins(r: Run, on: bool) -> bool
 pub fn advance(s: Env, on: bool, ep: f32, e: f32, thr: f32, idx: u64) -> Env
     ensures { λ r. ⌜ r ≡ advanceOf s on (edgeOf idx (crossOf ep e thr)) idx ⌝ }
 {
-    let same = bit(on) == s.run.level;
+    let same = types::bit(on) == s.run.level;
     if same {
         return lengthen(s);
     }
@@ -429,7 +168,7 @@ fn zero_if(b: bool, pac: C32) -> C32
 pub fn pac_run(r: Run, on: bool, pac: C32) -> C32
     ensures { λ q. ⌜ q ≡ pacRunOf r on pac ⌝ }
 {
-    let same = bit(on) == r.level;
+    let same = types::bit(on) == r.level;
     if same {
         return pac;
     }
@@ -466,7 +205,7 @@ pub fn begin_env(t: f64, s: Env) -> Env
 pub fn refine_level(high: f32, noise: f32) -> f32
     ensures { λ r. ⌜ r ≡ refineLevelOf high noise ⌝ }
 {
-    arith::sqrt(0.25 * high * high + 0.95492965 * noise * noise)
+    root::sqrt(0.25 * high * high + 0.95492965 * noise * noise)
 }
 
 fn min_of(x: u64, y: u64) -> u64
@@ -490,10 +229,10 @@ fn max_of(x: u64, y: u64) -> u64
 pub fn refine_lo(min_steps: u32, ref_idx: u64, lead_at: u64, idx: u64) -> u64
     ensures { λ r. ⌜ r ≡ refineLoOf «min_steps» «ref_idx» «lead_at» idx ⌝ }
 {
-    let back = min_of(6, sat_sub(min_steps as u64, 1));
+    let back = min_of(6, types::sat_sub(min_steps as u64, 1));
     max_of(
-        max_of(sat_sub(ref_idx, back), sat_sub(lead_at, 7)),
-        sat_sub(idx, 31),
+        max_of(types::sat_sub(ref_idx, back), types::sat_sub(lead_at, 7)),
+        types::sat_sub(idx, 31),
     )
 }
 
@@ -552,7 +291,7 @@ fn refine_in(ring: &[f32; 32], t: f32, on: bool, lo: u64, idx: u64, t_run: f64) 
     }
     let s = best_split(ring, t, on, lo, idx);
     let i = (s % 32) as usize;
-    let k = (sat_sub(s, 1) % 32) as usize;
+    let k = (types::sat_sub(s, 1) % 32) as usize;
     arith::edge(s, arith::cross(ring[k], ring[i], t))
 }
 
@@ -587,7 +326,7 @@ pub fn push_pulse(max_pulses: u32, t: Train, pac: C32, len: Steps, ook: &mut [u3
             train: n,
         };
     }
-    put(ook, 2 * (t.ook_n as usize), len.0);
+    types::put(ook, 2 * (t.ook_n as usize), len.0);
     let acc = C32 {
         re: t.acc.re + pac.re,
         im: t.acc.im + pac.im,
@@ -606,8 +345,8 @@ pub fn close_gap(t: Train, gap: Steps, ook: &mut [u32]) -> Train
 {
     let waits = t.open == 1;
     if waits {
-        put(ook, 2 * (t.ook_n as usize) + 1, gap.0);
-        let k = inc(t.ook_n);
+        types::put(ook, 2 * (t.ook_n as usize) + 1, gap.0);
+        let k = types::inc(t.ook_n);
         let mut n = t;
         n.ook_n = k;
         n.open = 0;
@@ -639,8 +378,8 @@ fn finish(t: Train, high: f32, out: OutCore) -> EndedCore
     let empty = empty_train(t);
     let some = t.ook_n > 0;
     if some {
-        let cut = bit(t.truncated == 1);
-        let carrier = vector(t.acc.re, t.acc.im);
+        let cut = types::bit(t.truncated == 1);
+        let carrier = types::vector(t.acc.re, t.acc.im);
         let o = OutCore {
             index: t.start,
             end: t.pulse_end,

@@ -3,7 +3,7 @@ use Prim.Native.Nat.{ℕ}
 use mathlib.Core.Bool.{Bool, cond}
 use lib.Dec.{eqb}
 use lib.Ieee.{Float, binary32, mul, ofBits}
-use Rattle.ook.specs.Counts.{satAddOf}
+use Rattle.types.specs.Counts.{satAddOf}
 use Rattle.fsk.specs.Makers.{withLength, withRuns}
 use Rattle.fsk.specs.Resolve.{beginFrameOf}
 use Rattle.fsk.specs.declared.Frame.{Frame}

@@ -5,19 +5,20 @@ use mathlib.Core.List.{List}
 use lib.Dec.{ltb, leb, eqb}
 use lib.IntN.{pos}
 use lib.Ieee.{Float, binary64, add, sub, le, ofBits, ofInt}
-use Rattle.arith.specs.Leaves.{zero64, one64, edgeOf, crossOf}
-use Rattle.ook.specs.Counts.{bit}
+use Rattle.ieee.specs.Constants.{zero64, one64}
+use Rattle.arith.specs.Leaves.{edgeOf, crossOf}
+use Rattle.types.specs.Counts.{bit}
 use Rattle.ook.specs.Train.{endTrainOf}
 use Rattle.ook.specs.declared.Ended.{Ended}
-use Rattle.ook.specs.declared.Settings.{Settings}
-use Rattle.ook.specs.declared.Next.{Next}
-use Rattle.ook.specs.declared.Next.the-variants.{Stay, IdleAt}
+use Rattle.types.specs.declared.Settings.{Settings}
+use Rattle.types.specs.declared.Next.{Next}
+use Rattle.types.specs.declared.Next.the-variants.{Stay, IdleAt}
 use Rattle.fsk.specs.Makers.{withFull, withStart, withRuns, withDone}
 use Rattle.fsk.specs.declared.Frame.{Frame}
-use Rattle.slicer.specs.Tone.{upperOf}
-use Rattle.slicer.specs.Sample.{fskSampleOf}
-use Rattle.frame.specs.Done.{bodyOf, withFrame, frameDoneOf}
-use Rattle.frame.specs.declared.Body.{Body}
+use Rattle.fsk_sample.specs.Tone.{upperOf}
+use Rattle.fsk_sample.specs.Sample.{fskSampleOf}
+use Rattle.frame_end.specs.Done.{bodyOf, withFrame, frameDoneOf}
+use Rattle.frame_end.specs.declared.Body.{Body}
 use Rattle.presence.specs.Move.{presThrOf, movePresOf, moveFrameOf, withConfirmed}
 use Rattle.presence.specs.Move as move
 use Rattle.presence.specs.declared.Pres.{Pres}

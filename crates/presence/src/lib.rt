@@ -5,17 +5,17 @@ ghost use Rattle.presence.specs.Move.{presThrOf, lengthenOf, rejoinOf, b
 ghost use Rattle.presence.specs.Presence.{sliceIfOf, dueOf, sureIfOf, endsOf, inWindowOf, endOf, endIfOf, longOf, endCarrierOf, carrierIfOf, advanceOf, presenceOf, nearStartOf, snapOf};
 ghost use Rattle.arith.specs.Leaves.{edgeOf, crossOf};
 ghost use Rattle.fsk.specs.Core.{wholeFrame};
-ghost use Rattle.frame.specs.Core.{wholeBody};
+ghost use Rattle.frame_end.specs.Core.{wholeBody};
 ghost use Rattle.presence.specs.Core.{wholeAdvanced, wholePresent, wholeSnapped};
 ghost use mathlib.Core.List.{List};
 ghost use lib.Ieee.{Float};
 use arith::C32;
-use frame::Body;
-use frame::BodyCore;
+use frame_end::Body;
+use frame_end::BodyCore;
 use fsk::Frame;
 use fsk::FrameCore;
-use ook::Next;
-use ook::Settings;
+use types::Next;
+use types::Settings;
 
 // The run of the presence, and the trigger factor.
 pub struct Pres {
@@ -81,7 +81,7 @@ fn pres_thr(up: bool, noise: f32, factor: f32) -> f32
 fn lengthen(s: Pres) -> Pres
     ensures { λ r. ⌜ r ≡ lengthenOf s ⌝ }
 {
-    let n = ook::sat_add(s.p_run, 1);
+    let n = types::sat_add(s.p_run, 1);
     let mut q = s;
     q.p_run = n;
     q
@@ -90,7 +90,7 @@ fn lengthen(s: Pres) -> Pres
 fn rejoin(s: Pres, level: u32) -> Pres
     ensures { λ r. ⌜ r ≡ rejoinOf s level ⌝ }
 {
-    let n = ook::sat_add(ook::sat_add(s.p_prev, s.p_run), 1);
+    let n = types::sat_add(types::sat_add(s.p_prev, s.p_run), 1);
     let mut q = s;
     q.p_level = level;
     q.p_run = n;
@@ -130,7 +130,7 @@ fn move_pres(s: Pres, level: u32, idx: u64, ep: f32, e: f32, thr: f32) -> Pres
 fn extend(fr: FrameCore, n: u32) -> FrameCore
     ensures { λ r. ⌜ ((cs : List Float) → wholeFrame cs r ≡ extendOf (wholeFrame cs fr) n) ⌝ }
 {
-    let k = ook::sat_add(fr.runs.fsk_run, n);
+    let k = types::sat_add(fr.runs.fsk_run, n);
     let mut q = fr;
     q.runs.fsk_run = k;
     q
@@ -178,7 +178,7 @@ fn slice_if(
 {
     if on {
         let d = a.d;
-        return slicer::fsk_sample(p, fr, a.high, d, a.e, a.idx, cs, fsk);
+        return fsk_sample::fsk_sample(p, fr, a.high, d, a.e, a.idx, cs, fsk);
     }
     fr
 }
@@ -196,8 +196,8 @@ fn advance(
 {
     let up = s.p_level == 1;
     let thr = pres_thr(up, a.noise, s.p_factor);
-    let on = slicer::upper_of(up, a.e, thr);
-    let level = ook::bit(on);
+    let on = fsk_sample::upper_of(up, a.e, thr);
+    let level = types::bit(on);
     let q = move_pres(s, level, a.idx, a.ep, a.e, thr);
     let f = move_frame(s, on, level, a.idx, a.ep, a.e, thr, fr);
     let g = slice_if(p, a, on, f, cs, fsk);
@@ -283,7 +283,7 @@ fn end_if(
         // Copies: a struct that is handed on here would else stand in memory on the other way too.
         let q = p;
         let c = b;
-        return frame::frame_done(q, c, a.high, pac, s.p_t_prev, end, ook, fsk);
+        return frame_end::frame_done(q, c, a.high, pac, s.p_t_prev, end, ook, fsk);
     }
     b
 }
@@ -312,7 +312,7 @@ fn end_carrier(
     m.frame.done.fsk_full = 1;
     let end = arith::u64_to_f64(a.idx) + 1.0;
     let pac = a.pac;
-    let n = frame::frame_done(p, m, a.high, pac, t_run, end, ook, fsk);
+    let n = frame_end::frame_done(p, m, a.high, pac, t_run, end, ook, fsk);
     let t = n.train;
     let o = n.out_ook;
     let e = ook::end_train(t, a.high, o, ook);

@@ -9,26 +9,27 @@ use borrow.Author.Tests.{eq-eqb}
 use lib.Ieee.{Float}
 use lib.ListN.{length}
 use Rattle.arith.specs.Leaves.{leadLenOf}
-use Rattle.ook.specs.declared.Settings.{Settings}
-use Rattle.ook.specs.declared.Next.{Next}
-use Rattle.ook.specs.Answers.{isStayOf}
-use Rattle.ook.specs.Counts.{bit}
+use Rattle.types.specs.declared.Settings.{Settings}
+use Rattle.types.specs.declared.Next.{Next}
+use Rattle.types.specs.Answers.{isStayOf}
+use Rattle.types.specs.Counts.{bit}
 use Rattle.ook.specs.Run.{beginEnvOf}
 use Rattle.ook.specs.Train.{emptyTrainOf}
-use Rattle.refusals.specs.Domain.{InDomain}
-use Rattle.stages.specs.declared.Seen.{Seen}
-use Rattle.stages.specs.declared.Acted.{Acted}
-use Rattle.stages.specs.See.{seeOf}
-use Rattle.stages.specs.Act.{actOf}
+use Rattle.refusals.proofs.Domain.{InDomain}
+use Rattle.envelope.specs.declared.Seen.{Seen}
+use Rattle.envelope.specs.declared.Acted.{Acted}
+use Rattle.envelope.specs.See.{seeOf}
+use Rattle.envelope.specs.Act.{actOf}
 use Rattle.presence.specs.declared.Present.{Present}
 use Rattle.presence.specs.Presence.{presenceOf}
-use Rattle.stages.specs.declared.At.{At}
+use Rattle.envelope.specs.declared.At.{At}
 use Rattle.burst.specs.declared.Burst.{Burst}
 use Rattle.burst.specs.declared.Lead.{Lead}
 use Rattle.burst.specs.declared.Sampled.{Sampled}
 use Rattle.burst.specs.Makers.{withActed, bodyIn, withBody}
 use Rattle.burst.specs.Sample.{snapIfOf, absenceOf, lastOf, inputsOf, presentOf, restOf, sampleOf}
-use Rattle.burst.specs.Lead.{beginBurstOf, leadAtOf, onward, staying, replayFrom, replayOf, leadFullOf, replay-stop}
+use Rattle.burst.specs.Lead.{beginBurstOf, leadAtOf, onward, staying, replayFrom, replayOf, leadFullOf}
+use Rattle.burst.proofs.LeadLaws.{replay-stop}
 use Rattle.pulses.specs.Runs.{Sample}
 use Rattle.pulses.specs.Yardstick.{levelled, replayed, phaseAfter, phasesReplayed, burstAt}
 use Rattle.pulses.specs.Auto.{AllZero}

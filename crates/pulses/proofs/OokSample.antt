@@ -15,24 +15,24 @@ use Rattle.ook.specs.declared.Env.{Env}
 use Rattle.ook.specs.declared.Run.{Run}
 use Rattle.ook.specs.declared.Times.{Times}
 use Rattle.ook.specs.declared.Train.{Train}
-use Rattle.ook.specs.declared.Out.{Out}
+use Rattle.types.specs.declared.Out.{Out}
 use Rattle.ook.specs.declared.Done.{Done}
-use Rattle.ook.specs.declared.Settings.{Settings}
-use Rattle.ook.specs.declared.Next.{Next}
-use Rattle.ook.specs.declared.Next.the-variants.{Stay, Idle, IdleAt}
-use Rattle.ook.specs.Answers.{isStayOf}
-use Rattle.ook.specs.Counts.{bit}
-use Rattle.ook.specs.Params.{refineAtOf}
+use Rattle.types.specs.declared.Settings.{Settings}
+use Rattle.types.specs.declared.Next.{Next}
+use Rattle.types.specs.declared.Next.the-variants.{Stay, Idle, IdleAt}
+use Rattle.types.specs.Answers.{isStayOf}
+use Rattle.types.specs.Counts.{bit}
+use Rattle.types.specs.Params.{refineAtOf}
 use Rattle.ook.specs.Refine.{refineOf}
 use Rattle.ook.specs.Train.{withStarted, withFirst, withBound, closeGapOf, pulseDoneOf, endTrainOf, stayBy, endBy}
-use Rattle.refusals.specs.Domain.{InDomain}
-use Rattle.stages.specs.declared.At.{At}
-use Rattle.stages.specs.declared.Seen.{Seen}
-use Rattle.stages.specs.declared.Acted.{Acted}
-use Rattle.stages.specs.declared.Absence.{Absence}
-use Rattle.stages.specs.See.{refineDueOf, withRefined, seeOf}
-use Rattle.stages.specs.Act.{takenOf, dueOf, confirmIf, riseOf, fallOf, confirmOf, actOf}
-use Rattle.stages.specs.Tail.{carrierOf, goneOf, hasPulsesOf, gapOverOf, limitOf, waitOf, tailOf}
+use Rattle.refusals.proofs.Domain.{InDomain}
+use Rattle.envelope.specs.declared.At.{At}
+use Rattle.envelope.specs.declared.Seen.{Seen}
+use Rattle.envelope.specs.declared.Acted.{Acted}
+use Rattle.envelope.specs.declared.Absence.{Absence}
+use Rattle.envelope.specs.See.{refineDueOf, withRefined, seeOf}
+use Rattle.envelope.specs.Act.{takenOf, dueOf, confirmIf, riseOf, fallOf, confirmOf, actOf}
+use Rattle.envelope.specs.Tail.{carrierOf, goneOf, hasPulsesOf, gapOverOf, limitOf, waitOf, tailOf}
 use Rattle.pulses.specs.Runs.{Sample, sample}
 use Rattle.pulses.proofs.Machine.{Conf, lowed, highed, mstep, memit, after, emitted, after-snoc, emitted-snoc}
 use Rattle.pulses.proofs.Flags.{clash, empty, flag-set, flag-clear}

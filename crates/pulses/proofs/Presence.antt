@@ -8,18 +8,18 @@ use lib.Dec.{eqb}
 use lib.IntN.{pos}
 use lib.Ieee.{Float, binary64, add, ofInt}
 use Rattle.arith.specs.declared.C32.{C32}
-use Rattle.arith.specs.Leaves.{one64}
+use Rattle.ieee.specs.Constants.{one64}
 use Rattle.ook.specs.declared.Env.{Env}
 use Rattle.ook.specs.declared.Done.{Done}
-use Rattle.ook.specs.declared.Settings.{Settings}
-use Rattle.ook.specs.declared.Next.the-variants.{Stay, IdleAt}
-use Rattle.ook.specs.Counts.{satAddOf}
-use Rattle.refusals.specs.Domain.{InDomain}
-use Rattle.frame.specs.End.{isSplitOf, enoughRunsOf, isFrameOf, lastRunOf, framedBy, closeBy, endFrameOf}
-use Rattle.frame.specs.Done.{withFrame, withFramed, cutBody, frameDoneOf}
-use Rattle.frame.specs.Cut.{cutTrainOf}
-use Rattle.frame.specs.declared.Body.{Body}
-use Rattle.frame.specs.declared.Framed.{Framed}
+use Rattle.types.specs.declared.Settings.{Settings}
+use Rattle.types.specs.declared.Next.the-variants.{Stay, IdleAt}
+use Rattle.types.specs.Counts.{satAddOf}
+use Rattle.refusals.proofs.Domain.{InDomain}
+use Rattle.frame_end.specs.End.{isSplitOf, enoughRunsOf, isFrameOf, lastRunOf, framedBy, closeBy, endFrameOf}
+use Rattle.frame_end.specs.Done.{withFrame, withFramed, cutBody, frameDoneOf}
+use Rattle.frame_end.specs.Cut.{cutTrainOf}
+use Rattle.frame_end.specs.declared.Body.{Body}
+use Rattle.frame_end.specs.declared.Framed.{Framed}
 use Rattle.presence.specs.declared.Pres.{Pres}
 use Rattle.presence.specs.declared.Inputs.{Inputs}
 use Rattle.presence.specs.declared.Advanced.{Advanced}

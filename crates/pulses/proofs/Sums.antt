@@ -5,9 +5,10 @@ use mathlib.Core.List.{List, [], _∷_}
 use Prim.Native.Nat.{ℕ}
 use lib.Ieee.{Float}
 use Rattle.arith.specs.Carry.{roundedOf}
-use Rattle.ook.specs.declared.Settings.{Settings}
+use Rattle.types.specs.declared.Settings.{Settings}
 use Rattle.slots.specs.Slots.{slotsOf}
-use Rattle.slots.specs.Sum.{sum, adds-up, all-edges}
+use Rattle.slots.specs.Sum.{sum}
+use Rattle.slots.proofs.Sum.{adds-up, all-edges}
 use Rattle.pulses.specs.Runs.{Pulse}
 use Rattle.pulses.specs.Yardstick.{Given, Yardstick}
 use Rattle.pulses.specs.Demand.{Program, theLane, Place, start, bursts, slotsBetween, TrainOf, Gives, settingsAt, pulsesAt, Each, Demand3}

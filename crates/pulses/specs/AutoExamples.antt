@@ -5,7 +5,7 @@ use mathlib.Core.List.{List, [], _∷_, _++_, map}
 use Prim.Native.Nat.{ℕ, _+_}
 use lib.ListN.{replicate}
 use lib.Ieee.{binary32, ofBits}
-use Rattle.arith.specs.Leaves.{zero32}
+use Rattle.ieee.specs.Constants.{zero32}
 use Rattle.pulses.specs.Yardstick.{Call, opening}
 use Rattle.pulses.specs.Demand.{theLane, Place}
 use Rattle.pulses.specs.Lists.{settings, slots, firstBy, first, eight, hi, shut, los, his, unended, opensAuto, tones, plain, three-runs, four-runs, keyed}

@@ -4,9 +4,9 @@ use mathlib.Core.Bool.{Bool, false, cond, _||_}
 use mathlib.Core.List.{List, [], _∷_}
 use Prim.Native.Nat.{ℕ, _+_}
 use lib.Dec.{leb, eqb}
-use Rattle.ook.specs.declared.Settings.{Settings}
-use Rattle.ook.specs.declared.Out.{Out}
-use Rattle.ook.specs.Counts.{bit}
+use Rattle.types.specs.declared.Settings.{Settings}
+use Rattle.types.specs.declared.Out.{Out}
+use Rattle.types.specs.Counts.{bit}
 use Rattle.lane.specs.Idle.{noOut}
 use Rattle.lane.specs.Serial.{stampOf}
 use Rattle.lane.specs.declared.Lane.{Lane}

@@ -4,8 +4,8 @@ use Prim.Native.Nat.{ℕ, zero, suc, _+_}
 use lib.ListN.{length, replicate}
 use lib.Ieee.{Float, binary32, neg, ofBits}
 use Rattle.arith.specs.declared.C32.{C32}
-use Rattle.arith.specs.Leaves.{zero32, one32}
-use Rattle.ook.specs.declared.Settings.{Settings}
+use Rattle.ieee.specs.Constants.{zero32, one32}
+use Rattle.types.specs.declared.Settings.{Settings}
 use Rattle.lane.specs.declared.History.{History}
 use Rattle.lane.specs.declared.StepArgs.{StepArgs}
 use Rattle.pulses.specs.Yardstick.{as-left, Call, opening, begin, step, close}

@@ -3,27 +3,27 @@ use lib.Ieee.{ofBits, toBits, add, sub, mul, div, neg, lt, le, eq, ofInt, toUnsi
 use Rattle.arith.specs.Leaves.{absOf, midpointOf, flushOf, crossOf, nearestIn, gainOf}
 use Rattle.arith.specs.Angle.{atan2Of}
 use Rattle.arith.specs.Carry.{widthBy, carriedAt, boundOf}
-use Rattle.arith.specs.Rounding.{roundOf, narrowOf}
-use Rattle.arith.specs.Root.{sqrtOf, exactOf, roundExact, wholeRoot}
-use Rattle.ook.specs.Counts.{satAddOf, inc}
+use Rattle.ieee.specs.Rounding.{roundOf, narrowOf}
+use Rattle.root.specs.Root.{sqrtOf, exactOf, roundExact, wholeRoot}
+use Rattle.types.specs.Counts.{satAddOf, inc}
 use Rattle.ook.specs.Run.{lengthenOf, rejoinOf, beginRunOf, beginsOf, advanceOf, pacRunOf, beginEnvOf}
 use Rattle.ook.specs.Refine.{refineLevelOf, refineLoOf, excessOf, splitFrom, refineInOf, refineOf}
 use Rattle.ook.specs.Train.{pushPulseOf, closeGapOf, emptyTrainOf, finishOf, endTrainOf, pulseDoneOf, gapRatioExceededOf}
-use Rattle.stages.specs.See.{thresholdOf, onOf, refineDueOf, highOf, pacOf, seeOf}
-use Rattle.stages.specs.Act.{dueOf, confirmIf, riseOf, fallOf, confirmOf, actOf}
-use Rattle.stages.specs.Tail.{carrierOf, goneOf, hasPulsesOf, gapOverOf, waitOf, tailOf}
+use Rattle.envelope.specs.See.{thresholdOf, onOf, refineDueOf, highOf, pacOf, seeOf}
+use Rattle.envelope.specs.Act.{dueOf, confirmIf, riseOf, fallOf, confirmOf, actOf}
+use Rattle.envelope.specs.Tail.{carrierOf, goneOf, hasPulsesOf, gapOverOf, waitOf, tailOf}
 use Rattle.burst.specs.Sample.{snapIfOf, lastOf, presentOf, restOf, sampleOf}
 use Rattle.fsk.specs.Commit.{putEndOf, originOf, countRunOf, upperRunOf, lowerRunOf, fskCommitOf}
 use Rattle.fsk.specs.RunStep.{confirmDueOf, fskRunStepOf}
 use Rattle.fsk.specs.RunStep as slices
 use Rattle.fsk.specs.Resolve.{beginFrameOf, sliceThrOf, pastOf, firstPastOf, candAtOf, beforeOf, turnAtOf, hiLoOf, otherLevelOf, isEarlyOf, openRunsOf, fskResolveOf}
 use Rattle.fsk.specs.Resolve as resolve
-use Rattle.slicer.specs.Tone.{lowPassOf, toneOf, upperOf, followOf}
-use Rattle.slicer.specs.Seek.{seedOf, farFromOf, averageOf, startOf, beforeIfOf, storeOf, pushCandOf, clearOf, restartAtOf, restartEarlyOf}
-use Rattle.slicer.specs.Sample.{seekFrameOf, restartOf, awayOf, seekOf, trackOf, fskSampleOf}
-use Rattle.frame.specs.End.{isSplitOf, enoughRunsOf, isFrameOf, lastRunOf, closePairOf, outOf, endFrameOf}
-use Rattle.frame.specs.Cut.{gapAtOf, keepNextOf, keepFrom, startKeptOf, keepBeforeOf, cutTrainOf}
-use Rattle.frame.specs.Done.{frameDoneOf}
+use Rattle.fsk_sample.specs.Tone.{lowPassOf, toneOf, upperOf, followOf}
+use Rattle.fsk_sample.specs.Seek.{seedOf, farFromOf, averageOf, startOf, beforeIfOf, storeOf, pushCandOf, clearOf, restartAtOf, restartEarlyOf}
+use Rattle.fsk_sample.specs.Sample.{seekFrameOf, restartOf, awayOf, seekOf, trackOf, fskSampleOf}
+use Rattle.frame_end.specs.End.{isSplitOf, enoughRunsOf, isFrameOf, lastRunOf, closePairOf, outOf, endFrameOf}
+use Rattle.frame_end.specs.Cut.{gapAtOf, keepNextOf, keepFrom, startKeptOf, keepBeforeOf, cutTrainOf}
+use Rattle.frame_end.specs.Done.{frameDoneOf}
 use Rattle.presence.specs.Move.{presThrOf, movePresOf, extendOf, moveFrameOf}
 use Rattle.presence.specs.Move as move
 use Rattle.presence.specs.Presence.{sliceIfOf, sureIfOf, endsOf, inWindowOf, endIfOf, longOf, endCarrierOf, carrierIfOf, presenceOf, snapOf, nearStartOf}

@@ -8,12 +8,12 @@ use lib.IntN.{pos}
 use lib.ListN.{length, getD}
 use lib.Ieee.{Float, nan, binary64, ofInt}
 use Rattle.arith.specs.Leaves.{leadLenOf}
-use Rattle.ook.specs.declared.Settings.{Settings}
-use Rattle.ook.specs.declared.Out.{Out}
-use Rattle.ook.specs.Answers.{isStayOf}
-use Rattle.stages.specs.declared.At.{At}
-use Rattle.stages.specs.declared.Seen.{Seen}
-use Rattle.stages.specs.See.{seeOf}
+use Rattle.types.specs.declared.Settings.{Settings}
+use Rattle.types.specs.declared.Out.{Out}
+use Rattle.types.specs.Answers.{isStayOf}
+use Rattle.envelope.specs.declared.At.{At}
+use Rattle.envelope.specs.declared.Seen.{Seen}
+use Rattle.envelope.specs.See.{seeOf}
 use Rattle.burst.specs.declared.Burst.{Burst}
 use Rattle.burst.specs.declared.Lead.{Lead}
 use Rattle.burst.specs.declared.Sampled.{Sampled}

@@ -9,11 +9,12 @@ use lib.Ieee.{Float}
 use lib.ListN.{length, length-append}
 use borrow.Author.Tests.{ltb-true, ltb-false, eqb-true}
 use Rattle.arith.specs.Leaves.{leadLenOf}
-use Rattle.ook.specs.declared.Settings.{Settings}
-use Rattle.ook.specs.declared.Next.{Next}
-use Rattle.ook.specs.declared.Next.the-variants as next
-use Rattle.ook.specs.Counts.{inc, inc-exact}
-use Rattle.refusals.specs.Domain.{InDomain}
+use Rattle.types.specs.declared.Settings.{Settings}
+use Rattle.types.specs.declared.Next.{Next}
+use Rattle.types.specs.declared.Next.the-variants as next
+use Rattle.types.specs.Counts.{inc}
+use Rattle.types.proofs.Counts.{inc-exact}
+use Rattle.refusals.proofs.Domain.{InDomain}
 use Rattle.burst.specs.declared.Lead.{Lead}
 use Rattle.burst.specs.declared.Burst.{Burst}
 use Rattle.burst.specs.declared.Sampled.{Sampled}

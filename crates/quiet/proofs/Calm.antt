@@ -10,15 +10,15 @@ use lib.ListN.{length}
 use borrow.Author.Tests.{leb-true, leb-false}
 use Rattle.ook.specs.declared.Env.{Env}
 use Rattle.ook.specs.declared.Run.{Run}
-use Rattle.ook.specs.declared.Settings.{Settings}
-use Rattle.ook.specs.declared.Next.{Next}
-use Rattle.ook.specs.declared.Next.the-variants.{Stay, Idle, IdleAt}
-use Rattle.ook.specs.Answers.{isStayOf}
-use Rattle.ook.specs.Counts.{bit}
-use Rattle.ook.specs.Params.{refineAtOf}
+use Rattle.types.specs.declared.Settings.{Settings}
+use Rattle.types.specs.declared.Next.{Next}
+use Rattle.types.specs.declared.Next.the-variants.{Stay, Idle, IdleAt}
+use Rattle.types.specs.Answers.{isStayOf}
+use Rattle.types.specs.Counts.{bit}
+use Rattle.types.specs.Params.{refineAtOf}
 use Rattle.ook.specs.Refine.{refineOf}
 use Rattle.ook.specs.Run.{beginEnvOf}
-use Rattle.refusals.specs.Domain.{InDomain}
+use Rattle.refusals.proofs.Domain.{InDomain}
 use Rattle.fsk.specs.declared.Frame.{Frame}
 use Rattle.presence.specs.declared.Pres.{Pres}
 use Rattle.presence.specs.declared.Snapped.{Snapped}
@@ -26,18 +26,19 @@ use Rattle.fsk.specs.Makers.{withRuns}
 use Rattle.fsk.specs.Makers as frame
 use Rattle.presence.specs.Move.{withStart}
 use Rattle.presence.specs.Presence.{nearStartOf, snapOf}
-use Rattle.stages.specs.declared.At.{At}
-use Rattle.stages.specs.declared.Seen.{Seen}
-use Rattle.stages.specs.declared.Acted.{Acted}
-use Rattle.stages.specs.See.{refineDueOf, withRefined, seeOf}
-use Rattle.stages.specs.Act.{actOf}
-use Rattle.stages.specs.Tail.{tailOf}
+use Rattle.envelope.specs.declared.At.{At}
+use Rattle.envelope.specs.declared.Seen.{Seen}
+use Rattle.envelope.specs.declared.Acted.{Acted}
+use Rattle.envelope.specs.See.{refineDueOf, withRefined, seeOf}
+use Rattle.envelope.specs.Act.{actOf}
+use Rattle.envelope.specs.Tail.{tailOf}
 use Rattle.burst.specs.declared.Burst.{Burst}
 use Rattle.burst.specs.declared.Lead.{Lead}
 use Rattle.burst.specs.declared.Sampled.{Sampled}
 use Rattle.burst.specs.Makers.{withActed}
 use Rattle.burst.specs.Sample.{snapIfOf, absenceOf, lastOf, presentOf, restOf, sampleOf}
-use Rattle.burst.specs.Lead.{beginBurstOf, leadAtOf, staying, replayFrom, replay-stop}
+use Rattle.burst.specs.Lead.{beginBurstOf, leadAtOf, staying, replayFrom}
+use Rattle.burst.proofs.LeadLaws.{replay-stop}
 use Rattle.pulses.specs.Runs.{Sample, sample}
 use Rattle.pulses.specs.Yardstick.{levelled, replayed}
 use Rattle.pulses.proofs.Flags.{clash}

@@ -4,7 +4,7 @@ use mathlib.Core.Bool.{true}
 use mathlib.Core.List.{List, [], _∷_, _++_}
 use Prim.Native.Nat.{ℕ, _+_, _-_, _<_}
 use native.Mathlib.Omega.{arith}
-use Rattle.ook.specs.declared.Settings.{Settings}
+use Rattle.types.specs.declared.Settings.{Settings}
 use Rattle.pulses.specs.Yardstick.{Call, accepts, handedOn, unused}
 use Rattle.pulses.specs.Demand.{Program, Place, theLane, start, after, afterAll}
 use Rattle.pulses.specs.Lists.{lo}

@@ -10,17 +10,17 @@ use borrow.Author.Tests.{leb-false, lt-leb, lt-ltb, eqb-true, eqb-false}
 use Rattle.ook.specs.declared.Env.{Env}
 use Rattle.ook.specs.declared.Run.{Run}
 use Rattle.ook.specs.declared.Train.{Train}
-use Rattle.ook.specs.declared.Out.{Out}
-use Rattle.ook.specs.declared.Settings.{Settings}
-use Rattle.ook.specs.declared.Next.the-variants.{Idle}
-use Rattle.ook.specs.Counts.{satAddOf}
+use Rattle.types.specs.declared.Out.{Out}
+use Rattle.types.specs.declared.Settings.{Settings}
+use Rattle.types.specs.declared.Next.the-variants.{Idle}
+use Rattle.types.specs.Counts.{satAddOf}
 use Rattle.ook.specs.Run.{lengthenOf, rejoinOf, beginRunOf, advanceOf}
 use Rattle.ook.specs.Train.{withStarted, endTrainOf, endBy}
 use Rattle.domain.specs.Limits.{maxSteps}
-use Rattle.refusals.specs.Domain.{InDomain}
-use Rattle.stages.specs.declared.Absence.{Absence}
-use Rattle.stages.specs.Act.{dueOf, confirmIf}
-use Rattle.stages.specs.Tail.{carrierOf, goneOf, hasPulsesOf, gapOverOf, waitOf, tailOf}
+use Rattle.refusals.proofs.Domain.{InDomain}
+use Rattle.envelope.specs.declared.Absence.{Absence}
+use Rattle.envelope.specs.Act.{dueOf, confirmIf}
+use Rattle.envelope.specs.Tail.{carrierOf, goneOf, hasPulsesOf, gapOverOf, waitOf, tailOf}
 use Rattle.pulses.specs.Runs.{Sample, sample}
 use Rattle.pulses.proofs.Flags.{clash}
 use Rattle.quiet.specs.Quiet.{wait, shortest, lowsFrom, quietFrom}

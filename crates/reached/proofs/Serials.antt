@@ -9,9 +9,9 @@ use native.Mathlib.Omega.{arith}
 use lib.Dec.{ltb, eqb}
 use lib.Ieee.{Float}
 use Rattle.arith.specs.Leaves.{leadLenOf}
-use Rattle.ook.specs.Limits.{either}
-use Rattle.ook.specs.declared.Next.{Next}
-use Rattle.ook.specs.declared.Next.the-variants as next
+use Rattle.types.proofs.Cases.{either}
+use Rattle.types.specs.declared.Next.{Next}
+use Rattle.types.specs.declared.Next.the-variants as next
 use Rattle.burst.specs.declared.Lead.{Lead}
 use Rattle.burst.specs.Lead.{leadAddOf}
 use lib.ListN.{length, getD}
@@ -22,7 +22,7 @@ use Rattle.lane.specs.Advance.{advanceOf, leadStep, fillOf, replayStep, burstSt
 use Rattle.lane.specs.Answers.{replyNumberOf, replyOf}
 use Rattle.lane.specs.Begin.{ringOf, leadLane}
 use Rattle.lane.specs.Idle.{idleLane}
-use Rattle.lane.specs.Part.{part-named}
+use Rattle.lane.proofs.PartLaws.{part-named}
 use Rattle.lane.specs.Refusals.{openRefusal, beginRefusal, stepRefusal, closeRefusal}
 use Rattle.lane.specs.Serial.{stampOf, stamped, stampedWith}
 use Rattle.lane.specs.Close.{idleWith, closeOf}

@@ -13,8 +13,8 @@ use fsk::Committed;
 use fsk::Frame;
 use fsk::Runs;
 use ook::Env;
-use ook::Out;
-use ook::Settings;
+use types::Out;
+use types::Settings;
 use ook::Train;
 use presence::Pres;
 
@@ -57,10 +57,10 @@ pub fn unset_ok(p: Settings) -> bool
         & (p.pre_timeout == 0)
         & (p.long_steps == 0)
         & (p.max_pulses == 0)
-        & (arith::bits_of_f32(p.alpha) == 0)
-        & (arith::bits_of_f32(p.gap_ratio) == 0)
-        & (arith::bits_of_f32(p.fsk_delta) == 0)
-        & (arith::bits_of_f32(p.fsk_split) == 0)
+        & (ieee::bits_of_f32(p.alpha) == 0)
+        & (ieee::bits_of_f32(p.gap_ratio) == 0)
+        & (ieee::bits_of_f32(p.fsk_delta) == 0)
+        & (ieee::bits_of_f32(p.fsk_split) == 0)
         & (p.carry == 0)
 }
 
@@ -207,7 +207,7 @@ pub fn lead_ok(phase: u32, min_steps: u32, l: Lead) -> bool
 pub fn cand_ok(phase: u32, min_steps: u32, f: Frame) -> bool
     ensures { λ r. ⌜ r ≡ candOk phase «min_steps» f ⌝ }
 {
-    (phase != 2) | (f.fsk_phase != 0) | (f.cand.fsk_cand < ook::fsk_min(min_steps))
+    (phase != 2) | (f.fsk_phase != 0) | (f.cand.fsk_cand < types::fsk_min(min_steps))
 }
 
 // k where a check fails, and else what the later checks give.

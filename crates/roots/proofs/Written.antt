@@ -8,7 +8,7 @@ use native.Mathlib.Numerals.{add-one}
 use native.Mathlib.Omega.{arith}
 use Rattle.table.specs.Rule.{ruleOf}
 use Rattle.lines.specs.Line.{put, Put}
-use Rattle.lines.specs.Laws.{put-put, put-none}
+use Rattle.lines.proofs.Laws.{put-put, put-none}
 use Rattle.roots.specs.Text.{line, linesOf, printed, Printed}
 
 -- the lines that are left from i on

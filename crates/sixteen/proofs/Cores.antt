@@ -9,19 +9,20 @@ use lib.ListN.{length, drop}
 use lib.Dec.{eqb, ltb}
 use lib.Ieee.{Float}
 use borrow.Author.Tests.{eqb-true, lt-ltb}
-use Rattle.ook.specs.Tests.{both-true}
-use Rattle.lane.specs.declared.Core.{Core}
+use Rattle.types.proofs.Tests.{both-true}
+use Rattle.step.specs.declared.Core.{Core}
 use Rattle.lane.specs.declared.Lane.{Lane}
 use Rattle.lane.specs.declared.Reply.{Reply}
 use Rattle.lane.specs.declared.StepArgs.{StepArgs}
-use Rattle.lane.specs.Core.{joinedOf, answerOf}
+use Rattle.step.specs.Core.{joinedOf}
+use Rattle.lane.specs.Answers.{answerOf}
 use Rattle.lane.specs.Step.{newLane}
 use Rattle.reached.specs.Reached.{Sound}
 use Rattle.commands.specs.declared.Command.the-variants.{Step}
 use Rattle.commands.specs.Command.{isStepOf}
-use Rattle.turns.specs.Turn.{State}
-use Rattle.turns.specs.Steps.{noArgs}
-use Rattle.turns.proofs.Taken.{Kept, coreStep}
+use Rattle.calls.specs.Turn.{State}
+use Rattle.calls.specs.Steps.{noArgs}
+use Rattle.calls.proofs.Taken.{Kept, coreStep}
 use Rattle.addressed.specs.Addressed.{addressedOf, antennaOf}
 use Rattle.among.specs.Among.{antennas}
 use Rattle.sixteen.specs.declared.Asked.{Asked}

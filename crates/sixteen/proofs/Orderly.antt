@@ -14,7 +14,7 @@ use Rattle.commands.specs.declared.Command.{Command}
 use Rattle.commands.specs.declared.Command.the-variants.{End, Open, Begin, Step, Unknown, Short, Close}
 use Rattle.commands.specs.Command.{sizeOf}
 use Rattle.commands.specs.Stream.{whole}
-use Rattle.turns.specs.Turn.{Called, unchanged, called, waits}
+use Rattle.calls.specs.Turn.{Called, unchanged, called, waits}
 use Rattle.addressed.specs.Addressed.{addressedOf, antennaOf, addressedSize}
 use Rattle.addressed.proofs.Laws.{size-fits, addressed-more, antenna-more, some-there, none-there}
 use Rattle.among.specs.Among.{antennas, calledAmong, Lanes, putAt, laneAt, answerTo, afterCall}

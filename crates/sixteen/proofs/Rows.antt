@@ -12,7 +12,7 @@ use borrow.Author.Tests.{ltb-true}
 use Rattle.lane.specs.declared.Lane.{Lane}
 use Rattle.lane.specs.Step.{newLane}
 use Rattle.reached.specs.Reached.{Sound, unopened}
-use Rattle.turns.specs.Turn.{State}
+use Rattle.calls.specs.Turn.{State}
 use Rattle.among.specs.Among.{antennas, Lanes, laneAt, putAt, outOf, outs, othersOut}
 use Rattle.among.proofs.Laws.{outs-at, outs-set, any-default}
 use Rattle.sixteen.specs.Sixteen.{rowOf}

@@ -9,13 +9,13 @@ use lib.ListN.{length, take, drop, length-drop}
 use lib.Seq.{sets, drop-append-le}
 use lib.Dec.{eqb, ltb, leb}
 use borrow.Author.Tests.{ltb-true, ltb-false, not-true}
-use Rattle.ook.specs.Tests.{both-true}
+use Rattle.types.proofs.Tests.{both-true}
 use Rattle.lane.specs.declared.Lane.{Lane}
 use Rattle.lane.specs.declared.Answer.{Answer}
 use Rattle.lane.specs.declared.Reply.{Reply}
 use Rattle.lane.specs.declared.Reply.the-variants as reply
 use Rattle.lane.specs.declared.StepArgs.{StepArgs}
-use Rattle.lane.specs.Core.{answerOf}
+use Rattle.lane.specs.Answers.{answerOf}
 use Rattle.lane.specs.Step.{refuse}
 use Rattle.reached.specs.Reached.{Sound}
 use Rattle.commands.specs.declared.Command.{Command}
@@ -23,12 +23,13 @@ use Rattle.commands.specs.declared.Command.the-variants.{End, Open, Begin, Step
 use Rattle.commands.specs.Command.{sizeOf, isStepOf}
 use Rattle.commands.specs.Stream.{whole}
 use Rattle.lines.specs.Line.{callText, recordLine, trainRoom, callRoom, hasRoom, put, Put}
-use Rattle.lines.specs.Room.{room-there}
-use Rattle.lines.specs.Laws as lines
-use Rattle.turns.specs.Turn.{State, Called, unchanged, called, next, shownOf, recordText, waits, mostOf}
-use Rattle.turns.specs.Laws.{Shown, shown-most, too-few-left}
-use Rattle.turns.specs.Steps.{quietOf}
-use Rattle.turns.proofs.Taken.{Kept, coreStep, core-steps, step-settings}
+use Rattle.lines.proofs.Room.{room-there}
+use Rattle.lines.proofs.Laws as lines
+use Rattle.calls.specs.Turn.{State, Called, unchanged, called, next, shownOf, recordText, waits, mostOf}
+use Rattle.calls.specs.Turn.{Shown}
+use Rattle.calls.proofs.Laws.{shown-most, too-few-left}
+use Rattle.calls.specs.Steps.{quietOf}
+use Rattle.calls.proofs.Taken.{Kept, coreStep, core-steps, step-settings}
 use Rattle.addressed.specs.Addressed.{addressedOf, antennaOf, addressedSize}
 use Rattle.addressed.proofs.Laws.{size-fits, step-there}
 use Rattle.tagged.specs.Tagged.{tagged, taggedText, taggedRoom}

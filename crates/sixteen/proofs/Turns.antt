@@ -9,7 +9,7 @@ use lib.ListN.{length, drop, set, getD}
 use lib.Seq.{set-getD}
 use Rattle.lane.specs.declared.Lane.{Lane}
 use Rattle.lane.specs.Step.{newLane}
-use Rattle.turns.specs.Turn.{State, mostOf}
+use Rattle.calls.specs.Turn.{State, mostOf}
 use Rattle.addressed.specs.Addressed.{antennaOf}
 use Rattle.tagged.specs.Tagged.{taggedRoom}
 use Rattle.among.specs.Among.{antennas, Lanes, laneAt, putAt, outOf, outs, othersOut}

@@ -7,13 +7,13 @@ use mathlib.Core.List.{List, [], _∷_, _++_}
 use lib.ListN.{length, take, drop, set, getD}
 use lib.Dec.{ltb}
 use Rattle.lane.specs.declared.Lane.{Lane}
-use Rattle.lane.specs.Core.{answerOf}
+use Rattle.lane.specs.Answers.{answerOf}
 use Rattle.reached.specs.Reached.{Sound}
 use Rattle.lane.specs.declared.Reply.{Reply}
 use Rattle.lines.specs.Line.{trainRoom, hasRoom}
 use Rattle.commands.specs.declared.Command.{Command}
-use Rattle.turns.specs.Turn.{State, Called, unchanged, shownOf, mostOf}
-use Rattle.turns.specs.Laws.{Shown}
+use Rattle.calls.specs.Turn.{State, Called, unchanged, shownOf, mostOf}
+use Rattle.calls.specs.Turn.{Shown}
 use Rattle.tagged.specs.Tagged.{taggedRoom}
 use Rattle.among.specs.Among.{antennas, calledAmong, Lanes, laneAt, putAt, othersOut, noAntenna}
 use Rattle.stream.specs.Blocks.{Left, Passed}

@@ -35,7 +35,7 @@ pub fn f32_at(o: &[u8], i: usize) -> f32
     requires { ⌜ i + 4 ≤ length (now o) ⌝ }
     ensures { λ r. ⌜ r ≡ f32At (now (o .entry)) i ⌝ }
 {
-    arith::f32_of_bits(u32_at(o, i))
+    ieee::f32_of_bits(u32_at(o, i))
 }
 
 // ---- lists of words

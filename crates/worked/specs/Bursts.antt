@@ -5,17 +5,17 @@ use Prim.Native.Nat.{ℕ, _+_}
 use mathlib.Core.List.{List, [], _∷_, _++_}
 use lib.ListN.{replicate}
 use lib.Ieee.{add, sub, mul, div, neg, lt, le, eq, ofBits, toBits, ofInt, toUnsigned, isNan}
-use Rattle.arith.specs.Rounding.{roundOf, narrowOf}
-use Rattle.arith.specs.Root.{wholeRoot, roundExact, exactOf, sqrtOf}
+use Rattle.ieee.specs.Rounding.{roundOf, narrowOf}
+use Rattle.root.specs.Root.{wholeRoot, roundExact, exactOf, sqrtOf}
 use Rattle.arith.specs.Leaves.{absOf, midpointOf, flushOf, crossOf, nearestIn}
 use Rattle.arith.specs.Carry.{widthBy, carriedAt, boundOf}
-use Rattle.ook.specs.Counts.{satAddOf, inc}
+use Rattle.types.specs.Counts.{satAddOf, inc}
 use Rattle.ook.specs.Refine.{refineLevelOf, refineLoOf, excessOf, splitFrom, refineInOf, refineOf}
 use Rattle.ook.specs.Run.{lengthenOf, rejoinOf, beginRunOf, beginsOf, advanceOf as advanceRunOf, zeroIf, pacRunOf, beginEnvOf}
 use Rattle.ook.specs.Train.{pushPulseOf, closeGapOf, emptyTrainOf, finishOf, endTrainOf, pulseDoneOf, gapRatioExceededOf}
-use Rattle.stages.specs.Act.{dueOf, confirmIf, riseOf, fallOf, confirmOf, actOf}
-use Rattle.stages.specs.See.{thresholdOf, onOf, refineDueOf, highOf, pacOf, seeOf}
-use Rattle.stages.specs.Tail.{carrierOf, goneOf, hasPulsesOf, gapOverOf, waitOf, tailOf}
+use Rattle.envelope.specs.Act.{dueOf, confirmIf, riseOf, fallOf, confirmOf, actOf}
+use Rattle.envelope.specs.See.{thresholdOf, onOf, refineDueOf, highOf, pacOf, seeOf}
+use Rattle.envelope.specs.Tail.{carrierOf, goneOf, hasPulsesOf, gapOverOf, waitOf, tailOf}
 use Rattle.burst.specs.Lead.{leadAddOf, largestFrom, beginBurstOf, leadAtOf, replayFrom, replayOf, leadFullOf}
 use Rattle.burst.specs.Sample.{snapIfOf, lastOf, restOf, sampleOf}
 use Rattle.presence.specs.Presence.{snapOf, nearStartOf}
@@ -34,8 +34,8 @@ use Rattle.lane.specs.Step.{newLane, opened, begun, stepped, closed}
 use Rattle.words.specs.Words.{u32At, u64At, encode}
 use Rattle.commands.specs.Command.{settingsOf, carrySettingsOf, historyOf as historyBytes, beginArgsOf, stepArgsOf, decoded}
 use Rattle.lines.specs.Line.{leading, decimal, hex8, widths, trainLine, recordLine, idleLine, carrierLine, refusedLine, callText}
-use Rattle.turns.specs.Turn.{called, answerText}
-use Rattle.turns.specs.Stream.{listed, listing}
+use Rattle.calls.specs.Turn.{called, answerText}
+use Rattle.calls.specs.Stream.{listed, listing}
 
 abbrev float1 : ℕ
 float1 = 0x3f80_0000

@@ -6,12 +6,12 @@ use mathlib.Core.Path.{_≡_}
 use mathlib.Core.List.{List, [], _∷_, map}
 use lib.ListN.{length, replicate}
 use lib.Ieee.{neg, le, ofBits, toBits}
-use Rattle.arith.specs.Leaves.{zero32}
-use Rattle.ook.specs.Counts.{zeroC32, inc}
-use Rattle.ook.specs.Core.{numbered}
-use Rattle.ook.specs.declared.Out.{Out}
-use Rattle.ook.specs.declared.Settings.{Settings}
-use Rattle.ook.specs.declared.Carrier.the-variants.{Angle}
+use Rattle.ieee.specs.Constants.{zero32}
+use Rattle.types.specs.Counts.{zeroC32, inc}
+use Rattle.types.specs.Core.{numbered}
+use Rattle.types.specs.declared.Out.{Out}
+use Rattle.types.specs.declared.Settings.{Settings}
+use Rattle.types.specs.declared.Carrier.the-variants.{Angle}
 use Rattle.burst.specs.Lead.{leadAddOf}
 use Rattle.refusals.specs.Domain.{settingsOk, unsetOk}
 use Rattle.refusals.specs.Order.{firstFailed}

@@ -4,8 +4,8 @@ use Prim.Native.Nat.{ℕ}
 use mathlib.Core.Path.{_≡_}
 use mathlib.Core.List.{List, [], _∷_, _++_, map}
 use lib.Ieee.{binary32, binary64, ofBits, toBits, ofInt, isNan, sub, mul, div, lt}
-use Rattle.arith.specs.Rounding.{roundOf}
-use Rattle.arith.specs.Root.{sqrtOf}
+use Rattle.ieee.specs.Rounding.{roundOf}
+use Rattle.root.specs.Root.{sqrtOf}
 use Rattle.arith.specs.Leaves.{crossOf, gainOf, leadLenOf, nearestIn}
 use Rattle.grid.specs.Slots.{timeOf, lastRiseBelow, lastRise, times, upTo, transitionsOf, fold}
 use Rattle.grid.specs.Widths.{shorterOf, runsStep, runsOf, addedOf, meanAfter, meanStep, meanOf, gridOf, measuredOf, widthsOn, fskWidthsOf}

@@ -1,6 +1,6 @@
 -- `arith::a_gain` meets its contract: a square above 1e-30 is no NaN, so its pattern has an exponent's field; from 254 on nothing is left of 254 less the field. Assumes nothing.
-use Rattle.arith.proofs.Values.{plain-bits-plus}
-use Rattle.arith.proofs.Signs.{above-plain}
+use Rattle.ieee.proofs.Values.{plain-bits-plus}
+use Rattle.ieee.proofs.Signs.{above-plain}
 use Rattle.arith.specs.Leaves.{gainOf, exponentOf}
 use lib.Ieee.{binary32, ofBits, toBits, mul}
 use native.Mathlib.Omega.{arith}

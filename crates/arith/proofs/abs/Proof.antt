@@ -2,7 +2,7 @@
 use lib.Ieee.{binary32}
 use lib.Dec.{T}
 use mathlib.Core.Path.{sym, subst}
-use Rattle.arith.proofs.Nan.{is-nan, no-nan}
+use Rattle.ieee.proofs.Nan.{is-nan, no-nan}
 use Rattle.arith.proofs.Magnitude.{abs-nan, abs-plain, abs-bits}
 use Rattle.arith.proofs.abs.Statement.{statement}
 use Rattle.arith.proofs.abs.Tie as tie

@@ -2,7 +2,7 @@
 use mathlib.Core.Path.{sym, subst}
 use Prim.Native.Nat.{ℕ, _≤_}
 use borrow.Author.Needs.{needs}
-use Rattle.arith.specs.Carry.{bound-rises}
+use Rattle.arith.proofs.Carry.{bound-rises}
 use Rattle.arith.proofs.Signed.{carried-made}
 use Rattle.arith.proofs.carried_at.Statement.{statement}
 use Rattle.arith.proofs.carried_at.Tie as tie

@@ -2,7 +2,7 @@
 use mathlib.Core.Path.{_∙_}
 use lib.Ieee.{binary32}
 use lib.Ieee.Fits.{div-fits}
-use Rattle.arith.proofs.Widening.{widen-keeps}
+use Rattle.ieee.proofs.Widening.{widen-keeps}
 use Rattle.arith.specs.Leaves.{crossOf}
 use borrow.Author.Needs.{needs}
 use Rattle.arith.proofs.cross.Statement.{statement}

@@ -1,7 +1,7 @@
 -- `arith::midpoint` meets its contract: what the calls ensure, one after the other; widening changes neither operand. Assumes nothing.
 use mathlib.Core.Path.{sym, _∙_, subst}
 use lib.Dec.{T}
-use Rattle.arith.proofs.Widening.{widen-keeps}
+use Rattle.ieee.proofs.Widening.{widen-keeps}
 use Rattle.arith.specs.Leaves.{midpointOf}
 use borrow.Author.Needs.{needs}
 use Rattle.arith.proofs.midpoint.Statement.{statement}

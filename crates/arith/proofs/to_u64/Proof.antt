@@ -1,5 +1,5 @@
 -- `arith::to_u64` meets its contract: a truncation inside the range, and its two ends (`Ends.antt`). Assumes nothing.
-use Rattle.arith.proofs.Ends.{past-top, past-low}
+use Rattle.ieee.proofs.Ends.{past-top, past-low}
 use lib.Ieee.{ofBits, neg}
 use lib.Dec.{T}
 use mathlib.Core.Path.{sym, subst}

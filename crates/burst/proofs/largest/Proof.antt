@@ -3,8 +3,9 @@ use Prim.Native.Nat.{_-_, _≤_}
 use mathlib.Core.Path.{_≡_, _∙_, sym}
 use native.Mathlib.Nat.{sub-zero}
 use borrow.Author.Needs.{needs}
-use Rattle.arith.specs.Leaves.{zero32}
-use Rattle.burst.specs.Lead.{largestFrom, largest-turn, largest-end}
+use Rattle.ieee.specs.Constants.{zero32}
+use Rattle.burst.specs.Lead.{largestFrom}
+use Rattle.burst.proofs.LeadLaws.{largest-turn, largest-end}
 use Rattle.burst.proofs.largest.Statement.{statement}
 use Rattle.burst.proofs.largest.Tie as tie
 

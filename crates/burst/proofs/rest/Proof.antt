@@ -7,13 +7,13 @@ use mathlib.Core.List.{List}
 use native.Mathlib.Omega.{arith}
 use lib.Dec.{eqb}
 use lib.Ieee.{Float}
-use Rattle.ook.specs.Answers.{isStayOf}
-use Rattle.ook.specs.declared.Settings.{Settings}
+use Rattle.types.specs.Answers.{isStayOf}
+use Rattle.types.specs.declared.Settings.{Settings}
 use Rattle.ook.specs.declared.Done.{Done}
 use Rattle.presence.specs.Presence.{presenceOf}
-use Rattle.stages.specs.Tail.{tailOf}
-use Rattle.stages.specs.declared.At.{At}
-use Rattle.stages.specs.declared.Seen.{Seen}
+use Rattle.envelope.specs.Tail.{tailOf}
+use Rattle.envelope.specs.declared.At.{At}
+use Rattle.envelope.specs.declared.Seen.{Seen}
 use Rattle.burst.specs.Makers.{bodyIn, doneIn}
 use Rattle.burst.specs.Sample.{absenceOf, inputsOf, lastOf, presentOf, restOf}
 use Rattle.burst.specs.Lead.{staying}

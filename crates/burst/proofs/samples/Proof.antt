@@ -10,9 +10,9 @@ use lib.ListN.{length}
 use lib.Ieee.{Float}
 use borrow.Author.Needs.{needs}
 use borrow.Author.Tests.{not-true, not-false}
-use Rattle.ook.specs.Answers.{isStayOf}
-use Rattle.ook.specs.declared.Settings.{Settings}
-use Rattle.stages.specs.declared.At.{At}
+use Rattle.types.specs.Answers.{isStayOf}
+use Rattle.types.specs.declared.Settings.{Settings}
+use Rattle.envelope.specs.declared.At.{At}
 use Rattle.burst.specs.Sample.{sampleOf}
 use Rattle.burst.specs.Lead.{onward, staying}
 use Rattle.burst.specs.Core.{wholeBurst, atInOf, samplesFrom}

@@ -7,7 +7,7 @@ use native.Mathlib.Omega.{arith}
 use lib.ListN.{length, getD}
 use borrow.Author.Tests.{lt-ltb, le-ltb}
 use borrow.Author.Needs.{needs}
-use Rattle.ook.specs.declared.Settings.{Settings}
+use Rattle.types.specs.declared.Settings.{Settings}
 use Rattle.commands.specs.declared.Command.the-variants.{Open, Short}
 use Rattle.commands.specs.Command.{withCarry, settingsOf, carrySettingsOf, openingOf}
 use Rattle.commands.proofs.decode_open.Statement.{statement}

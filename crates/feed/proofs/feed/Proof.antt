@@ -3,7 +3,7 @@ use Prim.Native.Nat.{ℕ}
 use mathlib.Core.Path.{refl, ap, _∙_}
 use native.Mathlib.Omega.{arith}
 use lib.ListN.{length, take, length-take}
-use Rattle.feed.specs.Feeds.{feeds-made}
+use Rattle.feed.proofs.Feeds.{feeds-made}
 use Rattle.feed.proofs.Laws.{smaller-take, smaller-in}
 use borrow.Author.Needs.{needs}
 use Rattle.feed.proofs.feed.Statement.{statement}

@@ -3,7 +3,8 @@ use Prim.Native.Nat.{_-_}
 use native.Mathlib.Numerals.{unary-clauses}
 use mathlib.Core.Path.{_≡_, sym, _∙_}
 use borrow.Author.Needs.{needs}
-use Rattle.fsk.specs.Resolve.{firstPastOf, first-found, first-next, first-end}
+use Rattle.fsk.specs.Resolve.{firstPastOf}
+use Rattle.fsk.proofs.Resolve.{first-found, first-next, first-end}
 use Rattle.fsk.proofs.first_past.Statement.{statement}
 use Rattle.fsk.proofs.first_past.Tie as tie
 

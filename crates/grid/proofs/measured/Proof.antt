@@ -1,7 +1,7 @@
 -- `grid::measured` meets its contract: the widths written so far and those of the rest are the whole list's. Assumes nothing.
 use Rattle.grid.proofs.Writes.{Written, write-start, write-turn, write-end}
 use Rattle.arith.specs.declared.Steps.{Steps}
-use Rattle.arith.specs.Rounding.{roundOf}
+use Rattle.ieee.specs.Rounding.{roundOf}
 use Rattle.arith.specs.Leaves.{widthOf}
 use native.Mathlib.Omega.{arith}
 use lib.ListN.{length, length-set}

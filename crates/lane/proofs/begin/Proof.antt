@@ -7,7 +7,7 @@ use borrow.Author.Tests.{eqb-true, ltb-true}
 use lib.Dec.{eqb}
 use Rattle.domain.specs.Limits.{spentSerial}
 use Rattle.refusals.specs.Domain.{indexOk, roomOk}
-use Rattle.refusals.specs.Order.{none-failed}
+use Rattle.refusals.proofs.Order.{none-failed}
 use Rattle.lane.specs.declared.BeginArgs.{BeginArgs}
 use Rattle.lane.specs.declared.Lane.{Lane}
 use Rattle.refusals.specs.Serial.{serialLeft}

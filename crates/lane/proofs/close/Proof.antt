@@ -10,13 +10,14 @@ use lib.Dec.{eqb}
 use Rattle.domain.specs.Limits.{maxSerial}
 use Rattle.burst.specs.declared.Burst.{Burst}
 use Rattle.refusals.specs.Domain.{roomOk}
-use Rattle.refusals.specs.Order.{none-failed}
+use Rattle.refusals.proofs.Order.{none-failed}
 use Rattle.lane.specs.declared.Lane.{Lane}
 use Rattle.lane.specs.declared.Reply.the-variants as reply
 use Rattle.lane.specs.Begin.{clearedOf}
 use Rattle.lane.specs.Close.{idleWith, endBurstOf, closeOf}
-use Rattle.lane.specs.Core.{answerOf}
-use Rattle.lane.specs.Refusals.{laneOk, lane-passes, closeRefusal}
+use Rattle.lane.specs.Answers.{answerOf}
+use Rattle.lane.specs.Refusals.{laneOk, closeRefusal}
+use Rattle.lane.proofs.Refusals.{lane-passes}
 use Rattle.lane.specs.Serial.{stampOf}
 use Rattle.lane.specs.Step.{closed}
 use borrow.Author.Needs.{needs}

@@ -2,12 +2,13 @@
 use Prim.Native.Nat.{ℕ}
 use mathlib.Core.Path.{_≡_, ap, sym, _∙_}
 use mathlib.Core.List.{List}
-use Rattle.ook.specs.Core.{wholeOut, wholeEnded, numbered}
+use Rattle.types.specs.Core.{wholeOut, numbered}
+use Rattle.ook.specs.Core.{wholeEnded}
 use Rattle.ook.specs.Train.{endTrainOf}
 use Rattle.ook.specs.declared.Ended.{Ended}
 use Rattle.ook.specs.declared.EndedCore.{EndedCore}
-use Rattle.ook.specs.declared.Out.{Out}
-use Rattle.ook.specs.declared.OutCore.{OutCore}
+use Rattle.types.specs.declared.Out.{Out}
+use Rattle.types.specs.declared.OutCore.{OutCore}
 use Rattle.burst.specs.Makers.{withTrain, withSerials}
 use Rattle.burst.specs.declared.Burst.{Burst}
 use Rattle.lane.specs.Begin.{clearedOf}

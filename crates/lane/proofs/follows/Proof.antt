@@ -1,5 +1,5 @@
 -- `lane::follows` meets its contract: an index that is not 0 follows the last one where it less 1 is the last. Assumes nothing.
-use Rattle.lane.specs.Refusals.{follows-back, follows-none}
+use Rattle.lane.proofs.Refusals.{follows-back, follows-none}
 use borrow.Author.Needs.{needs}
 use Rattle.lane.proofs.follows.Statement.{statement}
 use Rattle.lane.proofs.follows.Tie as tie

@@ -6,9 +6,9 @@ use native.Mathlib.Omega.{arith}
 use borrow.Author.Tests.{eqb-true, ltb-true}
 use lib.Dec.{lit<, eqb}
 use Rattle.domain.specs.Limits.{spentSerial}
-use Rattle.ook.specs.declared.Settings.{Settings}
+use Rattle.types.specs.declared.Settings.{Settings}
 use Rattle.refusals.specs.Domain.{settingsOk}
-use Rattle.refusals.specs.Order.{passed}
+use Rattle.refusals.proofs.Order.{passed}
 use Rattle.lane.specs.declared.Lane.{Lane}
 use Rattle.refusals.specs.Serial.{serialLeft}
 use Rattle.lane.specs.Refusals.{openRefusal}

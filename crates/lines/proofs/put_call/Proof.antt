@@ -1,4 +1,4 @@
-use Rattle.lines.specs.Laws.{same, then, within}
+use Rattle.lines.proofs.Laws.{same, then, within}
 use Rattle.lines.specs.Line.{callText}
 use borrow.Author.Needs.{needs}
 use Rattle.lines.proofs.put_call.Statement.{statement}

@@ -1,5 +1,5 @@
 use Rattle.lines.specs.Line.{hex8}
-use Rattle.lines.specs.Laws.{said}
+use Rattle.lines.proofs.Laws.{said}
 use borrow.Author.Needs.{needs}
 use Rattle.lines.proofs.put_float.Statement.{statement}
 use Rattle.lines.proofs.put_float.Tie as tie

@@ -1,4 +1,4 @@
-use Rattle.lines.specs.Laws.{then, within}
+use Rattle.lines.proofs.Laws.{then, within}
 use Rattle.lines.specs.Line.{idleLine}
 use borrow.Author.Needs.{needs}
 use Rattle.lines.proofs.put_idle.Statement.{statement}

@@ -6,7 +6,8 @@ use lib.ListN.{length}
 use Rattle.lane.specs.Step.{newLane}
 use Rattle.input.proofs.Laws.{first-false}
 use Rattle.listing.specs.declared.Passed.{Passed}
-use Rattle.listing.specs.Passes.{Standing, starts, goes, stops, stands}
+use Rattle.listing.specs.Passes.{Standing}
+use Rattle.listing.proofs.Passes.{starts, goes, stops, stands}
 use borrow.Author.Needs.{needs}
 use Rattle.listing.proofs.run.Statement.{statement}
 use Rattle.listing.proofs.run.Tie as tie

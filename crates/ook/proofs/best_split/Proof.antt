@@ -3,7 +3,8 @@ use Prim.Native.Nat.{_-_}
 use mathlib.Core.Path.{_≡_, _∙_, sym}
 use lib.Ieee.{nanBits}
 use borrow.Author.Needs.{needs}
-use Rattle.ook.specs.Refine.{bestSplitOf, splitFrom, split-turn, split-end}
+use Rattle.ook.specs.Refine.{bestSplitOf, splitFrom}
+use Rattle.ook.proofs.RefineLaws.{split-turn, split-end}
 use Rattle.ook.proofs.best_split.Statement.{statement}
 use Rattle.ook.proofs.best_split.Tie as tie
 

@@ -4,9 +4,9 @@ use mathlib.Core.Bool.{Bool}
 use mathlib.Core.Path.{_≡_}
 use mathlib.Core.List.{List}
 use native.Mathlib.Omega.{arith}
-use Rattle.ook.specs.declared.Settings.{Settings}
-use Rattle.frame.specs.Done.{withFrame}
-use Rattle.frame.specs.declared.Body.{Body}
+use Rattle.types.specs.declared.Settings.{Settings}
+use Rattle.frame_end.specs.Done.{withFrame}
+use Rattle.frame_end.specs.declared.Body.{Body}
 use Rattle.presence.specs.Presence.{advanceOf, dueOf, endsOf, sureIfOf, endIfOf, carrierIfOf}
 use Rattle.presence.specs.declared.Pres.{Pres}
 use Rattle.presence.specs.declared.Inputs.{Inputs}

@@ -8,7 +8,7 @@ use native.Mathlib.Omega.{arith}
 use lib.ListN.{length, take, drop, set, getD}
 use borrow.Author.Tests.{not-true, not-false}
 use borrow.Author.Needs.{needs}
-use Rattle.turns.specs.Turn.{waits}
+use Rattle.calls.specs.Turn.{waits}
 use Rattle.addressed.specs.Addressed.{addressedOf}
 use Rattle.among.specs.Among.{Lanes, outs}
 use Rattle.among.proofs.Laws.{outs-take, outs-fit, outs-put}

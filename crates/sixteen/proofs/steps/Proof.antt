@@ -12,11 +12,11 @@ use borrow.Author.Tests.{eq-eqb, not-true, not-false}
 use borrow.Author.Needs.{needs}
 use Rattle.lane.specs.declared.Lane.{Lane}
 use Rattle.lane.specs.declared.Reply.{Reply}
-use Rattle.lane.specs.Core.{joinedOf}
+use Rattle.step.specs.Core.{joinedOf}
 use Rattle.reached.specs.Reached.{Sound}
 use Rattle.commands.specs.Command.{isStepOf}
-use Rattle.turns.specs.Turn.{State}
-use Rattle.turns.proofs.Cores.{joined-back, sound-lead, sound-serial}
+use Rattle.calls.specs.Turn.{State}
+use Rattle.calls.proofs.Cores.{joined-back, sound-lead, sound-serial}
 use Rattle.addressed.specs.Addressed.{addressedOf, antennaOf}
 use Rattle.sixteen.specs.declared.Asked.{Asked}
 use Rattle.sixteen.specs.Spoken.{Heard}

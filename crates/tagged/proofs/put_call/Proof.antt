@@ -1,5 +1,5 @@
 use mathlib.Core.Path.{sym, _∙_}
-use Rattle.lines.specs.Laws.{same, then, within}
+use Rattle.lines.proofs.Laws.{same, then, within}
 use Rattle.tagged.proofs.Laws.{refused-text, accepted-text}
 use borrow.Author.Needs.{needs}
 use Rattle.tagged.proofs.put_call.Statement.{statement}

@@ -1,4 +1,4 @@
-use Rattle.lines.specs.Laws.{same, then, put-none}
+use Rattle.lines.proofs.Laws.{same, then, put-none}
 use Rattle.tagged.proofs.Laws.{refused-tagged, stay-tagged, idle-tagged, carrier-tagged}
 use borrow.Author.Needs.{needs}
 use Rattle.tagged.proofs.put_tagged_phase.Statement.{statement}

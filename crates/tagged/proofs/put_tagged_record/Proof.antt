@@ -1,4 +1,4 @@
-use Rattle.lines.specs.Laws.{same, then, put-none}
+use Rattle.lines.proofs.Laws.{same, then, put-none}
 use Rattle.tagged.proofs.Laws.{record-tagged, record-none}
 use borrow.Author.Needs.{needs}
 use Rattle.tagged.proofs.put_tagged_record.Statement.{statement}

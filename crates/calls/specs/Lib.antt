@@ -1,0 +1,4 @@
+pub mod Turn
+pub mod Stream
+pub mod Blocks
+pub mod Steps
