@@ -2,6 +2,7 @@
 -- among others answers as it does alone, but for refusal 12 of begin.
 use Prim.Native.Nat.{ℕ, _+_, _-_}
 use mathlib.Core.Bool.{cond, not}
+use mathlib.Core.Path.{_≡_}
 use mathlib.Core.List.{List, [], _∷_}
 use lib.ListN.{length, set, getD}
 use lib.Dec.{eqb, ltb}
@@ -58,6 +59,12 @@ calledAmong n p Close = called p Close
 -- the lanes, their OOK buffers and their FSK buffers: "Each lane has its own pair of buffers."
 abbrev pub Lanes : Type 0
 Lanes = List Lane × List (List ℕ) × List (List ℕ)
+
+-- "One receiver now serves sixteen lanes"
+pub record Sized (p : Lanes) : Type 0 where
+  pub lanes : length (p .0) ≡ antennas
+  pub ooks : length (p .1) ≡ antennas
+  pub fsks : length (p .2) ≡ antennas
 
 abbrev pub laneAt : Lanes → ℕ → State
 laneAt p i = (getD (p .0) i newLane, getD (p .1) i [], getD (p .2) i [])

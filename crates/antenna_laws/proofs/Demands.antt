@@ -1,6 +1,6 @@
 -- Demand 3 and R-9 of each antenna: the lone lane's commands are a list of demand 3's calls, and run along with the place of that list. The lane is
 -- the same at each call; the OOK buffer is the same while a burst is under way, and while none is, a step or a close is refused whatever it is
--- lent. Assumes nothing.
+-- lent.
 use Prim.Native.Nat.{ℕ}
 use mathlib.Core.Bool.{Bool, true, false, cond, not}
 use mathlib.Core.Path.{_≡_, refl, sym, _∙_, ap, subst}

@@ -1,4 +1,4 @@
--- A lane that turns idle frees its place: one lane fewer is out of idle, so that the next call finds fewer than four others. Assumes nothing.
+-- A lane that turns idle frees its place: one lane fewer is out of idle, so that the next call finds fewer than four others.
 use Prim.Native.Nat.{ℕ, _+_, _<_}
 use mathlib.Core.Bool.{Bool, true, false, _&&_}
 use mathlib.Core.Path.{_≡_, refl, sym, _∙_, ap, subst}

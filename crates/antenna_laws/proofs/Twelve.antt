@@ -1,4 +1,4 @@
--- 12 is given in its one case and in no other: the lane alone never gives it, and among others `meets` says where. Assumes nothing.
+-- 12 is given in its one case and in no other: the lane alone never gives it, and among others `meets` says where.
 use Prim.Native.Nat.{ℕ, zero, suc, _+_, _<_}
 use mathlib.Core.Bool.{Bool, true, false, cond, _&&_, false≢true}
 use mathlib.Core.Path.{_≡_, refl, sym, _∙_, ap}

@@ -4,7 +4,7 @@ use mathlib.Core.Bool.{Bool, true, false, cond}
 use mathlib.Core.Path.{_≡_, refl, ap}
 use native.Mathlib.Omega.{arith}
 use lib.Dec.{eqb, ltb, le→leb}
-use lib.IntN.{ℤ, pos, negsuc, _+ℤ_}
+use lib.IntN.{pos, negsuc, _+ℤ_}
 use lib.Signed.{_≤ℤ_, leZ-yes}
 use borrow.Author.Tests.{ltb-true, ltb-false, le-ltb}
 use lib.Ieee.{Float}

@@ -3,17 +3,17 @@ use Prim.Native.Nat.{ℕ, _+_, _-_, _/_, _%_, _^_, min, max}
 use mathlib.Core.Bool.{cond}
 use lib.Dec.{eqb}
 use lib.IntN.{ℤ, pos, subℕ}
-use lib.Ieee.{Float, binary64, sub, mul, ofBits}
+use lib.Ieee.{Float, binary64, sub, mul}
 use Rattle.domain.specs.Limits.{maxBound}
 use Rattle.arith.specs.declared.Steps.{Steps}
 use Rattle.arith.specs.declared.Carried.{Carried}
-use Rattle.arith.specs.Leaves.{nearestIn, widthOf}
+use Rattle.arith.specs.Leaves.{runFix, nearestIn, widthOf}
 
 -- "the edge's f64 difference from the first pulse's edge in 64ths of a step, to the nearest whole 64th with ties away from zero, and
 -- never below the boundary before"; "A larger difference counts as 2^47, NaN as 0". Times 64 is exact, or too large. A boundary is never below 0, so what a negative
 -- difference is rounded to does not matter.
 unfoldable pub boundOf : Float → ℕ → Float → ℕ
-boundOf origin before t = max before (min (nearestIn 64 (mul binary64 (sub binary64 t origin) (ofBits binary64 0x4050_0000_0000_0000))) maxBound)
+boundOf origin before t = max before (min (nearestIn 64 (mul binary64 (sub binary64 t origin) runFix)) maxBound)
 
 -- a boundary "rounded to whole steps with ties up"
 abbrev pub roundedOf : ℕ → ℕ

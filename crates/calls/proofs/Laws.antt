@@ -1,4 +1,4 @@
--- Laws of the definitions in specs/Laws.
+-- What a call prints has room where `mostOf` says so: no part that is printed is longer than its buffer, nor than two slots for each pulse.
 use Prim.Native.Nat.{ℕ, _+_, _*_, _-_, _<_, _≤_}
 use mathlib.Core.Bool.{Bool, true, false, cond}
 use mathlib.Core.Path.{_≡_, refl, _∙_, ap}
@@ -9,6 +9,7 @@ use lib.Seq.{sets}
 use lib.Dec.{eqb, ltb, leb}
 use borrow.Author.Tests.{ltb-false, leb-false, le-ltb, le-leb}
 use Rattle.types.specs.declared.Out.{Out}
+use Rattle.types.proofs.Tests.{clash}
 use Rattle.lane.specs.declared.Lane.{Lane}
 use Rattle.lane.specs.declared.Reply.{Reply}
 use Rattle.lane.specs.declared.Reply.the-variants.{Refused, Stay, Idle, IdleAt}
@@ -22,8 +23,7 @@ use Rattle.lines.specs.declared.Written.{Written}
 use Rattle.lines.specs.Line.{maxSlots, callRoom, largerOf, hasRoom, recordLine, callText, writtenCall, put}
 use Rattle.lines.proofs.Room.{room-there, length-call, larger-left, larger-right}
 use Rattle.reached.proofs.Records.{PartsFit, parts-fit-step, parts-fit-close, parts-fit-begin, parts-fit-open, slots-step, slots-close, answered-step, answered-close, answered-begin, answered-open}
-use Rattle.calls.specs.Turn.{State, Called, called, shownOf, answerText, calledText, textOf, placeOf, waits, smallerOf, slotsOf, mostOf}
-use Rattle.calls.specs.Turn.{Shown}
+use Rattle.calls.specs.Turn.{State, Called, called, shownOf, answerText, calledText, textOf, placeOf, waits, smallerOf, slotsOf, mostOf, Shown}
 
 -- ---- room
 
@@ -138,7 +138,7 @@ close-shown p h g =
 -- no part that a call prints has more slots than `mostOf` says; nothing is said where there is no command
 pub shown-most : (p : State) (k : Command) → waits true k ≡ false → length (called p k .1) ≡ length (p .1) → length (called p k .2) ≡ length (p .2) → Shown (called p k) (mostOf p)
 unfolding called
-shown-most p End w h g = let z : _≡_ {A = Bool} true false = w in let q : _≡_ {A = ℕ} 0 1 = cc in absurd (omega arith)
+shown-most p End w h g = clash w
 shown-most p (Open s carries) w h g = shown-fits (called p (Open s carries)) (mostOf p) (λ n. parts-fit-open (p .0) s (answered-open (p .0) s n) (mostOf p) (p .1) (p .2))
 shown-most p (Begin b) w h g = shown-fits (called p (Begin b)) (mostOf p) (λ n. parts-fit-begin (p .0) b (p .1) (p .2) (answered-begin (p .0) b (p .1) (p .2) n) (mostOf p) (p .1) (p .2))
 shown-most p (Step s) w h g = step-shown p s h g
@@ -185,7 +185,7 @@ called-short c most h =
 
 -- a command that is there prints the lines of its call
 pub there : (k : Command) (c : Called) → waits true k ≡ false → textOf k c ≡ calledText c
-there End c w = let z : _≡_ {A = Bool} true false = w in let q : _≡_ {A = ℕ} 0 1 = cc in absurd (omega arith)
+there End c w = clash w
 there (Open s carries) c w = refl
 there (Begin b) c w = refl
 there (Step s) c w = refl

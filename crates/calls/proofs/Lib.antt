@@ -1,6 +1,5 @@
--- What the proofs of this crate cite.
+pub mod Laws
+pub mod Orderly
+pub mod Silent
 pub mod Taken
 pub mod Cores
-pub mod Blocks
-pub mod Laws
-pub mod Stream

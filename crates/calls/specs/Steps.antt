@@ -1,9 +1,9 @@
 -- What `calls::steps`, `calls::pass` and `calls::turn` say: commands of a stream, taken one after another, up to the first that prints.
 use Prim.Native.Nat.{ℕ, _≤_}
-use mathlib.Core.Bool.{Bool, true, false, not, cond, _&&_}
+use mathlib.Core.Bool.{Bool, true, false, not, _&&_}
 use mathlib.Core.Path.{_≡_}
-use mathlib.Core.List.{List, [], _++_}
-use lib.ListN.{length, take, drop}
+use mathlib.Core.List.{List, _++_}
+use lib.ListN.{length, take}
 use lib.Dec.{eqb}
 use Rattle.ieee.specs.Constants.{zero32}
 use Rattle.types.specs.Counts.{zeroC32}
@@ -14,12 +14,10 @@ use Rattle.lane.specs.Answers.{answerOf}
 use Rattle.reached.specs.Reached.{Sound}
 use Rattle.commands.specs.declared.Command.{Command}
 use Rattle.commands.specs.declared.Command.the-variants.{End, Open, Begin, Step, Unknown, Short, Close}
-use Rattle.commands.specs.Command.{decoded, sizeOf}
-use Rattle.calls.specs.declared.Past.{Past}
+use Rattle.stream.specs.Blocks.{Passed}
 use Rattle.calls.specs.declared.Turned.{Turned}
-use Rattle.calls.specs.Turn.{State, calledText, mostOf}
-use Rattle.calls.specs.Turn.{Shown}
-use Rattle.calls.specs.Stream.{listing, Turns}
+use Rattle.calls.specs.Turn.{State, calledText, mostOf, Shown}
+use Rattle.calls.specs.Stream.{machine}
 
 abbrev pub noArgs : StepArgs
 noArgs = record { index = 0; noise = zero32; envelope = zero32; x = zeroC32 }
@@ -43,29 +41,17 @@ quietOf (reply.IdleAt e) f o = false
 
 -- ---- what is said of commands that were taken
 
--- Bytes that come after s leave the command at a place as it is.
-abbrev pub Seen : List ℕ → ℕ → List ℕ → Type 0
-Seen s from t = decoded (drop from (s ++ t)) ≡ decoded (drop from s)
-
--- Commands from a place of s on lead from p to q, and all but the last print nothing: the lines of the last, and those of what is left,
--- are the lines of the whole. Where no byte is taken the stream ends, with nothing changed.
-pub record Passed (p : State) (s : List ℕ) (from : ℕ) (r : Past) (q : State) : Type 0 where
-  pub onward : from ≤ r .used
-  pub inside : r .used ≤ length s
+-- commands from a place of s on lead from p to q, all but the last print nothing, and the last answers `reply`; the lane stays sound, and the
+-- parts that are printed have room in a text that has it for any call from p on
+pub record Took (p : State) (s : List ℕ) (from used : ℕ) (reply : Reply) (q : State) : Type 0 where
   pub sound : Sound (q .0)
-  pub shown : Shown (answerOf (r .reply) (q .0), q .1, q .2) (mostOf p)
-  pub left : (o : State) (t : List ℕ) → Seen s from t → (r .used ≡ from → ⊥) → Turns o (s ++ t) from p → Turns o (s ++ t) (r .used) q
-  pub ended : r .used ≡ from → (sizeOf (decoded (drop from s)) ≡ 0) × (q ≡ p)
-  pub same : (t : List ℕ) → Seen s from t
-      → calledText (answerOf (r .reply) (q .0), q .1, q .2) ++ cond (eqb (r .used) from) [] (listing q (drop (r .used) s ++ t)) ≡ listing p (drop from s ++ t)
+  pub shown : Shown (answerOf reply (q .0), q .1, q .2) (mostOf p)
+  pub passes : Passed machine p s from used (calledText (answerOf reply (q .0), q .1, q .2)) q
 
--- what a turn says: its commands lead from p to a state, and the lines of the last stand in the text from `at` on
-pub record Turn (p : State) (s : List ℕ) (from at : ℕ) (x : List ℕ) (z : Turned × List ℕ × List ℕ × List ℕ) : Type 0 where
-  pub onward : from ≤ z .0 .used
-  pub inside : z .0 .used ≤ length s
-  pub near : z .0 .at ≤ length x
-  pub sound : Sound (z .0 .lane)
-  pub left : (o : State) (t : List ℕ) → Seen s from t → (z .0 .used ≡ from → ⊥) → Turns o (s ++ t) from p → Turns o (s ++ t) (z .0 .used) (z .0 .lane, z .1, z .2)
-  pub ended : z .0 .used ≡ from → (sizeOf (decoded (drop from s)) ≡ 0) × ((z .0 .lane, z .1, z .2) ≡ p)
-  pub printed : (t : List ℕ) → Seen s from t
-      → take (z .0 .at) (z .3) ++ cond (eqb (z .0 .used) from) [] (listing (z .0 .lane, z .1, z .2) (drop (z .0 .used) s ++ t)) ≡ take at x ++ listing p (drop from s ++ t)
+-- the lines of the commands taken stand in the text from `at` on: x before the turn, y after it
+pub record Turn (p : State) (s : List ℕ) (from at : ℕ) (x : List ℕ) (z : Turned) (q : State) (y : List ℕ) : Type 0 where
+  pub near : z .at ≤ length x
+  pub sound : Sound (q .0)
+  pub text : List ℕ
+  pub puts : take (z .at) y ≡ take at x ++ text
+  pub passes : Passed machine p s from (z .used) text q

@@ -9,8 +9,9 @@ ghost use Rattle.commands.specs.Command.{decoded, isStepOf};
 ghost use Rattle.reached.specs.Reached.{Sound};
 ghost use Rattle.lines.specs.Line.{largerOf, hasRoom, put};
 ghost use Rattle.calls.specs.Turn.{Called, called, refusedOf, shownOf, answerText, placeOf, waits as Turn·waits, smallerOf, slotsOf, mostOf};
-ghost use Rattle.calls.specs.Steps.{noArgs, argsOf, quietOf, Passed, Turn};
-ghost use Rattle.calls.specs.Stream.{Streamed};
+ghost use Rattle.calls.specs.Steps.{noArgs, argsOf, quietOf, Took, Turn};
+ghost use Rattle.calls.specs.Stream.{machine, leftBy};
+ghost use Rattle.stream.specs.Blocks.{Streamed};
 use arith::C32;
 use commands::Command;
 use lane::Answer;
@@ -202,7 +203,7 @@ pub fn is_quiet(r: Reply, f: u32, o: u32) -> bool
 // are changed in place. A sound lane never meets refusal 4, so it is not asked for.
 fn steps(lane: Lane, s: &[u8], from: usize, ook: &mut [u32], fsk: &mut [u32]) -> Past
     requires { ⌜ (from < length (now s)) × (isStepOf (decoded (drop from (now s))) ≡ true) × Sound lane ⌝ }
-    ensures { λ r. ⌜ Passed (lane, now (ook .entry), now (fsk .entry)) (now (s .entry)) from r (r .lane, now (ook .exit), now (fsk .exit)) ⌝ }
+    ensures { λ r. ⌜ Took (lane, now (ook .entry), now (fsk .entry)) (now (s .entry)) from (r .used) (r .reply) (r .lane, now (ook .exit), now (fsk .exit)) ⌝ }
 {
     let mut c = step::core_of(lane);
     let mut es = step::envelopes(lane);
@@ -249,7 +250,7 @@ fn steps(lane: Lane, s: &[u8], from: usize, ook: &mut [u32], fsk: &mut [u32]) ->
 // prints.
 fn pass(l: Lane, k: Command, s: &[u8], from: usize, ook: &mut [u32], fsk: &mut [u32]) -> Past
     requires { ⌜ (from < length (now s)) × (k ≡ decoded (drop from (now s))) × Sound l ⌝ }
-    ensures { λ r. ⌜ Passed (l, now (ook .entry), now (fsk .entry)) (now (s .entry)) from r (r .lane, now (ook .exit), now (fsk .exit)) ⌝ }
+    ensures { λ r. ⌜ Took (l, now (ook .entry), now (fsk .entry)) (now (s .entry)) from (r .used) (r .reply) (r .lane, now (ook .exit), now (fsk .exit)) ⌝ }
 {
     let is = is_step(k);
     if is {
@@ -287,7 +288,7 @@ fn turn(
     at: usize,
 ) -> Turned
     requires { ⌜ (from < length (now s)) × (k ≡ decoded (drop from (now s))) × Sound l × (hasRoom (mostOf (l, now ook, now fsk)) (length (now text)) at ≡ true) ⌝ }
-    ensures { λ r. ⌜ Turn (l, now (ook .entry), now (fsk .entry)) (now (s .entry)) from at (now (text .entry)) (r, now (ook .exit), now (fsk .exit), now (text .exit)) ⌝ }
+    ensures { λ r. ⌜ Turn (l, now (ook .entry), now (fsk .entry)) (now (s .entry)) from at (now (text .entry)) r (r .lane, now (ook .exit), now (fsk .exit)) (now (text .exit)) ⌝ }
 {
     let g = pass(l, k, s, from, ook, fsk);
     let n = g.lane;
@@ -314,6 +315,27 @@ pub struct Ran {
     pub full: bool,
 }
 
+// The most slots of a record's part that a call prints: two for each pulse of the settings, and no
+// more than the larger buffer has. Settings outside the domain print no record: each call that would
+// is refused.
+pub fn most_of(pulses: u32, ook: usize, fsk: usize) -> usize
+    ensures { λ r. ⌜ r ≡ slotsOf pulses ook fsk ⌝ }
+{
+    let slots = 2 * (pulses as usize);
+    let held = smaller(slots, lines::larger(ook, fsk));
+    smaller(held, domain::MAX_SLOTS)
+}
+
+// The smaller of two lengths.
+pub fn smaller(n: usize, m: usize) -> usize
+    ensures { λ r. ⌜ r ≡ smallerOf n m ⌝ }
+{
+    if m < n {
+        return m;
+    }
+    n
+}
+
 // Whether a command is not made yet: nothing is left, or only the beginning of a command and more
 // may come.
 pub fn waits(last: bool, k: Command) -> bool
@@ -330,27 +352,6 @@ pub fn waits(last: bool, k: Command) -> bool
     }
 }
 
-// The smaller of two lengths.
-pub fn smaller(n: usize, m: usize) -> usize
-    ensures { λ r. ⌜ r ≡ smallerOf n m ⌝ }
-{
-    if m < n {
-        return m;
-    }
-    n
-}
-
-// The most slots of a record's part that a call prints: two for each pulse of the settings, and no
-// more than the larger buffer has. Settings outside the domain print no record: each call that would
-// is refused.
-pub fn most_of(pulses: u32, ook: usize, fsk: usize) -> usize
-    ensures { λ r. ⌜ r ≡ slotsOf pulses ook fsk ⌝ }
-{
-    let slots = 2 * (pulses as usize);
-    let held = smaller(slots, lines::larger(ook, fsk));
-    smaller(held, domain::MAX_SLOTS)
-}
-
 // The turns of a block of bytes: each command's as soon as its own last byte is there, until the
 // next waits for more, the text has no room, or the stream ends. `last` says that no byte will come
 // after the block.
@@ -363,7 +364,7 @@ pub fn block(
     text: &mut [u8],
 ) -> Ran
     requires { ⌜ Sound lane ⌝ }
-    ensures { λ r. ⌜ Streamed (lane, now (ook .entry), now (fsk .entry)) (now (s .entry)) last r (r .lane, now (ook .exit), now (fsk .exit)) (now (text .exit)) ⌝ }
+    ensures { λ r. ⌜ Streamed machine (lane, now (ook .entry), now (fsk .entry)) (now (s .entry)) last (leftBy r) (r .lane, now (ook .exit), now (fsk .exit)) (now (text .exit)) × Sound (r .lane) ⌝ }
 {
     let mut l = lane;
     let mut used = 0;

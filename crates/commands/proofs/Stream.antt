@@ -1,4 +1,4 @@
--- Laws of the definitions in specs/Stream.
+-- Laws of the decoder that a reader of a stream needs: what is decoded is the one of six cases that its command byte tells.
 use Prim.Native.Nat.{ℕ, suc, _+_, _<_, _≤_}
 use mathlib.Core.Bool.{Bool, true, false, cond}
 use mathlib.Core.Path.{_≡_, refl, ap, sym, _∙_}
@@ -8,10 +8,43 @@ use lib.ListN.{length, getD, drop, length-append, length-drop, List·getD-append
 use lib.Dec.{eqb, ltb, leb}
 use borrow.Author.Tests.{eqb-true, ltb-true, ltb-false, leb-true, lt-ltb, le-ltb}
 use Rattle.types.specs.declared.Settings.{Settings}
+use Rattle.types.proofs.Tests.{clash}
+use Rattle.lane.specs.declared.StepArgs.{StepArgs}
 use Rattle.commands.specs.declared.Command.{Command}
-use Rattle.commands.specs.declared.Command.the-variants.{Open, Begin, Step, Short}
+use Rattle.commands.specs.declared.Command.the-variants.{End, Open, Begin, Step, Unknown, Short, Close}
 use Rattle.commands.specs.Command.{u32At, u64At, settingsOf, carrySettingsOf, openingOf, beginArgsOf, stepArgsOf, historyOf, within, decoded, sizeOf, isStepOf}
 use Rattle.commands.specs.Stream.{whole}
+
+-- what is false of both is false of whichever is taken
+neither : (F : Command → Bool) (b : Bool) (x y : Command) → F x ≡ false → F y ≡ false → F (cond b x y) ≡ false
+neither F true x y h k = h
+neither F false x y h k = k
+
+-- ---- where the bytes end
+
+pub none-there : decoded [] ≡ End
+unfolding decoded
+none-there = refl
+
+-- whether the bytes end there
+abbrev pub isEnd : Command → Bool
+isEnd End = true
+isEnd (Open p carries) = false
+isEnd (Begin b) = false
+isEnd (Step s) = false
+isEnd Unknown = false
+isEnd Short = false
+isEnd Close = false
+
+pub some-there : (b : ℕ) (o : List ℕ) → isEnd (decoded (b ∷ o)) ≡ false
+unfolding decoded openingOf
+some-there b o =
+    simp (le-ltb (suc (length o)) 1 (omega arith))
+    (neither isEnd (eqb b 1) _ _ (neither isEnd (ltb (length o) 37) _ _ refl refl)
+    (neither isEnd (eqb b 2) _ _ (neither isEnd (ltb (length o) 60) _ _ refl refl)
+    (neither isEnd (eqb b 3) _ _ (neither isEnd (ltb (length o) 24) _ _ refl refl)
+    (neither isEnd (eqb b 4) _ _ (neither isEnd (ltb (length o) 38) _ _ refl refl)
+    (neither isEnd (eqb b 5) _ _ refl refl)))))
 
 -- ---- a command that lies in the bytes takes no more of them than there are
 
@@ -101,10 +134,6 @@ decoded-more (b ∷ o) t w =
 
 -- ---- a step at the front of the bytes
 
-neither : (b : Bool) (x y : Command) → isStepOf x ≡ false → isStepOf y ≡ false → isStepOf (cond b x y) ≡ false
-neither true x y h k = h
-neither false x y h k = k
-
 -- a command byte 3 with its 24 operand bytes
 step-front : (s : List ℕ) → 25 ≤ length s → eqb (getD s 0 0) 3 ≡ true → decoded s ≡ Step (stepArgsOf (drop 1 s))
 unfolding decoded openingOf
@@ -121,12 +150,12 @@ unless false x y h k = k
 no-step : (s : List ℕ) → (eqb (getD s 0 0) 3 ≡ true → isStepOf (within 24 (drop 1 s) (Step (stepArgsOf (drop 1 s)))) ≡ false) → isStepOf (decoded s) ≡ false
 unfolding decoded openingOf
 no-step s h =
-    neither (ltb (length s) 1) _ _ refl
-    (neither (eqb (getD s 0 0) 1) _ _ (neither (ltb (length (drop 1 s)) 37) _ _ refl refl)
-    (neither (eqb (getD s 0 0) 2) _ _ (neither (ltb (length (drop 1 s)) 60) _ _ refl refl)
+    neither isStepOf (ltb (length s) 1) _ _ refl
+    (neither isStepOf (eqb (getD s 0 0) 1) _ _ (neither isStepOf (ltb (length (drop 1 s)) 37) _ _ refl refl)
+    (neither isStepOf (eqb (getD s 0 0) 2) _ _ (neither isStepOf (ltb (length (drop 1 s)) 60) _ _ refl refl)
     (unless (eqb (getD s 0 0) 3) _ _ h
-    (neither (eqb (getD s 0 0) 4) _ _ (neither (ltb (length (drop 1 s)) 38) _ _ refl refl)
-    (neither (eqb (getD s 0 0) 5) _ _ refl refl)))))
+    (neither isStepOf (eqb (getD s 0 0) 4) _ _ (neither isStepOf (ltb (length (drop 1 s)) 38) _ _ refl refl)
+    (neither isStepOf (eqb (getD s 0 0) 5) _ _ refl refl)))))
 
 pub short-front : (s : List ℕ) → length s < 25 → isStepOf (decoded s) ≡ false
 short-front s h = no-step s (λ q. ap (λ (b : Bool). isStepOf (cond b Short (Step (stepArgsOf (drop 1 s))))) (lt-ltb (length (drop 1 s)) 24 (omega (arith, length-drop 1 s, h))))
@@ -137,6 +166,20 @@ long-front s h = go (eqb (getD s 0 0) 3) refl
     go : (b : Bool) → eqb (getD s 0 0) 3 ≡ b → b ≡ isStepOf (decoded s)
     go true q = sym (ap isStepOf (step-front s h q))
     go false q = sym (no-step s (λ e. let z : _≡_ {A = Bool} false true = sym q ∙ e in cc))
+
+-- a step is one with its operands
+pub record AStep (k : Command) : Type 0 where
+  pub args : StepArgs
+  pub is : k ≡ Step args
+
+pub a-step : (k : Command) → isStepOf k ≡ true → AStep k
+a-step (Step s) h = record { args = s; is = refl }
+a-step End h = clash (sym h)
+a-step (Open p carries) h = clash (sym h)
+a-step (Begin b) h = clash (sym h)
+a-step Unknown h = clash (sym h)
+a-step Short h = clash (sym h)
+a-step Close h = clash (sym h)
 
 -- so a step has its operand bytes
 pub step-there : (s : List ℕ) → isStepOf (decoded s) ≡ true → (25 ≤ length s) × (Step (stepArgsOf (drop 1 s)) ≡ decoded s)

@@ -1,5 +1,5 @@
 -- The commands as bytes, and the other direction of decoding: whatever values document 01's layout can carry, their
--- bytes decode to these values and are not refused, whatever comes after them. Assumes nothing.
+-- bytes decode to these values and are not refused, whatever comes after them.
 use Prim.Native.Nat.{ℕ, _<_}
 use mathlib.Core.List.{List, [], _∷_, _++_}
 use lib.Dec.{T}

@@ -1,4 +1,4 @@
--- Laws of the decoder that a reader of a stream needs. Assumes nothing.
+-- Laws of the decoder that a reader of a stream needs.
 use mathlib.Core.Bool.{Bool, true, false}
 use Rattle.commands.specs.declared.Command.{Command}
 use Rattle.commands.specs.declared.Command.the-variants.{End, Open, Begin, Step, Unknown, Short, Close}

@@ -4,7 +4,7 @@ ghost use mathlib.Core.Path.{_≡_};
 ghost use mathlib.Core.List.{_∷_};
 ghost use Prim.Native.Nat.{_+_, _≤_, _<_};
 ghost use lib.ListN.{length, drop};
-ghost use Rattle.commands.specs.Command.{pairAt, historyOf, settingsOf, openingOf, beginArgsOf, stepArgsOf, decoded, openSize, sizeOf, isStepOf};
+ghost use Rattle.commands.specs.Command.{pairAt, settingsOf, openingOf, beginArgsOf, stepArgsOf, decoded, openSize, sizeOf, isStepOf};
 ghost use mathlib.Core.Bool.{true};
 ghost use Rattle.commands.specs.declared.Command.the-variants.{Step};
 use arith::C32;
@@ -49,6 +49,10 @@ fn settings_of(o: &[u8]) -> Settings
     requires { ⌜ 37 ≤ length (now o) ⌝ }
     ensures { λ r. ⌜ r ≡ settingsOf (now (o .entry)) ⌝ }
 {
+    let alpha = words::f32_at(o, 21);
+    let gap_ratio = words::f32_at(o, 25);
+    let fsk_delta = words::f32_at(o, 29);
+    let fsk_split = words::f32_at(o, 33);
     Settings {
         mode: wide(o[0]),
         min_steps: words::u32_at(o, 1),
@@ -56,26 +60,11 @@ fn settings_of(o: &[u8]) -> Settings
         pre_timeout: words::u32_at(o, 9),
         long_steps: words::u32_at(o, 13),
         max_pulses: words::u32_at(o, 17),
-        alpha: words::f32_at(o, 21),
-        gap_ratio: words::f32_at(o, 25),
-        fsk_delta: words::f32_at(o, 29),
-        fsk_split: words::f32_at(o, 33),
+        alpha,
+        gap_ratio,
+        fsk_delta,
+        fsk_split,
         carry: 0,
-    }
-}
-
-fn history_of(o: &[u8]) -> History
-    requires { ⌜ 60 ≤ length (now o) ⌝ }
-    ensures { λ r. ⌜ r ≡ historyOf (now (o .entry)) ⌝ }
-{
-    History {
-        e1: words::f32_at(o, 32),
-        e2: words::f32_at(o, 36),
-        e3: words::f32_at(o, 40),
-        e4: words::f32_at(o, 44),
-        e5: words::f32_at(o, 48),
-        e6: words::f32_at(o, 52),
-        e7: words::f32_at(o, 56),
     }
 }
 
@@ -83,13 +72,22 @@ fn begin_args(o: &[u8]) -> BeginArgs
     requires { ⌜ 60 ≤ length (now o) ⌝ }
     ensures { λ r. ⌜ r ≡ beginArgsOf (now (o .entry)) ⌝ }
 {
+    let history = History {
+        e1: words::f32_at(o, 32),
+        e2: words::f32_at(o, 36),
+        e3: words::f32_at(o, 40),
+        e4: words::f32_at(o, 44),
+        e5: words::f32_at(o, 48),
+        e6: words::f32_at(o, 52),
+        e7: words::f32_at(o, 56),
+    };
     BeginArgs {
         index: words::u64_at(o, 0),
         factor: words::f32_at(o, 8),
         envelope: words::f32_at(o, 12),
         x: pair_at(o, 16),
         before: pair_at(o, 24),
-        history: history_of(o),
+        history,
     }
 }
 

@@ -1,2 +1,3 @@
--- The laws that proofs cite, here and in the crates above.
+-- The laws that the proofs of several functions cite.
 pub mod Left
+pub mod PastLast

@@ -8,13 +8,14 @@ use Rattle.lane.specs.Step.{newLane}
 use Rattle.commands.specs.Command.{decoded, sizeOf}
 use Rattle.lines.specs.Line.{callRoom}
 use Rattle.calls.specs.Turn.{State, mostOf}
-use Rattle.calls.specs.Stream.{listing, Turns}
+use Rattle.stream.specs.Machine.{Turns}
+use Rattle.calls.specs.Stream.{machine, listing}
 
 -- the commands in the first n bytes, from the lane that never had settings on, leave the buffers x and y where ook and fsk were lent
 pub record Left (s : List ℕ) (n : ℕ) (ook fsk x y : List ℕ) : Type 0 where
   pub lane : Lane
   pub inside : n ≤ length s
-  pub leads : Turns (newLane, ook, fsk) s n (lane, x, y)
+  pub leads : Turns machine (newLane, ook, fsk) s n (lane, x, y)
 
 -- the stream ends at n: nothing is left there, or no command whose bytes are all there
 abbrev pub EndsAt : List ℕ → ℕ → Type 0

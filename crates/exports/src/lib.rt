@@ -1,168 +1,99 @@
-// What tests link, and nothing else does: the arithmetic leaves by bit pattern, and the pulse buffers as a list of commands leaves them.
+// What tests link, and nothing else does: the arithmetic leaves by number and bit pattern, and the pulse buffers as a list of
+// commands leaves them.
 ghost use mathlib.Core.Path.{_≡_};
+ghost use Prim.Native.Nat.{_%_, _^_};
+ghost use lib.Ieee.{binary32, toBits};
 ghost use Rattle.calls.specs.Turn.{Called, called};
+ghost use Rattle.exports.specs.Leaf.{single, singles, doubles, numbers, leafAt, leafOf};
 ghost use Rattle.exports.specs.Left.{LeftWhole, LeftWithin};
-ghost use lib.Ieee as Ieee;
-ghost use lib.Ieee.{binary32, binary64};
-ghost use lib.IntN.{pos};
-ghost use Rattle.ieee.specs.Rounding.{roundOf, narrowOf, widenOf};
-ghost use Rattle.arith.specs.Leaves.{midpointOf, flushOf, maxOf, minOf, crossOf, edgeOf, stepOf, wholeOf, widthOf, fskWidthOf, runFixOf, gainOf, leadLenOf};
-ghost use Rattle.arith.specs.Angle.{atan2Of};
 use commands::Command;
 use lane::Answer;
 use lane::Lane;
 
 // ---- the leaves
 
-#[no_mangle]
-pub extern "C" fn leaf_round(x: u64) -> u64
-    ensures { λ r. ⌜ r ≡ Ieee.toBits binary64 (roundOf (Ieee.ofBits binary64 x)) ⌝ }
+// The lower half of x: a u32, or the pattern of an f32.
+fn low(x: u64) -> u32
+    ensures { λ r. ⌜ r ≡ x % 2 ^ 32 ⌝ }
 {
-    ieee::bits_of_f64(ieee::round(ieee::f64_of_bits(x)))
+    (x % 0x1_0000_0000) as u32
 }
 
-#[no_mangle]
-pub extern "C" fn leaf_narrow(x: u64) -> u32
-    ensures { λ r. ⌜ r ≡ Ieee.toBits binary32 (narrowOf (Ieee.ofBits binary64 x)) ⌝ }
+// The f32 whose pattern is the lower half of x.
+fn single_at(x: u64) -> f32
+    ensures { λ r. ⌜ r ≡ single x ⌝ }
 {
-    ieee::bits_of_f32(ieee::narrow(ieee::f64_of_bits(x)))
+    ieee::f32_of_bits(low(x))
 }
 
-#[no_mangle]
-pub extern "C" fn leaf_widen(x: u32) -> u64
-    ensures { λ r. ⌜ r ≡ Ieee.toBits binary64 (widenOf (Ieee.ofBits binary32 x)) ⌝ }
+// The pattern of an f32, in the lower half.
+fn bits_of(x: f32) -> u64
+    ensures { λ r. ⌜ r ≡ toBits binary32 x ⌝ }
 {
-    ieee::bits_of_f64(ieee::widen(ieee::f32_of_bits(x)))
+    ieee::bits_of_f32(x) as u64
 }
 
-#[no_mangle]
-pub extern "C" fn leaf_midpoint(a: u32, b: u32) -> u32
-    ensures { λ r. ⌜ r ≡ Ieee.toBits binary32 (midpointOf (Ieee.ofBits binary32 a) (Ieee.ofBits binary32 b)) ⌝ }
+// The leaves of f32 operands, by number.
+fn of_singles(op: u32, a: f32, b: f32, c: f32) -> u64
+    ensures { λ r. ⌜ r ≡ leafAt (singles a b c) op ⌝ }
 {
-    ieee::bits_of_f32(arith::midpoint(ieee::f32_of_bits(a), ieee::f32_of_bits(b)))
+    match op {
+        0 => ieee::bits_of_f64(ieee::widen(a)),
+        1 => bits_of(arith::midpoint(a, b)),
+        2 => bits_of(arith::flush_denormal(a)),
+        3 => bits_of(arith::max(a, b)),
+        4 => bits_of(arith::min(a, b)),
+        5 => ieee::bits_of_f64(arith::cross(a, b, c)),
+        6 => bits_of(arith::atan2_fast(a, b)),
+        7 => bits_of(arith::a_gain(a)),
+        _ => 0,
+    }
 }
 
-#[no_mangle]
-pub extern "C" fn leaf_flush(x: u32) -> u32
-    ensures { λ r. ⌜ r ≡ Ieee.toBits binary32 (flushOf (Ieee.ofBits binary32 x)) ⌝ }
+// The leaves of f64 operands, by number.
+fn of_doubles(op: u32, a: f64, b: f64) -> u64
+    ensures { λ r. ⌜ r ≡ leafAt (doubles a b) op ⌝ }
 {
-    ieee::bits_of_f32(arith::flush_denormal(ieee::f32_of_bits(x)))
+    match op {
+        0 => ieee::bits_of_f64(ieee::round(a)),
+        1 => bits_of(ieee::narrow(a)),
+        2 => arith::to_u32(a) as u64,
+        3 => arith::to_u64(a),
+        4 => arith::whole(a) as u64,
+        5 => arith::step_of(a),
+        6 => arith::width(a, b).0 as u64,
+        7 => arith::fsk_width(a, b).0 as u64,
+        8 => arith::run_fix(a).0 as u64,
+        _ => 0,
+    }
 }
 
-#[no_mangle]
-pub extern "C" fn leaf_to_u32(x: u64) -> u32
-    ensures { λ r. ⌜ r ≡ Ieee.toUnsigned 32 (Ieee.ofBits binary64 x) ⌝ }
+// The leaves of a whole number, by number; the f64 is an edge's part of a step.
+fn of_numbers(op: u32, n: u64, frac: f64) -> u64
+    ensures { λ r. ⌜ r ≡ leafAt (numbers n frac) op ⌝ }
 {
-    arith::to_u32(ieee::f64_of_bits(x))
+    match op {
+        0 => bits_of(arith::u32_to_f32(low(n))),
+        1 => ieee::bits_of_f64(arith::u64_to_f64(n)),
+        2 => arith::lead_len(low(n)) as u64,
+        3 => ieee::bits_of_f64(arith::edge(n, frac)),
+        _ => 0,
+    }
 }
 
+// The leaf of the number op on operands by bit pattern; 0 where there is none. The upper digit of op, to the base 16, says what the
+// operands are: f32, f64 or a whole number.
 #[no_mangle]
-pub extern "C" fn leaf_to_u64(x: u64) -> u64
-    ensures { λ r. ⌜ r ≡ Ieee.toUnsigned 64 (Ieee.ofBits binary64 x) ⌝ }
+pub extern "C" fn leaf(op: u32, x: u64, y: u64, z: u64) -> u64
+    ensures { λ r. ⌜ r ≡ leafOf op x y z ⌝ }
 {
-    arith::to_u64(ieee::f64_of_bits(x))
-}
-
-#[no_mangle]
-pub extern "C" fn leaf_cross(prev: u32, cur: u32, thr: u32) -> u64
-    ensures { λ r. ⌜ r ≡ Ieee.toBits binary64 (crossOf (Ieee.ofBits binary32 prev) (Ieee.ofBits binary32 cur) (Ieee.ofBits binary32 thr)) ⌝ }
-{
-    ieee::bits_of_f64(arith::cross(
-        ieee::f32_of_bits(prev),
-        ieee::f32_of_bits(cur),
-        ieee::f32_of_bits(thr),
-    ))
-}
-
-#[no_mangle]
-pub extern "C" fn leaf_edge(idx: u64, frac: u64) -> u64
-    ensures { λ r. ⌜ r ≡ Ieee.toBits binary64 (edgeOf idx (Ieee.ofBits binary64 frac)) ⌝ }
-{
-    ieee::bits_of_f64(arith::edge(idx, ieee::f64_of_bits(frac)))
-}
-
-#[no_mangle]
-pub extern "C" fn leaf_whole(x: u64) -> u32
-    ensures { λ r. ⌜ r ≡ wholeOf (Ieee.ofBits binary64 x) ⌝ }
-{
-    arith::whole(ieee::f64_of_bits(x))
-}
-
-#[no_mangle]
-pub extern "C" fn leaf_step_of(t: u64) -> u64
-    ensures { λ r. ⌜ r ≡ stepOf (Ieee.ofBits binary64 t) ⌝ }
-{
-    arith::step_of(ieee::f64_of_bits(t))
-}
-
-#[no_mangle]
-pub extern "C" fn leaf_width(a: u64, b: u64) -> u32
-    ensures { λ r. ⌜ r ≡ (widthOf (Ieee.ofBits binary64 a) (Ieee.ofBits binary64 b)) .0 ⌝ }
-{
-    arith::width(ieee::f64_of_bits(a), ieee::f64_of_bits(b)).0
-}
-
-#[no_mangle]
-pub extern "C" fn leaf_fsk_width(a: u64, b: u64) -> u32
-    ensures { λ r. ⌜ r ≡ (fskWidthOf (Ieee.ofBits binary64 a) (Ieee.ofBits binary64 b)) .0 ⌝ }
-{
-    arith::fsk_width(ieee::f64_of_bits(a), ieee::f64_of_bits(b)).0
-}
-
-#[no_mangle]
-pub extern "C" fn leaf_run_fix(t: u64) -> u32
-    ensures { λ r. ⌜ r ≡ (runFixOf (Ieee.ofBits binary64 t)) .0 ⌝ }
-{
-    arith::run_fix(ieee::f64_of_bits(t)).0
-}
-
-#[no_mangle]
-pub extern "C" fn leaf_a_gain(e: u32) -> u32
-    ensures { λ r. ⌜ r ≡ Ieee.toBits binary32 (gainOf (Ieee.ofBits binary32 e)) ⌝ }
-{
-    ieee::bits_of_f32(arith::a_gain(ieee::f32_of_bits(e)))
-}
-
-#[no_mangle]
-pub extern "C" fn leaf_atan2_fast(y: u32, x: u32) -> u32
-    ensures { λ r. ⌜ r ≡ Ieee.toBits binary32 (atan2Of (Ieee.ofBits binary32 y) (Ieee.ofBits binary32 x)) ⌝ }
-{
-    ieee::bits_of_f32(arith::atan2_fast(ieee::f32_of_bits(y), ieee::f32_of_bits(x)))
-}
-
-#[no_mangle]
-pub extern "C" fn leaf_max(a: u32, b: u32) -> u32
-    ensures { λ r. ⌜ r ≡ Ieee.toBits binary32 (maxOf (Ieee.ofBits binary32 a) (Ieee.ofBits binary32 b)) ⌝ }
-{
-    ieee::bits_of_f32(arith::max(ieee::f32_of_bits(a), ieee::f32_of_bits(b)))
-}
-
-#[no_mangle]
-pub extern "C" fn leaf_min(a: u32, b: u32) -> u32
-    ensures { λ r. ⌜ r ≡ Ieee.toBits binary32 (minOf (Ieee.ofBits binary32 a) (Ieee.ofBits binary32 b)) ⌝ }
-{
-    ieee::bits_of_f32(arith::min(ieee::f32_of_bits(a), ieee::f32_of_bits(b)))
-}
-
-#[no_mangle]
-pub extern "C" fn leaf_u32_to_f32(n: u32) -> u32
-    ensures { λ r. ⌜ r ≡ Ieee.toBits binary32 (Ieee.ofInt binary32 (pos n)) ⌝ }
-{
-    ieee::bits_of_f32(arith::u32_to_f32(n))
-}
-
-#[no_mangle]
-pub extern "C" fn leaf_u64_to_f64(n: u64) -> u64
-    ensures { λ r. ⌜ r ≡ Ieee.toBits binary64 (Ieee.ofInt binary64 (pos n)) ⌝ }
-{
-    ieee::bits_of_f64(arith::u64_to_f64(n))
-}
-
-#[no_mangle]
-pub extern "C" fn leaf_lead_len(n: u32) -> u32
-    ensures { λ r. ⌜ r ≡ leadLenOf n ⌝ }
-{
-    arith::lead_len(n)
+    let n = op % 16;
+    match op / 16 {
+        0 => of_singles(n, single_at(x), single_at(y), single_at(z)),
+        1 => of_doubles(n, ieee::f64_of_bits(x), ieee::f64_of_bits(y)),
+        2 => of_numbers(n, x, ieee::f64_of_bits(y)),
+        _ => 0,
+    }
 }
 
 // ---- the buffers

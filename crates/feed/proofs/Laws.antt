@@ -1,4 +1,4 @@
--- What the moves of the buffer leave in it. Assumes nothing.
+-- What the moves of the buffer leave in it.
 use Prim.Native.Nat.{ℕ, zero, suc, _+_, _-_, _<_, _≤_}
 use mathlib.Core.Bool.{Bool, true, false, cond}
 use mathlib.Core.Path.{_≡_, refl, sym, _∙_, ap}

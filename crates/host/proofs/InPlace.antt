@@ -1,4 +1,4 @@
--- Words read, changed and written again, in bytes of exactly their length. Assumes nothing.
+-- Words read, changed and written again, in bytes of exactly their length.
 use Prim.Native.Nat.{ℕ, _*_}
 use mathlib.Core.List.{List}
 use mathlib.Core.Path.{_≡_, ap, _∙_}

@@ -1,4 +1,4 @@
--- `laneSqrtOf` gives what document 01 asks of the special operands. Assumes nothing.
+-- `laneSqrtOf` gives what document 01 asks of the special operands.
 use mathlib.Core.Path.{refl, ap, _∙_}
 use lib.Ieee.{binary32, ofBits, toBits}
 use Rattle.root.specs.Root.{sqrtOf}

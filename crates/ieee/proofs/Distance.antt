@@ -1,4 +1,4 @@
--- Distances of numbers with their signs. Assumes nothing.
+-- Distances of numbers with their signs.
 use mathlib.Core.Path.{_≡_, refl, sym, ap, _∙_}
 use mathlib.Core.Bool.{Bool, true, false}
 use Prim.Native.Nat.{ℕ, _+_, _-_, _*_}

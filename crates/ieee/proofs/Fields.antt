@@ -1,4 +1,4 @@
--- A value by its exponent's field e and its digits' field t, at either width: the fraction that it equals. And `narrowOf` by any fraction that a value equals. Assumes nothing.
+-- A value by its exponent's field e and its digits' field t, at either width: the fraction that it equals. And `narrowOf` by any fraction that a value equals.
 use mathlib.Core.Path.{_≡_, refl, sym, ap, _∙_, subst}
 use Prim.Native.Nat.{ℕ, zero, suc, _+_, _-_, _*_, _/_, _%_, _^_, _≤_, _<_}
 use native.Mathlib.Nat.{mul-one, mod-eq-of-lt, lt-irrefl, le-of-lt, lt-of-lt-of-le}
@@ -48,7 +48,7 @@ value-zero f s t =
     (subst (λ (k : ℕ). HasValue (odd (prec f) s t 0 (low f)) s k (2 ^ low f)) (mul-one t) (odd-sign (prec f) s t 0 (low f)))
 
 -- ---- fields below an infinity's are a number that the format holds
-with-leading : (f : Format) (t : ℕ) → t < hid f → hid f + t < 2 ^ prec f
+pub with-leading : (f : Format) (t : ℕ) → t < hid f → hid f + t < 2 ^ prec f
 with-leading binary32 t h = omega arith
 with-leading binary64 t h = omega arith
 

@@ -1,4 +1,4 @@
--- `halfUp`, the whole number nearest to a fraction, a tie up; and `roundOf` by it: from any fraction that its operand equals, it gives exactly that whole number. Assumes nothing.
+-- `halfUp`, the whole number nearest to a fraction, a tie up; and `roundOf` by it: from any fraction that its operand equals, it gives exactly that whole number.
 use mathlib.Core.Path.{_≡_, sym, ap, _∙_, subst}
 use mathlib.Core.Logic.{_⊎_, inl, inr, ⊎-elim}
 use mathlib.Core.Bool.{Bool}

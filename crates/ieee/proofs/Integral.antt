@@ -1,5 +1,4 @@
 -- What `roundOf` is at an f64's fields e and t, in the three ranges of e that the code tells apart.
--- Assumes nothing.
 use mathlib.Core.Path.{_≡_, refl, sym, ap, _∙_, subst}
 use mathlib.Core.Logic.{⊎-elim}
 use Prim.Native.Nat.{ℕ, zero, suc, _+_, _-_, _*_, _/_, _%_, _^_, _≤_, _<_}
@@ -16,7 +15,7 @@ use Rattle.ieee.specs.Rounding.{roundOf, halfUp}
 use Rattle.ieee.proofs.Values.{value-is-finite}
 use Rattle.ieee.proofs.Short.{in-units}
 use Rattle.ieee.proofs.HalfUp.{halfUp-same, roundOf-at, roundOf-own}
-use Rattle.ieee.proofs.Fields.{value-finite, value-zero, value-top, by-fields, top-plain}
+use Rattle.ieee.proofs.Fields.{with-leading, value-finite, value-zero, value-top, by-fields, top-plain}
 
 pub roundOf-nan : roundOf nan ≡ nan
 unfolding roundOf
@@ -53,9 +52,6 @@ half-none a h = div-eq-of-lt (go a (2 ^ 1073) h)
     go : (a p : ℕ) → a < p → 2 * a + 2 * p < 2 * (2 * p)
     go a p h = omega arith
 
-digits-hi : (t : ℕ) → t < 2 ^ 52 → 2 ^ 52 + t < 2 ^ 53
-digits-hi t h = omega arith
-
 pub whole-none : (s : Bool) (e t : ℕ) → e < 1022 → t < 2 ^ 52 → roundOf (ofFields binary64 s e t) ≡ round binary64 s 0 1
 whole-none s zero t h k =
     roundOf-at (ofFields binary64 s 0 t) s t (2 ^ 1074) (pow-pos 1074) (value-zero binary64 s t) ∙ ap (λ (n : ℕ). round binary64 s n 1) (half-none t (lt-of-lt-of-le k (pow-mono r)))
@@ -67,7 +63,7 @@ whole-none s (suc x) t h k =
     let l : suc x < 2047 = omega arith in
     let r : 53 + (suc x - 1) ≤ 1073 = omega arith in
     roundOf-at (ofFields binary64 s (suc x) t) s ((2 ^ 52 + t) * 2 ^ (suc x - 1)) (2 ^ 1074) (pow-pos 1074) (value-finite binary64 s (suc x) t p l)
-    ∙ ap (λ (n : ℕ). round binary64 s n 1) (half-none ((2 ^ 52 + t) * 2 ^ (suc x - 1)) (lt-of-lt-of-le (shl-lt 53 (suc x - 1) (digits-hi t k)) (pow-mono r)))
+    ∙ ap (λ (n : ℕ). round binary64 s n 1) (half-none ((2 ^ 52 + t) * 2 ^ (suc x - 1)) (lt-of-lt-of-le (shl-lt 53 (suc x - 1) (with-leading binary64 t k)) (pow-mono r)))
 
 -- ---- with a fraction
 pub whole-some : (s : Bool) (e t : ℕ) → 1022 ≤ e → e < 1075 → t < 2 ^ 52 → roundOf (ofFields binary64 s e t) ≡ round binary64 s (halfUp (2 ^ 52 + t) (2 ^ (1075 - e))) 1

@@ -1,4 +1,4 @@
--- `roundOf` gives the whole number nearest to a finite f64, a tie away from zero (`nearest-integral`). Assumes nothing.
+-- `roundOf` gives the whole number nearest to a finite f64, a tie away from zero (`nearest-integral`).
 use mathlib.Core.Path.{_≡_, sym, _∙_, subst}
 use Prim.Native.Nat.{ℕ, _+_, _*_, _^_, _≤_, _<_}
 use lib.Ieee.Back.{whole-unique}

@@ -1,4 +1,4 @@
--- The one NaN, at either width: the test that finds it, the division that makes it, and the bit patterns that are read as it. Assumes nothing.
+-- The one NaN, at either width: the test that finds it, the division that makes it, and the bit patterns that are read as it.
 use mathlib.Core.Path.{_≡_, refl, sym, ap, _∙_, subst}
 use mathlib.Core.Bool.{Bool, true, false, not, true≢false}
 use Prim.Native.Nat.{ℕ, _*_, _%_, _≤_, _<_}
@@ -8,9 +8,13 @@ use lib.Ieee.{Float, nan, inf, fin, Format, binary32, binary64, hid, ones, top, 
 use lib.Ieee.Bits.{nanBits-is, nanBits-above}
 use lib.Ieee.Compare.{differs-from-itself, nan-differs}
 
+-- a test that came out true, as a fact: of a float that is owned, that its format holds it (`told (c .good .0 .1)`)
+pub told : {b : Bool} → b ≡ true → T b
+told e = subst T (sym e) tt
+
 -- ---- the code's test, x != x
 pub is-nan : (x : Float) → ne x x ≡ true → x ≡ nan
-is-nan x e = differs-from-itself x (subst T (sym e) tt)
+is-nan x e = differs-from-itself x (told e)
 
 pub no-nan : (x : Float) → ne x x ≡ false → T (not (isNan x))
 unfolding isNan
@@ -37,8 +41,8 @@ zero-by-zero binary64 = refl
 told-nan : (x : Float) → isNan x ≡ true → x ≡ nan
 unfolding isNan
 told-nan nan e = refl
-told-nan (inf s) e = absurd (subst T (sym e) tt)
-told-nan (fin s m d) e = absurd (subst T (sym e) tt)
+told-nan (inf s) e = absurd (told e)
+told-nan (fin s m d) e = absurd (told e)
 
 pub nan-read : (f : Format) (n : ℕ) → ones f * hid f < n % top f → ofBits f n ≡ nan
 nan-read f n h = told-nan (ofBits f n) (sym (nanBits-is f n) ∙ nanBits-above f n ∙ lt-ltb (ones f * hid f) (n % top f) h)

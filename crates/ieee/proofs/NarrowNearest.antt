@@ -1,4 +1,4 @@
--- `narrowOf` gives the f32 nearest to a finite f64, a tie to the even one, and an infinity from half way past the largest on (`nearest-single`). Assumes nothing.
+-- `narrowOf` gives the f32 nearest to a finite f64, a tie to the even one, and an infinity from half way past the largest on (`nearest-single`).
 use mathlib.Core.Path.{_≡_, refl, sym, ap, _∙_, subst}
 use mathlib.Core.Logic.{_⊎_, inl, inr, ⊎-elim}
 use mathlib.Core.Bool.{Bool, true, false, cond}

@@ -1,5 +1,4 @@
 -- What `narrowOf` is at an f64's fields E and T, in the three ranges of E that the code tells apart.
--- Assumes nothing.
 use mathlib.Core.Path.{_≡_, refl, sym, ap, _∙_, subst}
 use mathlib.Core.Logic.{_⊎_, inl, inr, ⊎-elim}
 use Prim.Native.Nat.{ℕ, zero, suc, _+_, _-_, _*_, _/_, _%_, _^_, _≤_, _<_, compare}
@@ -14,7 +13,7 @@ use lib.Ieee.Nearest.{closest, closest-same, nearest-ge}
 use Rattle.ieee.specs.Rounding.{narrowOf}
 use Rattle.ieee.proofs.Values.{by-order, size-is, compare-lt}
 use Rattle.ieee.proofs.Pack.{pack, units-over, inf-bits}
-use Rattle.ieee.proofs.Fields.{value-finite, value-zero, value-top, narrowOf-at, narrowOf-inf}
+use Rattle.ieee.proofs.Fields.{with-leading, value-finite, value-zero, value-top, narrowOf-at, narrowOf-inf}
 
 -- ---- the digits D of a normal f64, at the exponent's field E
 module _ (D E : ℕ) (lo : 2 ^ 52 ≤ D) (hi : D < 2 ^ 53) (pos : 0 < E) where
@@ -121,9 +120,6 @@ narrow-tiny s a h =
     lit-le' = omega arith
 
 -- ---- by the fields
-digits-hi : (t : ℕ) → t < 2 ^ 52 → 2 ^ 52 + t < 2 ^ 53
-digits-hi t h = omega arith
-
 digits-lo : (t : ℕ) → 2 ^ 52 ≤ 2 ^ 52 + t
 digits-lo t = omega arith
 
@@ -136,7 +132,7 @@ mag-tiny s (suc x) t h k =
     let p : 0 < suc x = omega arith in
     let l : suc x < 2047 = omega arith in
     let r : 53 + (suc x - 1) ≤ 924 = omega arith in
-    narrow-tiny s ((2 ^ 52 + t) * 2 ^ (suc x - 1)) (lt-of-lt-of-le (shl-lt 53 (suc x - 1) (digits-hi t k)) (pow-mono r))
+    narrow-tiny s ((2 ^ 52 + t) * 2 ^ (suc x - 1)) (lt-of-lt-of-le (shl-lt 53 (suc x - 1) (with-leading binary64 t k)) (pow-mono r))
     ∙ sym (narrowOf-at (ofFields binary64 s (suc x) t) s ((2 ^ 52 + t) * 2 ^ (suc x - 1)) (2 ^ 1074) (pow-pos 1074) (value-finite binary64 s (suc x) t p l))
 
 pub mag-over : (s : Bool) (e t : ℕ) → 1150 < e → e ≤ 2047 → t < 2 ^ 52 → (e ≡ 2047 → t ≡ 0) → ofBits binary32 (cond s (2 ^ 31) 0 + 255 * 2 ^ 23) ≡ narrowOf (ofFields binary64 s e t)
@@ -149,14 +145,14 @@ mag-over s e t h k l z =
     inf-bits s
     ∙ sym
     (narrowOf-at (ofFields binary64 s e t) s ((2 ^ 52 + t) * 2 ^ (e - 1)) (2 ^ 1074) (pow-pos 1074) (value-finite binary64 s e t p q)
-    ∙ narrow-over (2 ^ 52 + t) e (digits-lo t) (digits-hi t l) p s h))
+    ∙ narrow-over (2 ^ 52 + t) e (digits-lo t) (with-leading binary64 t l) p s h))
     (eq-or-lt-of-le k)
 
 mag-digits : (s : Bool) (e t : ℕ) → 0 < e → e ≤ 1150 → t < 2 ^ 52
     → ofBits binary32 (cond s (2 ^ 31) 0 + ((e - 897) * 2 ^ 23 + closest (2 ^ 52 + t) (2 ^ (29 + (897 - e))))) ≡ narrowOf (ofFields binary64 s e t)
 mag-digits s e t p h l =
     let q : e < 2047 = omega arith in
-    narrow-digits (2 ^ 52 + t) e (digits-lo t) (digits-hi t l) p s h
+    narrow-digits (2 ^ 52 + t) e (digits-lo t) (with-leading binary64 t l) p s h
     ∙ sym (narrowOf-at (ofFields binary64 s e t) s ((2 ^ 52 + t) * 2 ^ (e - 1)) (2 ^ 1074) (pow-pos 1074) (value-finite binary64 s e t p q))
 
 mag-low : (s : Bool) (e t : ℕ) → 872 ≤ e → e < 897 → t < 2 ^ 52 → ofBits binary32 (cond s (2 ^ 31) 0 + closest (2 ^ 52 + t) (2 ^ (926 - e))) ≡ narrowOf (ofFields binary64 s e t)
@@ -180,7 +176,7 @@ closest-hi t sh l h =
     let u = 2 ^ sh in
     let D = 2 ^ 52 + t in
     let r : 53 ≤ 24 + sh = omega arith in
-    le-trans (nearest-le (D / u) (compare (D % u * 2) u)) (shr-lt 24 sh (lt-of-lt-of-le (digits-hi t l) (pow-mono r)))
+    le-trans (nearest-le (D / u) (compare (D % u * 2) u)) (shr-lt 24 sh (lt-of-lt-of-le (with-leading binary64 t l) (pow-mono r)))
 
 -- ---- what `narrow_fields` asks, of either sign, with r for the digits kept
 

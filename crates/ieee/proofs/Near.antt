@@ -1,5 +1,5 @@
 -- What `round` keeps is nearest: no value of the format, q * 2 ^ k of its smallest values with q of at most its digits, is nearer to the fraction; and at a tie it is even.
--- Counted in smallest values: the fraction a / c is n / c of them, n = a * 2 ^ low, and the result is `grid f a c` of them. Assumes nothing.
+-- Counted in smallest values: the fraction a / c is n / c of them, n = a * 2 ^ low, and the result is `grid f a c` of them.
 use mathlib.Core.Path.{_≡_, sym, ap, _∙_, subst}
 use mathlib.Core.Logic.{_⊎_, inl, inr, ⊎-elim}
 use Prim.Native.Nat.{ℕ, suc, _+_, _-_, _*_, _/_, _%_, _^_, _≤_, _<_, compare}

@@ -1,5 +1,4 @@
 -- The bit pattern of q * 2 ^ k smallest values of binary32: the exponent's field and the digits are k * 2 ^ 23 + q, a carry out of the digits and the overflow to an infinity included.
--- Assumes nothing.
 use mathlib.Core.Path.{_≡_, refl, sym, ap, _∙_, subst}
 use mathlib.Core.Logic.{_⊎_, inl, inr, ⊎-elim}
 use Prim.Native.Nat.{ℕ, suc, _+_, _-_, _*_, _/_, _^_, _≤_, _<_}

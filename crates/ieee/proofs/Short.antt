@@ -1,4 +1,4 @@
--- A finite number of a format is m * 2 ^ j of the format's smallest value, with m of no more digits than the format keeps: `inUnits` loses nothing. Assumes nothing.
+-- A finite number of a format is m * 2 ^ j of the format's smallest value, with m of no more digits than the format keeps: `inUnits` loses nothing.
 use mathlib.Core.Path.{_≡_, refl, sym, ap, _∙_, subst}
 use mathlib.Core.Bool.{Bool, _&&_}
 use Prim.Native.Nat.{ℕ, zero, suc, _+_, _-_, _*_, _/_, _%_, _^_, _≤_, _<_}

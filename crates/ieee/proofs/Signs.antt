@@ -1,5 +1,4 @@
 -- A value against zero, and what is above something, as the tests of the code tell them.
--- Assumes nothing.
 use mathlib.Core.Path.{_≡_, ap, _∙_}
 use Prim.Native.Nat.{ℕ, _+_, _*_, _<_}
 use native.Mathlib.Nat.{zero-mul, add-zero, mul-one}

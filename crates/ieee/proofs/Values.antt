@@ -1,5 +1,4 @@
 -- A value by the fraction that it equals (`HasValue`): its bit pattern, and that a format holds one such value of a sign. How many digits a number has. What `compare` answers.
--- Assumes nothing.
 use mathlib.Core.Path.{_≡_, refl, sym, ap, _∙_, subst}
 use Prim.Native.Nat.{ℕ, suc, _+_, _-_, _*_, _/_, _%_, _^_, _≤_, _<_, compare, Ordering, Ordering·lt, Ordering·eq, Ordering·gt}
 use native.Mathlib.Nat.{mul-right-comm, eq-of-mul-eq-mul-right, mod-lt, lt-of-not-le, not-le-of-lt, lt-of-lt-of-le, le-antisymm, mul-div-cancel}

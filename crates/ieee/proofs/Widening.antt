@@ -1,4 +1,4 @@
--- `widenOf` changes no number of binary32 (`widen-keeps`), since a number that the wider format holds is its own rounding there. By the fields of the patterns: `wider`. Assumes nothing.
+-- `widenOf` changes no number of binary32 (`widen-keeps`), since a number that the wider format holds is its own rounding there. By the fields of the patterns: `wider`.
 use mathlib.Core.Path.{_≡_, refl, sym, ap, _∙_, subst}
 use Prim.Native.Nat.{ℕ, suc, _+_, _-_, _*_, _^_, _<_}
 use native.Mathlib.Nat.{add-mul, mul-assoc, mul-one, lt-of-lt-of-le, pow-succ'}

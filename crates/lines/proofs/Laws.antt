@@ -1,4 +1,4 @@
--- Laws of the lines' definitions. Assumes nothing.
+-- Laws of the lines' definitions.
 use Prim.Native.Nat.{ℕ, zero, suc, _+_, _-_, _/_, _%_, _<_, _≤_}
 use mathlib.Core.Bool.{Bool, true, false, cond}
 use mathlib.Core.Path.{_≡_, refl, sym, _∙_, ap}

@@ -1,4 +1,4 @@
--- How long the lines are at most, and what a text that has room has room for. Assumes nothing.
+-- How long the lines are at most, and what a text that has room has room for.
 use Prim.Native.Nat.{ℕ, _+_, _*_, _-_, _≤_}
 use mathlib.Core.Bool.{Bool, true, false, cond}
 use mathlib.Core.Path.{_≡_, refl, sym, subst}

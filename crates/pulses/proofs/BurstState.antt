@@ -38,7 +38,8 @@ use Rattle.pulses.proofs.Machine.{after, emitted}
 use Rattle.pulses.proofs.RunState.{opened, rest-low}
 use Rattle.pulses.proofs.Edges.{flat}
 use Rattle.pulses.proofs.TrainState.{none-yet}
-use Rattle.slots.specs.Slots.{slotsOf, lastOr}
+use Rattle.slots.specs.Slots.{slotsOf}
+use Rattle.slots.proofs.Slots.{lastOr}
 use Rattle.pulses.proofs.OokSample.{Follows, After, stays, over, not-stay, tail-follows, doneOf, acted, acted-level}
 use Rattle.pulses.proofs.Presence.{Unfound, unsplit, unframed, presentDone, presence-frames, presence-follows}
 
@@ -51,7 +52,7 @@ abbrev pub Next-is : Settings → Sampled × List ℕ × List ℕ → List (Samp
 Next-is p r xs = After p (r .0 .burst .env) (record { next = r .0 .next; train = r .0 .burst .train; out = r .0 .burst .«out_ook» }) (r .1) xs
 
 -- a burst at its start has no pulse
-pub start-follows : (p : Settings) (high t e : Float) (b : Burst) (ook : List ℕ) → b .«out_ook» .state ≡ 0 → 2 * p .«max_pulses» ≤ length ook → Under p (beginBurstOf high t e b) ook []
+start-follows : (p : Settings) (high t e : Float) (b : Burst) (ook : List ℕ) → b .«out_ook» .state ≡ 0 → 2 * p .«max_pulses» ≤ length ook → Under p (beginBurstOf high t e b) ook []
 unfolding beginBurstOf beginEnvOf emptyTrainOf after emitted opened flat slotsOf lastOr
 start-follows p high t e b ook z h = record {
   run = rest-low refl refl refl refl (λ u. absurd (omega arith));
@@ -148,24 +149,25 @@ module _ (p : Settings) (D : InDomain p) where
         go false q (over n C) = over n C
 
   module _ (a : At) (ring : List Float) (b : Burst) (ook fsk : List ℕ) where
-    abbrev seen : Seen
+    -- what is seen of a sample and done about it, and the burst after that
+    abbrev pub seen : Seen
     seen = seeOf p a ring (b .high) (b .«e_prev») (b .env) (b .pac)
 
-    abbrev acts : Acted × List ℕ
+    abbrev pub acts : Acted × List ℕ
     acts = actOf p seen (b .train) (b .«out_ook») ook
 
-    -- the burst after the confirmation
-    abbrev burst′ : Burst
+    abbrev pub burst′ : Burst
     burst′ = withActed (a .e) seen (snapIfOf (seen .began) (seen .on) (seen .env .times .«c_run») (b .pres) (b .frame)) (acts .0) b
+
+    -- its rest: presence is asked in Auto mode
+    rest : Bool → Sampled × List ℕ × List ℕ
+    rest c = cond c (lastOf p (seen .on) (a .e) burst′ (acts .1) fsk) (presentOf p a (b .«e_prev») seen burst′ (acts .1) fsk)
 
     -- a sample never takes a frame back
     pub sample-frames : p .mode ≡ 2 → sampleOf p a ring b ook fsk .0 .burst .frames ≡ 0 → b .frames ≡ 0
-    unfolding sampleOf restOf lastOf
+    unfolding sampleOf restOf lastOf rest
     sample-frames auto = go (isStayOf (acts .0 .next)) (eqb (p .mode) 0)
       where
-        rest : Bool → Sampled × List ℕ × List ℕ
-        rest m = cond m (lastOf p (seen .on) (a .e) burst′ (acts .1) fsk) (presentOf p a (b .«e_prev») seen burst′ (acts .1) fsk)
-
         go : (c m : Bool) → cond {A = Sampled × List ℕ × List ℕ} c (rest m) (record { next = acts .0 .next; burst = burst′ }, acts .1, fsk) .0 .burst .frames ≡ 0 → b .frames ≡ 0
         go true true z = z
         go true false z = present-frames auto a (b .«e_prev») seen burst′ (acts .1) fsk z
@@ -173,12 +175,9 @@ module _ (p : Settings) (D : InDomain p) where
 
     rest-follows : (ys : List (Sample Float)) → burst′ .env .run .level ≡ bit (seen .on) → Under p burst′ (acts .1) ys
         → Apart p (restOf p a (b .«e_prev») seen burst′ (acts .1) fsk .0 .burst) → Next-is p (restOf p a (b .«e_prev») seen burst′ (acts .1) fsk) ys
-    unfolding restOf
+    unfolding restOf rest
     rest-follows ys l G A = go (eqb (p .mode) 0) refl A
       where
-        rest : Bool → Sampled × List ℕ × List ℕ
-        rest c = cond c (lastOf p (seen .on) (a .e) burst′ (acts .1) fsk) (presentOf p a (b .«e_prev») seen burst′ (acts .1) fsk)
-
         go : (c : Bool) → eqb (p .mode) 0 ≡ c → Apart p (rest c .0 .burst) → Next-is p (rest c) ys
         go true q A = last-follows (seen .on) (a .e) burst′ (acts .1) fsk ys l G
         go false q (unasked z) = clash (sym (eq-eqb (p .mode) 0 z) ∙ q)

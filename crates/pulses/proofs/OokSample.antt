@@ -152,7 +152,7 @@ module _ (p : Settings) (D : InDomain p) (mode : eqb (p .mode) 1 ≡ false) (v :
   fallen d ook′ es e h qe R (ends qn C) =
       over (λ q. idle-not (sym qn ∙ q)) (claimed p xs (next false) (d .out) ook′ (given p xs ++ (last ∷ [])) (ap (λ (l : List Edges). given p xs ++ l) e) C)
 
-  pub act-follows : (on : Bool) → Outcome (p .«min_steps») (machine p xs) (edgesAt p xs) on w → Confirmed on (dueOf (p .«min_steps») (w .run))
+  act-follows : (on : Bool) → Outcome (p .«min_steps») (machine p xs) (edgesAt p xs) on w → Confirmed on (dueOf (p .«min_steps») (w .run))
   unfolding confirmIf confirmOf
   act-follows on (keeps q hh e R) =
       subst (λ (b : Bool). Confirmed on b) (sym q)

@@ -38,7 +38,7 @@ abbrev of-frame : Framed
 of-frame = (split 5 13, 1, (2, 18, 1 ∷ [], []))
 
 -- a pulse before the frame
-abbrev pub after-pulse : List Call
+abbrev after-pulse : List Call
 after-pulse = opensAuto ++ (first 10 (slots 8) ∷ plain 11 4 3 ++ tones 18 eight four-runs ++ tones 30 zero32 (slots 5))
 
 abbrev pub table : List (List Call × List Framed)

@@ -11,7 +11,7 @@ use Rattle.lane.specs.declared.StepArgs.{StepArgs}
 use Rattle.pulses.specs.Yardstick.{as-left, Call, opening, begin, step, close}
 
 -- the settings of M6 to M8, but for carry, the mode, the most pulses, and how long a carrier is
-abbrev pub settingsBy : ℕ → ℕ → ℕ → ℕ → Settings
+abbrev settingsBy : ℕ → ℕ → ℕ → ℕ → Settings
 settingsBy carry mode most long =
     record {
       mode = mode;
@@ -68,7 +68,7 @@ abbrev pub shut : Call
 shut = close as-left (slots 8)
 
 -- a step at envelope 4, so that an edge falls half way between two samples
-abbrev pub mid : ℕ → Call
+abbrev mid : ℕ → Call
 mid i = step (at (ofBits binary32 0x4080_0000) i) as-left (slots 8)
 
 -- n steps from index i on

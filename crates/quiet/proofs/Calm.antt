@@ -16,32 +16,29 @@ use Rattle.types.specs.declared.Next.the-variants.{Stay, Idle, IdleAt}
 use Rattle.types.specs.Answers.{isStayOf}
 use Rattle.types.specs.Counts.{bit}
 use Rattle.types.specs.Params.{refineAtOf}
-use Rattle.ook.specs.Refine.{refineOf}
+use Rattle.types.proofs.Cases.{either}
 use Rattle.ook.specs.Run.{beginEnvOf}
 use Rattle.refusals.proofs.Domain.{InDomain}
 use Rattle.fsk.specs.declared.Frame.{Frame}
 use Rattle.presence.specs.declared.Pres.{Pres}
 use Rattle.presence.specs.declared.Snapped.{Snapped}
-use Rattle.fsk.specs.Makers.{withRuns}
-use Rattle.fsk.specs.Makers as frame
-use Rattle.presence.specs.Move.{withStart}
 use Rattle.presence.specs.Presence.{nearStartOf, snapOf}
 use Rattle.envelope.specs.declared.At.{At}
 use Rattle.envelope.specs.declared.Seen.{Seen}
 use Rattle.envelope.specs.declared.Acted.{Acted}
-use Rattle.envelope.specs.See.{refineDueOf, withRefined, seeOf}
+use Rattle.envelope.specs.See.{refineDueOf, seeOf}
 use Rattle.envelope.specs.Act.{actOf}
 use Rattle.envelope.specs.Tail.{tailOf}
 use Rattle.burst.specs.declared.Burst.{Burst}
 use Rattle.burst.specs.declared.Lead.{Lead}
 use Rattle.burst.specs.declared.Sampled.{Sampled}
-use Rattle.burst.specs.Makers.{withActed}
 use Rattle.burst.specs.Sample.{snapIfOf, absenceOf, lastOf, presentOf, restOf, sampleOf}
 use Rattle.burst.specs.Lead.{beginBurstOf, leadAtOf, staying, replayFrom}
 use Rattle.burst.proofs.LeadLaws.{replay-stop}
 use Rattle.pulses.specs.Runs.{Sample, sample}
 use Rattle.pulses.specs.Yardstick.{levelled, replayed}
 use Rattle.pulses.proofs.Flags.{clash}
+use Rattle.pulses.proofs.BurstState as state
 use Rattle.pulses.proofs.RunState.{level-after}
 use Rattle.pulses.proofs.OokSample.{idle-not, idle-at-not, not-stay}
 use Rattle.quiet.specs.Quiet.{lowsFrom, quietFrom, lows, quiet}
@@ -65,22 +62,16 @@ start-calm w high t e b more = record { away = refl; surely = refl; unframed = r
 -- refining an edge leaves the run
 refine-run : (m : ℕ) (a : At) (ring : List Float) (high : Float) (on : Bool) (v : Env) → refineDueOf m a ring high on v .run ≡ v .run
 unfolding refineDueOf
-refine-run m a ring high on v = go (eqb (v .«ref_pending») 1) (leb (refineAtOf m) (v .run .«run_len»))
-  where
-    go : (b c : Bool) → cond b (cond c (withRefined (refineOf ring m high (a .noise) on (a .«lead_at») (a .idx) v) v) v) v .run ≡ v .run
-    go true true = refl
-    go true false = refl
-    go false c = refl
+refine-run m a ring high on v =
+    let same : Env → Type 0 = λ (u : Env). u .run ≡ v .run in
+    either same (eqb (v .«ref_pending») 1) (either same (leb (refineAtOf m) (v .run .«run_len»)) refl refl) refl
 
 -- an envelope's edge moves the start of presence, and no more of it
 snap-level : (began on : Bool) (t : Float) (s : Pres) (f : Frame) → (snapIfOf began on t s f .pres .«p_level» ≡ s .«p_level») × (snapIfOf began on t s f .pres .«p_confirmed» ≡ s .«p_confirmed»)
 unfolding snapIfOf snapOf
-snap-level true true t s f = go (nearStartOf (s .«p_level») (f .«fsk_phase») (f .done .«fsk_runs») (sub binary64 t (s .«p_t_run»)))
-  where
-    go : (b : Bool) → let n : Snapped = cond b (record { pres = withStart t s; frame = withRuns (frame.withStart t (f .runs)) f }) (record { pres = s; frame = f }) in
-        (n .pres .«p_level» ≡ s .«p_level») × (n .pres .«p_confirmed» ≡ s .«p_confirmed»)
-    go true = (refl, refl)
-    go false = (refl, refl)
+snap-level true true t s f =
+    either (λ (n : Snapped). (n .pres .«p_level» ≡ s .«p_level») × (n .pres .«p_confirmed» ≡ s .«p_confirmed»))
+    (nearStartOf (s .«p_level») (f .«fsk_phase») (f .done .«fsk_runs») (sub binary64 t (s .«p_t_run»))) (refl, refl) (refl, refl)
 snap-level true false t s f = (refl, refl)
 snap-level false on t s f = (refl, refl)
 
@@ -88,13 +79,7 @@ module _ (p : Settings) (D : InDomain p) (mode : p .mode ≡ 0) (w : ℕ) (N : E
   -- ---- a sample
   module _ (a : At) (ring : List Float) (b : Burst) (ook fsk : List ℕ) (xs : List (Sample Float)) (C : Calm w b xs) where
     abbrev seen : Seen
-    seen = seeOf p a ring (b .high) (b .«e_prev») (b .env) (b .pac)
-
-    abbrev acts : Acted × List ℕ
-    acts = actOf p seen (b .train) (b .«out_ook») ook
-
-    abbrev burst′ : Burst
-    burst′ = withActed (a .e) seen (snapIfOf (seen .began) (seen .on) (seen .env .times .«c_run») (b .pres) (b .frame)) (acts .0) b
+    seen = state.seen p D a ring b ook fsk
 
     -- the run after it, before it may count
     long-seen : Long (lowsAfter (lows xs) (seen .on)) (seen .env .run)
@@ -102,6 +87,9 @@ module _ (p : Settings) (D : InDomain p) (mode : p .mode ≡ 0) (w : ℕ) (N : E
     long-seen =
         subst (λ (r : Run). Long (lowsAfter (lows xs) (seen .on)) r) (sym (refine-run (p .«min_steps») a ring (b .high) (seen .on) _))
         (long-after (lows xs) (b .env) (seen .on) _ (a .idx) (omega (arith, C .few, N .small)) (C .long))
+
+    abbrev acts : Acted × List ℕ
+    acts = state.acts p D a ring b ook fsk
 
     -- and once it counts where it has min_steps samples
     counts : Counts (p .«min_steps») (seen .env .run) (acts .0 .env .run)
@@ -114,6 +102,9 @@ module _ (p : Settings) (D : InDomain p) (mode : p .mode ≡ 0) (w : ℕ) (N : E
       low = λ e. rw (counts .same-length) (long-seen .low (sym (counts .same-level) ∙ e));
       high = λ e. long-seen .high (λ q. e (counts .same-level ∙ q));
     }
+
+    abbrev burst′ : Burst
+    burst′ = state.burst′ p D a ring b ook fsk
 
     -- where a low sample leaves the burst under way, fewer samples are low than end it: its run would count and be longer than the gap
     abbrev tail : Next

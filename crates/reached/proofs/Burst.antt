@@ -1,4 +1,4 @@
--- Laws of the definitions in specs/Burst.
+-- A sample of a burst, and the burst's beginning, stay within refusal 4's limits: from a burst under way each sample leads to one, or the burst ends.
 use Prim.Native.Nat.{ℕ, _-_, _^_, _<_, _≤_}
 use mathlib.Core.Bool.{Bool, true, false}
 use mathlib.Core.Path.{_≡_}
@@ -28,23 +28,26 @@ use Rattle.burst.specs.declared.Burst.{Burst}
 use Rattle.burst.specs.declared.Lead.{Lead}
 use Rattle.burst.specs.declared.Sampled.{Sampled}
 use Rattle.reached.proofs.Pairs.{sample-fits, replay-keeps, begin-burst-fits}
-use Rattle.reached.specs.Presence.{Running}
-use Rattle.reached.proofs.Presence.{AnswerWithin, presence-within, snap-within}
-use Rattle.reached.specs.Burst.{BurstWithin, Runs, Counted}
+use Rattle.reached.proofs.Presence.{AnswerWithin, presence-within, snap-within, PresentWithin}
+use Rattle.reached.specs.Limits.{Running, BurstWithin, UnderWay}
 
 -- a burst under way, or one that has ended
 pub record SampledWithin (p : Settings) (s : Sampled) : Type 0 where
   pub within : BurstWithin p (s .burst)
-  pub running : isStayOf (s .next) ≡ true → Runs p (s .burst)
+  pub running : isStayOf (s .next) ≡ true → UnderWay p (s .burst)
 
 abbrev pub StepsWithin : Settings → Sampled × List ℕ × List ℕ → Type 0
 StepsWithin p q = SampledWithin p (q .0)
 
+-- presence and frame alone, as a sample answers: the envelope's stages leave them
+abbrev Counted : Settings → Sampled × List ℕ × List ℕ → Type 0
+Counted p q = PresentWithin (p .«max_pulses») (fskMinOf (p .«min_steps»)) (p .«long_steps») (record { next = q .0 .next; pres = q .0 .burst .pres; body = bodyIn (q .0 .burst) })
+
 module _ (p : Settings) where
-  counted : (q : Sampled × List ℕ × List ℕ) → Runs p (q .0 .burst) → Counted p q
+  counted : (q : Sampled × List ℕ × List ℕ) → UnderWay p (q .0 .burst) → Counted p q
   counted q r = record { flags = r .flags; frame-within = r .most; running = λ z. r }
 
-  last-counted : (on : Bool) (e : Float) (b : Burst) (ook fsk : List ℕ) → Runs p b → Counted p (lastOf p on e b ook fsk)
+  last-counted : (on : Bool) (e : Float) (b : Burst) (ook fsk : List ℕ) → UnderWay p b → Counted p (lastOf p on e b ook fsk)
   unfolding lastOf
   last-counted on e b ook fsk r = counted (lastOf p on e b ook fsk) r
 
@@ -55,7 +58,7 @@ module _ (p : Settings) where
       (λ e. record { flags = h .flags; frame-within = h .frame-within; running = h .running })
 
   module _ (small : p .«long_steps» ≤ maxSteps) where
-    rest-counted : (a : At) (ep : Float) (s : Seen) (b : Burst) (ook fsk : List ℕ) → Runs p b → Counted p (restOf p a ep s b ook fsk)
+    rest-counted : (a : At) (ep : Float) (s : Seen) (b : Burst) (ook fsk : List ℕ) → UnderWay p b → Counted p (restOf p a ep s b ook fsk)
     unfolding restOf presentOf
     rest-counted a ep s b ook fsk r =
         either (Counted p) (eqb (p .mode) 0)
@@ -74,7 +77,7 @@ module _ (p : Settings) where
     snap-if-within true false tc s fr r = r
     snap-if-within false on tc s fr r = r
 
-    sample-counted : (a : At) (ring : List Float) (b : Burst) (ook fsk : List ℕ) → Runs p b → Counted p (sampleOf p a ring b ook fsk)
+    sample-counted : (a : At) (ring : List Float) (b : Burst) (ook fsk : List ℕ) → UnderWay p b → Counted p (sampleOf p a ring b ook fsk)
     unfolding sampleOf
     sample-counted a ring b ook fsk r =
         let s : Seen = seeOf p a ring (b .high) (b .«e_prev») (b .env) (b .pac) in
@@ -84,7 +87,7 @@ module _ (p : Settings) where
 module _ (p : Settings) (fits : p .«max_pulses» < 2 ^ 32) where
   module _ (small : p .«long_steps» ≤ maxSteps) where
     -- a sample of a burst under way
-    pub sample-within : (a : At) (ring : List Float) (b : Burst) (ook fsk : List ℕ) → BurstWithin p b → Runs p b → StepsWithin p (sampleOf p a ring b ook fsk)
+    pub sample-within : (a : At) (ring : List Float) (b : Burst) (ook fsk : List ℕ) → BurstWithin p b → UnderWay p b → StepsWithin p (sampleOf p a ring b ook fsk)
     sample-within a ring b ook fsk h r =
         let c : Counted p (sampleOf p a ring b ook fsk) = sample-counted p small a ring b ook fsk r in
         record {
@@ -97,7 +100,7 @@ module _ (p : Settings) (fits : p .«max_pulses» < 2 ^ 32) where
     replay-within noise ring l = replay-keeps p noise ring l (StepsWithin p) (λ i q e h. sample-within (leadAtOf noise l i) ring (q .0 .burst) (q .1) (q .2) (h .within) (h .running e))
 
   -- a burst begins, whatever the one before left
-  pub begin-burst-within : (high t e : Float) (b : Burst) → BurstWithin p b → BurstWithin p (beginBurstOf high t e b) × Runs p (beginBurstOf high t e b)
+  pub begin-burst-within : (high t e : Float) (b : Burst) → BurstWithin p b → BurstWithin p (beginBurstOf high t e b) × UnderWay p (beginBurstOf high t e b)
   unfolding beginBurstOf
   begin-burst-within high t e b h = (
     record { fits = begin-burst-fits p fits high t e b (h .fits); pres-within = omega arith; frame-within = h .frame-within },

@@ -1,4 +1,4 @@
--- Laws of the definitions in specs/Fsk.
+-- The frame's stages stay within refusal 4's limits: flags stay 0 or 1, pairs plus open at most max_pulses, and a commit counts at most one run.
 use Prim.Native.Nat.{ℕ, _+_, _-_, _<_, _≤_}
 use mathlib.Core.Bool.{Bool, not}
 use mathlib.Core.List.{List}
@@ -18,7 +18,7 @@ use Rattle.fsk.specs.declared.Ran.{Ran}
 use Rattle.fsk.specs.declared.Frame.{Frame}
 use Rattle.fsk.specs.declared.Turn.{Turn}
 use Rattle.fsk.specs.declared.Opening.{Opening}
-use Rattle.reached.specs.Fsk.{CommittedWithin, RunsWithin, FrameWithin}
+use Rattle.reached.specs.Limits.{CommittedWithin, RunsWithin, FrameWithin}
 
 pub inc-most : (n : ℕ) → inc n ≤ n + 1
 unfolding inc

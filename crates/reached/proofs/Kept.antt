@@ -1,4 +1,5 @@
--- What begin and step keep of a burst (crate limits) passes refusal 4's check.
+-- What a burst within the limits passes, and what leaves it within them: refusal 4's check says yes to it, and so it does to a burst that is new, cleared,
+-- ended, or has a new serial.
 use Prim.Native.Nat.{ℕ, _+_, _*_, _^_, _<_, _≤_}
 use mathlib.Core.Bool.{Bool, true, false, not, _||_}
 use mathlib.Core.Path.{_≡_, refl}
@@ -20,11 +21,8 @@ use Rattle.fsk.specs.declared.Frame.{Frame}
 use Rattle.presence.specs.declared.Pres.{Pres}
 use Rattle.burst.specs.Makers.{withSerials}
 use Rattle.burst.specs.declared.Burst.{Burst}
-use Rattle.reached.specs.Fsk.{CommittedWithin, FrameWithin}
-use Rattle.reached.specs.Burst.{Paired, BurstFits}
-use Rattle.reached.proofs.Slicer.{fsk-min-above}
-use Rattle.reached.specs.Presence.{PresWithin}
-use Rattle.reached.specs.Burst.{BurstWithin, Runs}
+use Rattle.reached.specs.Limits.{mostRuns, CommittedWithin, FrameWithin, PresWithin, Paired, BurstFits, BurstWithin, UnderWay}
+use Rattle.reached.proofs.FskSample.{fsk-min-above}
 use Rattle.refusals.proofs.Domain.{InDomain}
 use Rattle.refusals.specs.State.{envOk, trainOk, presOk, frameOk, outOk, burstOk, candOk}
 use Rattle.lane.specs.Idle.{noOut, noneDone, noBurst}
@@ -68,7 +66,7 @@ burst-ok {p} {b} d h =
       train-ok (p .«max_pulses») (b .train) (h .fits .train-within),
       out-ok (p .«max_pulses») (b .«out_ook») (h .fits .ook-within),
       pres-ok (b .pres) (h .pres-within),
-      frame-ok (p .«max_pulses») (fskMinOf (p .«min_steps»)) (p .«long_steps» + 1) (2 * p .«long_steps» + 3) (b .frame) (omega (arith, d .long-steps .1)) (omega (arith, d .long-steps .1)) (h .frame-within),
+      frame-ok (p .«max_pulses») (fskMinOf (p .«min_steps»)) (p .«long_steps» + 1) (mostRuns (p .«long_steps»)) (b .frame) (omega (arith, d .long-steps .1)) (omega (arith, d .long-steps .1)) (h .frame-within),
       out-ok (p .«max_pulses») (b .«out_fsk») (h .fits .fsk-within),
     )
 
@@ -106,7 +104,7 @@ none-within p =
         candidates = λ q. fsk-min-above (p .«min_steps»);
         count = omega arith;
         runs-within = record { level-flag = omega arith; confirmed-flag = omega arith; has-prev-flag = omega arith };
-        done-within = none-done (p .«max_pulses») (2 * p .«long_steps» + 3);
+        done-within = none-done (p .«max_pulses») (mostRuns (p .«long_steps»));
       };
     }
 
@@ -121,7 +119,7 @@ cleared-within {p} {b} h =
     let f = h .fits in
     record { fits = cleared-fits (p .«max_pulses») b (f .env-within) (f .train-within) (f .pairs); pres-within = h .pres-within; frame-within = h .frame-within }
 
-pub cleared-runs : (p : Settings) (b : Burst) → Runs p b → Runs p (clearedOf b)
+pub cleared-runs : (p : Settings) (b : Burst) → UnderWay p b → UnderWay p (clearedOf b)
 unfolding clearedOf
 cleared-runs p b r = r
 

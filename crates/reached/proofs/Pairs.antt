@@ -1,4 +1,5 @@
--- Laws of the definitions in specs/Pairs.
+-- The records of a sample have at most max_pulses pairs, from any burst whose train and frame have: what refusal 4 asks of the pairs alone is enough,
+-- whatever the counts of samples and runs are.
 use Prim.Native.Nat.{ℕ, zero, suc, _+_, _^_, _<_}
 use mathlib.Core.Bool.{Bool, true, not}
 use mathlib.Core.Path.{_≡_}
@@ -53,10 +54,9 @@ use Rattle.burst.specs.Lead.{beginBurstOf, leadAtOf, onward, replayFrom}
 use Rattle.burst.specs.declared.Burst.{Burst}
 use Rattle.burst.specs.declared.Lead.{Lead}
 use Rattle.burst.specs.declared.Sampled.{Sampled}
-use Rattle.reached.specs.Fsk.{CommittedWithin}
 use Rattle.reached.proofs.Fsk.{CommitWithin, StepWithin, commit-within, open-runs-within, settle-within}
-use Rattle.reached.proofs.Frame.{CutWithin, last-run-within, close-pair-within, out-within, cut-train-within, ended-within}
-use Rattle.reached.specs.Burst.{Paired, BurstFits}
+use Rattle.reached.proofs.FrameEnd.{CutWithin, last-run-within, close-pair-within, out-within, cut-train-within, ended-within}
+use Rattle.reached.specs.Limits.{CommittedWithin, Paired, BurstFits}
 
 -- ---- the frame: pairs plus open are at most max, whatever the count of runs
 

@@ -1,4 +1,5 @@
--- Laws of the definitions in specs/Presence.
+-- A sample of presence stays within refusal 4's limits: the counts of a frame grow by at most one sample and two runs with each sample of its presence,
+-- which ends at long_steps; an absence adds nothing, and its end one run.
 use Prim.Native.Nat.{ℕ, _+_, _*_, _-_, _<_, _≤_}
 use mathlib.Core.Bool.{Bool, true, false, cond}
 use mathlib.Core.Path.{_≡_, refl, sym}
@@ -8,7 +9,7 @@ use lib.Dec.{ltb, leb, eqb}
 use lib.IntN.{pos}
 use lib.Ieee.{Float, add, sub, binary64, ofInt}
 use borrow.Author.Tests.{eqb-true, eqb-false, ltb-false}
-use Rattle.domain.specs.Limits.{maxSteps, maxCount}
+use Rattle.domain.specs.Limits.{maxSteps}
 use Rattle.ieee.specs.Constants.{one64}
 use Rattle.arith.specs.Leaves.{edgeOf, crossOf}
 use Rattle.types.specs.Counts.{satAddOf}
@@ -27,12 +28,11 @@ use Rattle.presence.specs.declared.Pres.{Pres}
 use Rattle.presence.specs.declared.Inputs.{Inputs}
 use Rattle.presence.specs.declared.Present.{Present}
 use Rattle.presence.specs.declared.Snapped.{Snapped}
-use Rattle.reached.specs.Fsk.{FrameWithin}
+use Rattle.reached.specs.Limits.{mostRuns, FrameWithin, Running, PresWithin}
 use Rattle.reached.proofs.Fsk.{begin-frame-within}
-use Rattle.reached.proofs.Slicer.{fsk-min-above, sample-within}
-use Rattle.reached.specs.Frame.{DoneWithin}
-use Rattle.reached.proofs.Frame.{frame-done-within}
-use Rattle.reached.specs.Presence.{Running, PresentWithin}
+use Rattle.reached.proofs.FskSample.{fsk-min-above, sample-within}
+use Rattle.reached.proofs.FrameEnd.{DoneWithin, frame-done-within}
+use Rattle.types.specs.Answers.{isStayOf}
 
 -- larger bounds hold too
 frame-up : {max least k m k′ m′ : ℕ} {fr : Frame} → k ≤ k′ → m ≤ m′ → FrameWithin max least k m fr → FrameWithin max least k′ m′ fr
@@ -56,7 +56,7 @@ record OnMoved (max least long : ℕ) (s : Pres) (fr : Frame) : Type 0 where
 record OffMoved (max least long : ℕ) (s : Pres) (fr : Frame) : Type 0 where
   is-off : s .«p_level» ≡ 0
   sure-flag : s .«p_confirmed» ≤ 1
-  most : FrameWithin max least (long + 1) (2 * long + 3) fr
+  most : FrameWithin max least (long + 1) (mostRuns long) fr
   absent : s .«p_confirmed» ≡ 0 → (s .«p_prev» ≤ long) × FrameWithin max least (s .«p_prev») (2 * s .«p_prev») fr
 
 module _ (max least long : ℕ) (small : long ≤ maxSteps) (some : 0 < least) (s : Pres) (fr : Frame) (tc : Float) (h : Running max least long s fr) where
@@ -84,6 +84,10 @@ module _ (max least long : ℕ) (small : long ≤ maxSteps) (some : 0 < least) (
   off-moved false false q r = rw (q, r) (record { is-off = refl; sure-flag = omega arith; most = h .most; absent = λ z. h .present (opposite 0 (s .«p_level») (omega arith) (h .flags .level-flag) q) })
 
 -- ---- what the sample answers
+pub record PresentWithin (max least long : ℕ) (r : Present) : Type 0 where
+  pub flags : PresWithin (r .pres)
+  pub frame-within : FrameWithin max least (long + 1) (mostRuns long) (r .body .frame)
+  pub running : isStayOf (r .next) ≡ true → Running max least long (r .pres) (r .body .frame)
 
 abbrev pub AnswerWithin : ℕ → ℕ → ℕ → Present × List ℕ × List ℕ → Type 0
 AnswerWithin max least long q = PresentWithin max least long (q .0)
@@ -97,7 +101,7 @@ due-open s n q = go (eqb (s .«p_confirmed») 0) refl q
     go false r z = let no : _≡_ {A = ℕ} 0 1 = cc in absurd (omega arith)
 
 -- the carrier is off: nothing more is counted, and a confirmed absence may end the frame
-off-answer : (p : Settings) (a : Inputs) (least : ℕ) (s : Pres) (b : Body) (ook fsk : List ℕ) → s .«p_level» ≡ 0 → s .«p_confirmed» ≤ 1 → FrameWithin (p .«max_pulses») least (p .«long_steps» + 1) (2 * p .«long_steps» + 3) (b .frame) → (s .«p_confirmed» ≡ 0 → (s .«p_prev» ≤ p .«long_steps») × FrameWithin (p .«max_pulses») least (s .«p_prev») (2 * s .«p_prev») (b .frame)) → AnswerWithin (p .«max_pulses») least (p .«long_steps») (carrierIfOf p a false s b ook fsk)
+off-answer : (p : Settings) (a : Inputs) (least : ℕ) (s : Pres) (b : Body) (ook fsk : List ℕ) → s .«p_level» ≡ 0 → s .«p_confirmed» ≤ 1 → FrameWithin (p .«max_pulses») least (p .«long_steps» + 1) (mostRuns (p .«long_steps»)) (b .frame) → (s .«p_confirmed» ≡ 0 → (s .«p_prev» ≤ p .«long_steps») × FrameWithin (p .«max_pulses») least (s .«p_prev») (2 * s .«p_prev») (b .frame)) → AnswerWithin (p .«max_pulses») least (p .«long_steps») (carrierIfOf p a false s b ook fsk)
 unfolding carrierIfOf longOf
 off-answer p a least s b ook fsk none sure h f =
     record {
@@ -140,7 +144,7 @@ module _ (p : Settings) (a : Inputs) (ook : List ℕ) where
   after-on least s b fsk false one sure h f = carrier-on least s b fsk one sure h f
 
   -- the absence is confirmed
-  off-sure : (least : ℕ) (s : Pres) (b : Body) (fsk : List ℕ) → s .«p_level» ≡ 0 → FrameWithin (p .«max_pulses») least (p .«long_steps» + 1) (2 * p .«long_steps» + 3) (b .frame) → s .«p_prev» ≤ p .«long_steps» → FrameWithin (p .«max_pulses») least (s .«p_prev») (2 * s .«p_prev») (b .frame) → AnswerWithin (p .«max_pulses») least (p .«long_steps») (confirmBy p a false s b true ook fsk)
+  off-sure : (least : ℕ) (s : Pres) (b : Body) (fsk : List ℕ) → s .«p_level» ≡ 0 → FrameWithin (p .«max_pulses») least (p .«long_steps» + 1) (mostRuns (p .«long_steps»)) (b .frame) → s .«p_prev» ≤ p .«long_steps» → FrameWithin (p .«max_pulses») least (s .«p_prev») (2 * s .«p_prev») (b .frame) → AnswerWithin (p .«max_pulses») least (p .«long_steps») (confirmBy p a false s b true ook fsk)
   unfolding endsOf endIfOf sureIfOf
   off-sure least s b fsk none h low f = go (leb (p .«min_steps») (s .«p_prev»))
     where
@@ -150,7 +154,7 @@ module _ (p : Settings) (a : Inputs) (ook : List ℕ) where
       end : Float
       end = endOf (a .level) (a .«c_run») (s .«p_t_run»)
 
-      done : DoneWithin (p .«max_pulses») least (p .«long_steps» + 1) (2 * p .«long_steps» + 3) (frameDoneOf p b (a .high) (a .pac) (s .«p_t_prev») end ook fsk)
+      done : DoneWithin (p .«max_pulses») least (p .«long_steps» + 1) (mostRuns (p .«long_steps»)) (frameDoneOf p b (a .high) (a .pac) (s .«p_t_prev») end ook fsk)
       done =
           frame-up (omega arith) (omega arith)
           (frame-done-within p least (s .«p_prev») (2 * s .«p_prev») b (a .high) (a .pac) (s .«p_t_prev») end ook fsk f)
@@ -159,7 +163,7 @@ module _ (p : Settings) (a : Inputs) (ook : List ℕ) where
       go true = off-answer p a least _ _ _ _ none (omega arith) done (λ z. never z)
       go false = off-answer p a least _ _ _ _ none (omega arith) h (λ z. never z)
 
-  after-off : (least : ℕ) (s : Pres) (b : Body) (fsk : List ℕ) (due : Bool) → dueOf s (p .«min_steps») ≡ due → s .«p_level» ≡ 0 → s .«p_confirmed» ≤ 1 → FrameWithin (p .«max_pulses») least (p .«long_steps» + 1) (2 * p .«long_steps» + 3) (b .frame) → (s .«p_confirmed» ≡ 0 → (s .«p_prev» ≤ p .«long_steps») × FrameWithin (p .«max_pulses») least (s .«p_prev») (2 * s .«p_prev») (b .frame)) → AnswerWithin (p .«max_pulses») least (p .«long_steps») (confirmBy p a false s b due ook fsk)
+  after-off : (least : ℕ) (s : Pres) (b : Body) (fsk : List ℕ) (due : Bool) → dueOf s (p .«min_steps») ≡ due → s .«p_level» ≡ 0 → s .«p_confirmed» ≤ 1 → FrameWithin (p .«max_pulses») least (p .«long_steps» + 1) (mostRuns (p .«long_steps»)) (b .frame) → (s .«p_confirmed» ≡ 0 → (s .«p_prev» ≤ p .«long_steps») × FrameWithin (p .«max_pulses») least (s .«p_prev») (2 * s .«p_prev») (b .frame)) → AnswerWithin (p .«max_pulses») least (p .«long_steps») (confirmBy p a false s b due ook fsk)
   unfolding endsOf endIfOf sureIfOf
   after-off least s b fsk true q none sure h f =
       let now = f (due-open s (p .«min_steps») q) in
@@ -201,12 +205,8 @@ snap-within max least long s fr tc h = go (nearStartOf (s .«p_level») (fr .«f
     go true =
         record {
           flags = omega arith;
-          most = moved (long + 1) (2 * long + 3) (h .most);
+          most = moved (long + 1) (mostRuns long) (h .most);
           present = λ q. (h .present q .0, moved (s .«p_run») (2 * s .«p_run») (h .present q .1));
           absent = λ q z. (h .absent q z .0, moved (s .«p_prev») (2 * s .«p_prev») (h .absent q z .1));
         }
     go false = h
-
--- the bounds are below the limit of refusal 4
-pub below-limit : (long : ℕ) → long ≤ maxSteps → (long + 1 ≤ maxCount) × (2 * long + 3 ≤ maxCount)
-below-limit long h = omega arith

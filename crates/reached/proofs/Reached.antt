@@ -1,6 +1,7 @@
--- Laws of the definitions in specs/Reached.
+-- The lanes that calls hand back, from the one that never had settings on, pass refusal 4's check: each accepted call leads from a sound lane to a sound
+-- lane, and a refused one leaves it. So no list of calls meets refusal 4.
 use Prim.Native.Nat.{ℕ, _+_, _<_, _≤_}
-use mathlib.Core.Bool.{Bool, true, false, cond, not, _&&_, _||_}
+use mathlib.Core.Bool.{Bool, true, false, not, _&&_, _||_}
 use mathlib.Core.Path.{_≡_, refl, sym, ap, _∙_}
 use mathlib.Core.List.{List}
 use native.Mathlib.Omega.{arith}
@@ -12,7 +13,7 @@ use borrow.Author.Tests.{leb-true, le-leb, lt-ltb, ltb-true, eqb-true, eqb-false
 use Rattle.domain.specs.Limits.{maxIndex, spentSerial, maxSerial}
 use Rattle.arith.specs.Leaves.{leadLenOf}
 use Rattle.types.specs.declared.Settings.{Settings}
-use Rattle.types.proofs.Cases.{either}
+use Rattle.types.proofs.Cases.{either, by-test}
 use Rattle.types.specs.Answers.{isStayOf}
 use Rattle.types.specs.declared.Next.{Next}
 use Rattle.types.specs.declared.Next.the-variants as next
@@ -27,7 +28,7 @@ use Rattle.refusals.specs.State.{burstOk, frameOk, leadOk, candOk}
 use Rattle.refusals.specs.Order.{firstFailed}
 use Rattle.refusals.proofs.Order.{passed, AllPassed, none-failed}
 use Rattle.types.proofs.Tests.{both-true}
-use Rattle.reached.specs.Burst.{BurstWithin, Runs}
+use Rattle.reached.specs.Limits.{BurstWithin, UnderWay}
 use Rattle.reached.proofs.Burst.{SampledWithin, sample-within, replay-within, begin-burst-within}
 use Rattle.reached.proofs.Kept.{burst-ok, cand-ok, none-within, cleared-within, cleared-runs, factor-within, ended-within, serials-within}
 use Rattle.lane.specs.declared.BeginArgs.{BeginArgs}
@@ -39,19 +40,12 @@ use Rattle.refusals.specs.Serial.{serialLeft}
 use Rattle.lane.specs.Refusals.{openedOk, laneOk, followsOf, beginFloatsOk, stepFloatsOk, openRefusal, beginRefusal, stepRefusal, closeRefusal}
 use Rattle.lane.proofs.Refusals.{passes-lane}
 use Rattle.lane.specs.Idle.{noBurst, idleLane}
-use Rattle.lane.specs.Begin.{ringOf, clearedOf, beginLeadOf, leadLane, laneOf}
+use Rattle.lane.specs.Begin.{clearedOf, beginLeadOf, leadLane, laneOf}
 use Rattle.lane.specs.Advance.{settleOf, fillOf, replayStep, leadStep, burstStep, advanceOf}
-use Rattle.lane.specs.Serial.{stampOf, stamped, stampedWith}
+use Rattle.lane.specs.Serial.{stampOf}
 use Rattle.lane.specs.Close.{idleWith, endBurstOf, closeOf}
-use Rattle.lane.specs.Step.{refuse, stay, newLane, opened, begun, stepped, closed}
+use Rattle.lane.specs.Step.{newLane, opened, begun, stepped, closed}
 use Rattle.reached.specs.Reached.{Reached, new, opening, beginning, stepping, closing, Kept, Counts, Within, Sound, unopened, within}
-
--- an accepted step has the index after the last, and raises the serial with it
-record Steps (l : Lane) (s : StepArgs) : Type 0 where
-  was : Within l
-  index-most : s .index ≤ maxIndex
-  next : s .index ≡ l .last + 1
-  under-way : l .phase ≡ 0 → ⊥
 
 lead-ok : (phase m : ℕ) (ld : Lead) → (phase ≡ 1 → ld .«lead_n» < leadLenOf m) → ld .«lead_at» ≤ maxIndex → leadOk phase m ld ≡ true
 unfolding leadOk
@@ -106,13 +100,10 @@ opening-passes l p e =
 
 pub open-sound : {l : Lane} (p : Settings) → Sound l → Sound (opened l p .lane)
 unfolding opened
-open-sound {l} p h = go (eqb (openRefusal l p) 0) refl
-  where
-    go : (b : Bool) → eqb (openRefusal l p) 0 ≡ b → Sound (cond b (stamped l (stay (idleLane 1 p))) (refuse (openRefusal l p) l) .lane)
-    go true q =
-        let t = opening-passes l p (eqb-true (openRefusal l p) 0 q) in
-        stamp-sound (l .serial + 1) (idle-kept p (t .0)) (raises (omega (arith, t .1)))
-    go false q = h
+open-sound {l} p h =
+    by-test (λ (a : Answer). Sound (a .lane)) (eqb (openRefusal l p) 0)
+    (λ q. let t = opening-passes l p (eqb-true _ 0 q) in stamp-sound (l .serial + 1) (idle-kept p (t .0)) (raises (omega (arith, t .1))))
+    (λ q. h)
 
 -- begin
 begin-passes : (l : Lane) (b : BeginArgs) (m n : ℕ) → beginRefusal l b m n ≡ 0
@@ -133,18 +124,17 @@ lead-sound {l} b m n e (within w) =
 
 pub begin-sound : {l : Lane} (b : BeginArgs) (ook fsk : List ℕ) → Sound l → Sound (begun l b ook fsk .lane)
 unfolding begun
-begin-sound {l} b ook fsk h = go (eqb (beginRefusal l b (length ook) (length fsk)) 0) refl
-  where
-    go : (c : Bool) → eqb (beginRefusal l b (length ook) (length fsk)) 0 ≡ c → Sound (cond c (stamped l (stay (leadLane l b))) (refuse (beginRefusal l b (length ook) (length fsk)) l) .lane)
-    go true q = lead-sound b (length ook) (length fsk) (eqb-true (beginRefusal l b (length ook) (length fsk)) 0 q) h
-    go false q = h
+begin-sound {l} b ook fsk h =
+    by-test (λ (a : Answer). Sound (a .lane)) (eqb (beginRefusal l b (length ook) (length fsk)) 0)
+    (λ q. lead-sound b (length ook) (length fsk) (eqb-true _ 0 q) h)
+    (λ q. h)
 
 -- the replay of a lead-in
 lead-within : (p : Settings) (noise : Float) (ring : List Float) (ld : Lead) (b : Burst) (ook fsk : List ℕ) → InDomain p → BurstWithin p b → SampledWithin p (leadFullOf p noise ring ld b ook fsk .0)
 unfolding leadFullOf replayOf
 lead-within p noise ring ld b ook fsk d h =
     let n : Burst = beginBurstOf (largestOf (ld .«lead_e») (leadLenOf (p .«min_steps»))) (ofInt binary64 (pos (ld .«lead_at»))) (getD (ld .«lead_e») 0 nan) b in
-    let g : BurstWithin p n × Runs p n = begin-burst-within p (omega (arith, d .max-pulses .1)) _ _ _ b h in
+    let g : BurstWithin p n × UnderWay p n = begin-burst-within p (omega (arith, d .max-pulses .1)) _ _ _ b h in
     replay-within p (omega (arith, d .max-pulses .1)) (d .long-steps .1) noise ring ld (leadLenOf (p .«min_steps»)) 0 (staying n ook fsk) (record { within = g .0; running = λ q. g .1 })
 
 -- step
@@ -153,6 +143,13 @@ unfolding phaseOf
 phase-ends next.Stay = (omega arith, λ e. omega arith, λ e. refl)
 phase-ends next.Idle = (omega arith, λ e. omega arith, λ e. absurd (omega arith))
 phase-ends (next.IdleAt x) = (omega arith, λ e. omega arith, λ e. absurd (omega arith))
+
+-- an accepted step: its index is the one after the last, and the serial rises with it
+record Steps (l : Lane) (s : StepArgs) : Type 0 where
+  was : Within l
+  index-most : s .index ≤ maxIndex
+  next : s .index ≡ l .last + 1
+  under-way : l .phase ≡ 0 → ⊥
 
 module _ {l : Lane} (s : StepArgs) (k : Steps l s) where
   counts : (phase : ℕ) (ld : Lead) (ring : List Float) (b : Burst) → Kept (laneOf l phase (s .index) (s .x) ld ring b) → Sound (stampOf (l .serial + 1) (laneOf l phase (s .index) (s .x) ld ring b))
@@ -168,19 +165,13 @@ module _ {l : Lane} (s : StepArgs) (k : Steps l s) where
 
   lead-step-sound : (ring : List Float) (ook fsk : List ℕ) → Sound (stampOf (l .serial + 1) (leadStep l s ring ook fsk .0 .lane))
   unfolding leadStep replayStep fillOf leadAddOf
-  lead-step-sound ring ook fsk = go (ltb (ld .«lead_n») (leadLenOf (l .settings .«min_steps»))) refl
-    where
-      h : Kept l
-      h = k .was .kept
-
-      ld : Lead
-      ld = leadAddOf (l .lead) (s .envelope) (s .x)
-
-      go : (b : Bool) → ltb (ld .«lead_n») (leadLenOf (l .settings .«min_steps»)) ≡ b → Sound (stampOf (l .serial + 1) (cond b (fillOf l s ld ring, ook, fsk) (replayStep l s ld ring ook fsk) .0 .lane))
-      go true n =
-          counts 1 ld ring (clearedOf (l .burst))
-          (record { had = h .had; domain = h .domain; held = cleared-within (h .held); going = λ e. absurd (omega arith); named = omega arith; filled = λ e. ltb-true (ld .«lead_n») (leadLenOf (l .settings .«min_steps»)) n; from = h .from; near = k .index-most })
-      go false n = settled-sound ld ring _ (lead-within (l .settings) (s .noise) ring ld (clearedOf (l .burst)) ook fsk (settings-tell (l .settings) (h .domain)) (cleared-within (h .held))) (h .from)
+  lead-step-sound ring ook fsk =
+      let h : Kept l = k .was .kept in
+      let ld : Lead = leadAddOf (l .lead) (s .envelope) (s .x) in
+      by-test (λ (r : Answer × List ℕ × List ℕ). Sound (stampOf (l .serial + 1) (r .0 .lane))) (ltb (ld .«lead_n») (leadLenOf (l .settings .«min_steps»)))
+      (λ n. counts 1 ld ring (clearedOf (l .burst))
+      (record { had = h .had; domain = h .domain; held = cleared-within (h .held); going = λ e. absurd (omega arith); named = omega arith; filled = λ e. ltb-true _ _ n; from = h .from; near = k .index-most }))
+      (λ n. settled-sound ld ring _ (lead-within (l .settings) (s .noise) ring ld (clearedOf (l .burst)) ook fsk (settings-tell (l .settings) (h .domain)) (cleared-within (h .held))) (h .from))
 
   burst-step-sound : (ring : List Float) (ook fsk : List ℕ) → l .phase ≡ 2 → Sound (stampOf (l .serial + 1) (burstStep l s ring ook fsk .0 .lane))
   unfolding burstStep
@@ -191,14 +182,10 @@ module _ {l : Lane} (s : StepArgs) (k : Steps l s) where
 
   advance-sound : (ook fsk : List ℕ) → Sound (stampOf (l .serial + 1) (advanceOf l s ook fsk .0 .lane))
   unfolding advanceOf
-  advance-sound ook fsk = go (eqb (l .phase) 1) refl
-    where
-      ring : List Float
-      ring = ringOf (l .ring) (s .index) (s .envelope)
-
-      go : (b : Bool) → eqb (l .phase) 1 ≡ b → Sound (stampOf (l .serial + 1) (cond b (leadStep l s ring ook fsk) (burstStep l s ring ook fsk) .0 .lane))
-      go true q = lead-step-sound ring ook fsk
-      go false q = burst-step-sound ring ook fsk (omega (arith, k .was .kept .named, k .under-way, eqb-false (l .phase) 1 q))
+  advance-sound ook fsk =
+      by-test (λ (r : Answer × List ℕ × List ℕ). Sound (stampOf (l .serial + 1) (r .0 .lane))) (eqb (l .phase) 1)
+      (λ q. lead-step-sound _ ook fsk)
+      (λ q. burst-step-sound _ ook fsk (omega (arith, k .was .kept .named, k .under-way, eqb-false (l .phase) 1 q)))
 
 pub step-passes : (l : Lane) (s : StepArgs) (m n : ℕ) → stepRefusal l s m n ≡ 0
     → AllPassed true (laneOk l) (not (eqb (l .phase) 0)) true (indexOk (s .index) && followsOf (l .last) (s .index)) (stepFloatsOk s) (roomOk (l .settings) m n)
@@ -219,11 +206,10 @@ accepted-sound {l} s ook fsk e (within h) =
 
 pub step-sound : {l : Lane} (s : StepArgs) (ook fsk : List ℕ) → Sound l → Sound (stepped l s ook fsk .0 .lane)
 unfolding stepped
-step-sound {l} s ook fsk h = go (eqb (stepRefusal l s (length ook) (length fsk)) 0) refl
-  where
-    go : (c : Bool) → eqb (stepRefusal l s (length ook) (length fsk)) 0 ≡ c → Sound (cond c (stampedWith l (advanceOf l s ook fsk)) (refuse (stepRefusal l s (length ook) (length fsk)) l, ook, fsk) .0 .lane)
-    go true q = accepted-sound s ook fsk (eqb-true (stepRefusal l s (length ook) (length fsk)) 0 q) h
-    go false q = h
+step-sound {l} s ook fsk h =
+    by-test (λ (r : Answer × List ℕ × List ℕ). Sound (r .0 .lane)) (eqb (stepRefusal l s (length ook) (length fsk)) 0)
+    (λ q. accepted-sound s ook fsk (eqb-true _ 0 q) h)
+    (λ q. h)
 
 -- close
 pub close-passes : (l : Lane) (m n : ℕ) → closeRefusal l m n ≡ 0 → AllPassed true (laneOk l) (not (eqb (l .phase) 0)) true true true (roomOk (l .settings) m n)
@@ -251,11 +237,10 @@ closes-sound {l} ook fsk e (within w) =
 
 pub close-sound : {l : Lane} (ook fsk : List ℕ) → Sound l → Sound (closed l ook fsk .0 .lane)
 unfolding closed
-close-sound {l} ook fsk h = go (eqb (closeRefusal l (length ook) (length fsk)) 0) refl
-  where
-    go : (c : Bool) → eqb (closeRefusal l (length ook) (length fsk)) 0 ≡ c → Sound (cond c (stampedWith l (closeOf l ook fsk)) (refuse (closeRefusal l (length ook) (length fsk)) l, ook, fsk) .0 .lane)
-    go true q = closes-sound ook fsk (eqb-true (closeRefusal l (length ook) (length fsk)) 0 q) h
-    go false q = h
+close-sound {l} ook fsk h =
+    by-test (λ (r : Answer × List ℕ × List ℕ). Sound (r .0 .lane)) (eqb (closeRefusal l (length ook) (length fsk)) 0)
+    (λ q. closes-sound ook fsk (eqb-true _ 0 q) h)
+    (λ q. h)
 
 -- the records of a sound lane have its serial
 pub own-records : {l : Lane} → Sound l → stampOf (l .serial) l ≡ l

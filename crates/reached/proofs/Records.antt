@@ -1,6 +1,5 @@
 -- The records of an accepted call, whatever the lane value: an opening and a begin leave none, and each that a step or a close leaves has at most
 -- max_pulses pairs. So the slots that belong to a record are at most 2 * max_pulses, which the domain ends at maxSlots.
--- A refused call answers 3 (`replyNumberOf`) and prints no record.
 use Prim.Native.Nat.{ℕ, _+_, _*_, _≤_}
 use mathlib.Core.Bool.{Bool, true, false, cond, _&&_}
 use mathlib.Core.Path.{_≡_, refl}
@@ -14,7 +13,7 @@ use borrow.Author.Tests.{leb-true, eqb-true, not-true}
 use Rattle.domain.specs.Limits.{maxSlots, maxCount, maxBound}
 use Rattle.arith.specs.Leaves.{leadLenOf}
 use Rattle.types.proofs.Tests.{both-true, six-true}
-use Rattle.types.proofs.Cases.{either}
+use Rattle.types.proofs.Cases.{either, by-test}
 use Rattle.ook.specs.Limits.{EnvWithin, TrainWithin}
 use Rattle.ook.specs.declared.Env.{Env}
 use Rattle.ook.specs.declared.Train.{Train}
@@ -25,7 +24,7 @@ use Rattle.fsk.specs.declared.Frame.{Frame}
 use Rattle.burst.specs.declared.Burst.{Burst}
 use Rattle.burst.specs.declared.Lead.{Lead}
 use Rattle.burst.specs.Lead.{leadAddOf, largestOf, beginBurstOf, staying, replayOf, leadFullOf}
-use Rattle.reached.specs.Burst.{Paired, BurstFits}
+use Rattle.reached.specs.Limits.{Paired, BurstFits}
 use Rattle.reached.proofs.Pairs.{SampledFits, sample-fits, replay-fits, begin-burst-fits}
 use Rattle.refusals.proofs.Domain.{InDomain, settings-tell}
 use Rattle.refusals.specs.State.{flag, envOk, trainOk, runsOk, committedOk, outOk, presOk, frameOk, burstOk}
@@ -40,9 +39,9 @@ use Rattle.lane.proofs.Refusals.{opened-tells, lane-passes}
 use Rattle.lane.specs.Idle.{noBurst, idleLane}
 use Rattle.lane.specs.Begin.{ringOf, clearedOf, leadLane}
 use Rattle.lane.specs.Advance.{settleOf, fillOf, replayStep, leadStep, atOf, burstStep, advanceOf}
-use Rattle.lane.specs.Serial.{stampOf, stamped, stampedWith}
+use Rattle.lane.specs.Serial.{stampOf}
 use Rattle.lane.specs.Close.{idleWith, closeOf}
-use Rattle.lane.specs.Step.{refuse, stay, opened, begun, stepped, closed}
+use Rattle.lane.specs.Step.{refuse, opened, begun, stepped, closed}
 use Rattle.lane.specs.Part.{front, namedOf, partRefusal, partOf}
 use Rattle.reached.proofs.Reached.{step-passes, close-passes}
 
@@ -150,23 +149,23 @@ pub record NoRecords (b : Burst) : Type 0 where
   pub ook-none : b .«out_ook» .pairs ≡ 0
   pub fsk-none : b .«out_fsk» .pairs ≡ 0
 
-pub records-fit-step : (l : Lane) (s : StepArgs) (ook fsk : List ℕ) → stepRefusal l s (length ook) (length fsk) ≡ 0 → RecordsFit (l .settings .«max_pulses») (stepped l s ook fsk .0 .lane .burst)
+records-fit-step : (l : Lane) (s : StepArgs) (ook fsk : List ℕ) → stepRefusal l s (length ook) (length fsk) ≡ 0 → RecordsFit (l .settings .«max_pulses») (stepped l s ook fsk .0 .lane .burst)
 unfolding stepped stampOf
 records-fit-step l s ook fsk e =
     let f : AnswerFits (l .settings .«max_pulses») (advanceOf l s ook fsk) = advance-fits l s (ready l s (length ook) (length fsk) e) ook fsk in
     rw e (record { ook-pairs = f .ook-within .room; fsk-pairs = f .fsk-within .room })
 
-pub records-fit-close : (l : Lane) (ook fsk : List ℕ) → closeRefusal l (length ook) (length fsk) ≡ 0 → RecordsFit (l .settings .«max_pulses») (closed l ook fsk .0 .lane .burst)
+records-fit-close : (l : Lane) (ook fsk : List ℕ) → closeRefusal l (length ook) (length fsk) ≡ 0 → RecordsFit (l .settings .«max_pulses») (closed l ook fsk .0 .lane .burst)
 unfolding closed stampOf
 records-fit-close l ook fsk e =
     let f : AnswerFits (l .settings .«max_pulses») (closeOf l ook fsk) = close-fits l (ready-close l (length ook) (length fsk) e) ook fsk in
     rw e (record { ook-pairs = f .ook-within .room; fsk-pairs = f .fsk-within .room })
 
-pub records-none-begin : (l : Lane) (b : BeginArgs) (ook fsk : List ℕ) → beginRefusal l b (length ook) (length fsk) ≡ 0 → NoRecords (begun l b ook fsk .lane .burst)
+records-none-begin : (l : Lane) (b : BeginArgs) (ook fsk : List ℕ) → beginRefusal l b (length ook) (length fsk) ≡ 0 → NoRecords (begun l b ook fsk .lane .burst)
 unfolding begun leadLane clearedOf stampOf
 records-none-begin l b ook fsk e = rw e (record { ook-none = refl; fsk-none = refl })
 
-pub records-none-open : (l : Lane) (p : Settings) → openRefusal l p ≡ 0 → NoRecords (opened l p .lane .burst)
+records-none-open : (l : Lane) (p : Settings) → openRefusal l p ≡ 0 → NoRecords (opened l p .lane .burst)
 unfolding opened idleLane noBurst stampOf
 records-none-open l p e = rw e (record { ook-none = refl; fsk-none = refl })
 
@@ -210,7 +209,7 @@ pub parts-fit-open : (l : Lane) (p : Settings) → openRefusal l p ≡ 0 → (mo
 parts-fit-open l p e most = none-most most (opened l p .lane) (records-none-open l p e)
 
 -- an accepted step has settings of the domain
-pub domain-step : (l : Lane) (s : StepArgs) (m n : ℕ) → stepRefusal l s m n ≡ 0 → InDomain (l .settings)
+domain-step : (l : Lane) (s : StepArgs) (m n : ℕ) → stepRefusal l s m n ≡ 0 → InDomain (l .settings)
 domain-step l s m n e = ready l s m n e .domain
 
 pub slots-close : (l : Lane) (m n : ℕ) → closeRefusal l m n ≡ 0 → 2 * l .settings .«max_pulses» ≤ maxSlots
@@ -219,35 +218,30 @@ slots-close l m n e = omega (arith, ready-close l m n e .domain .max-pulses .1)
 pub slots-step : (l : Lane) (s : StepArgs) (m n : ℕ) → stepRefusal l s m n ≡ 0 → 2 * l .settings .«max_pulses» ≤ maxSlots
 slots-step l s m n e = omega (arith, domain-step l s m n e .max-pulses .1)
 
--- a call that does not answer 3 is accepted
-pub answered-step : (l : Lane) (s : StepArgs) (ook fsk : List ℕ) → (replyNumberOf (stepped l s ook fsk .0 .reply) ≡ 3 → ⊥) → stepRefusal l s (length ook) (length fsk) ≡ 0
-unfolding stepped
-answered-step l s ook fsk = go (stepRefusal l s (length ook) (length fsk)) (eqb (stepRefusal l s (length ook) (length fsk)) 0) refl
-  where
-    go : (k : ℕ) (b : Bool) → eqb k 0 ≡ b → (replyNumberOf (cond b (stampedWith l (advanceOf l s ook fsk)) (refuse k l, ook, fsk) .0 .reply) ≡ 3 → ⊥) → k ≡ 0
-    go k true q h = eqb-true k 0 q
-    go k false q h = absurd (h refl)
+-- ---- a call that does not answer 3 is accepted
 
-pub answered-close : (l : Lane) (ook fsk : List ℕ) → (replyNumberOf (closed l ook fsk .0 .reply) ≡ 3 → ⊥) → closeRefusal l (length ook) (length fsk) ≡ 0
-unfolding closed
-answered-close l ook fsk = go (closeRefusal l (length ook) (length fsk)) (eqb (closeRefusal l (length ook) (length fsk)) 0) refl
-  where
-    go : (k : ℕ) (b : Bool) → eqb k 0 ≡ b → (replyNumberOf (cond b (stampedWith l (closeOf l ook fsk)) (refuse k l, ook, fsk) .0 .reply) ≡ 3 → ⊥) → k ≡ 0
-    go k true q h = eqb-true k 0 q
-    go k false q h = absurd (h refl)
+abbrev Accepts : ℕ → Answer → Type 0
+Accepts k a = (replyNumberOf (a .reply) ≡ 3 → ⊥) → k ≡ 0
 
-pub answered-begin : (l : Lane) (b : BeginArgs) (ook fsk : List ℕ) → (replyNumberOf (begun l b ook fsk .reply) ≡ 3 → ⊥) → beginRefusal l b (length ook) (length fsk) ≡ 0
-unfolding begun
-answered-begin l b ook fsk = go (beginRefusal l b (length ook) (length fsk)) (eqb (beginRefusal l b (length ook) (length fsk)) 0) refl
-  where
-    go : (k : ℕ) (c : Bool) → eqb k 0 ≡ c → (replyNumberOf (cond c (stamped l (stay (leadLane l b))) (refuse k l) .reply) ≡ 3 → ⊥) → k ≡ 0
-    go k true q h = eqb-true k 0 q
-    go k false q h = absurd (h refl)
+-- k is the number of the first check that fails
+not-three : (k : ℕ) (l : Lane) (a : Answer) → Accepts k (cond (eqb k 0) a (refuse k l))
+not-three k l a = by-test (Accepts k) (eqb k 0) (λ q h. eqb-true k 0 q) (λ q h. absurd (h refl))
 
-pub answered-open : (l : Lane) (p : Settings) → (replyNumberOf (opened l p .reply) ≡ 3 → ⊥) → openRefusal l p ≡ 0
+not-three-with : (k : ℕ) (l : Lane) (a : Answer × List ℕ × List ℕ) (ook fsk : List ℕ) → Accepts k (cond (eqb k 0) a (refuse k l, ook, fsk) .0)
+not-three-with k l a ook fsk = by-test (λ (r : Answer × List ℕ × List ℕ). Accepts k (r .0)) (eqb k 0) (λ q h. eqb-true k 0 q) (λ q h. absurd (h refl))
+
+pub answered-open : (l : Lane) (p : Settings) → Accepts (openRefusal l p) (opened l p)
 unfolding opened
-answered-open l p = go (openRefusal l p) (eqb (openRefusal l p) 0) refl
-  where
-    go : (k : ℕ) (b : Bool) → eqb k 0 ≡ b → (replyNumberOf (cond b (stamped l (stay (idleLane 1 p))) (refuse k l) .reply) ≡ 3 → ⊥) → k ≡ 0
-    go k true q h = eqb-true k 0 q
-    go k false q h = absurd (h refl)
+answered-open l p = not-three _ l _
+
+pub answered-begin : (l : Lane) (b : BeginArgs) (ook fsk : List ℕ) → Accepts (beginRefusal l b (length ook) (length fsk)) (begun l b ook fsk)
+unfolding begun
+answered-begin l b ook fsk = not-three _ l _
+
+pub answered-step : (l : Lane) (s : StepArgs) (ook fsk : List ℕ) → Accepts (stepRefusal l s (length ook) (length fsk)) (stepped l s ook fsk .0)
+unfolding stepped
+answered-step l s ook fsk = not-three-with _ l _ ook fsk
+
+pub answered-close : (l : Lane) (ook fsk : List ℕ) → Accepts (closeRefusal l (length ook) (length fsk)) (closed l ook fsk .0)
+unfolding closed
+answered-close l ook fsk = not-three-with _ l _ ook fsk

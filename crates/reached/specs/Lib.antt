@@ -1,7 +1,4 @@
--- Calls keep every lane within refusal 4's limits, and the records that they leave have at most max_pulses pairs.
-pub mod Fsk
-pub mod Frame
-pub mod Presence
-pub mod Burst
+-- Calls keep every lane within refusal 4's limits, and count the accepted ones of their list.
+pub mod Limits
 pub mod Reached
 pub mod Serials

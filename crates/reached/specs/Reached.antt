@@ -7,7 +7,7 @@ use Rattle.domain.specs.Limits.{maxIndex, spentSerial}
 use Rattle.arith.specs.Leaves.{leadLenOf}
 use Rattle.types.specs.declared.Settings.{Settings}
 use Rattle.refusals.specs.Domain.{settingsOk}
-use Rattle.reached.specs.Burst.{BurstWithin, Runs}
+use Rattle.reached.specs.Limits.{BurstWithin, UnderWay}
 use Rattle.lane.specs.declared.BeginArgs.{BeginArgs}
 use Rattle.lane.specs.declared.StepArgs.{StepArgs}
 use Rattle.lane.specs.declared.Lane.{Lane}
@@ -26,7 +26,7 @@ pub record Kept (l : Lane) : Type 0 where
   pub had : l .opened ≡ 1
   pub domain : settingsOk (l .settings) ≡ true
   pub held : BurstWithin (l .settings) (l .burst)
-  pub going : l .phase ≡ 2 → Runs (l .settings) (l .burst)
+  pub going : l .phase ≡ 2 → UnderWay (l .settings) (l .burst)
   pub named : l .phase ≤ 2
   pub filled : l .phase ≡ 1 → l .lead .«lead_n» < leadLenOf (l .settings .«min_steps»)
   pub from : l .lead .«lead_at» ≤ maxIndex

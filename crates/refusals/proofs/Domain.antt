@@ -1,4 +1,4 @@
--- Laws of the definitions in specs/Domain.
+-- Settings that pass are in the domain: each range with both its ends.
 use Prim.Native.Nat.{ℕ, _≤_}
 use mathlib.Core.Bool.{Bool, true, _&&_}
 use mathlib.Core.Path.{_≡_}

@@ -1,4 +1,4 @@
--- Laws of the definitions in specs/Order.
+-- Where the first check that fails has no number, every check passed.
 use Prim.Native.Nat.{ℕ, _<_}
 use mathlib.Core.Bool.{Bool, true, false}
 use mathlib.Core.Path.{_≡_, refl}

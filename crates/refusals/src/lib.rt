@@ -13,10 +13,10 @@ use fsk::Committed;
 use fsk::Frame;
 use fsk::Runs;
 use ook::Env;
-use types::Out;
-use types::Settings;
 use ook::Train;
 use presence::Pres;
+use types::Out;
+use types::Settings;
 
 fn within_range(lo: u32, hi: u32, n: u32) -> bool
     ensures { λ r. ⌜ r ≡ within lo hi n ⌝ }

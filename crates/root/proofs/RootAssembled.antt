@@ -1,4 +1,4 @@
--- The pattern that `round_exact` puts together, for each way the digits are rounded. Assumes nothing.
+-- The pattern that `round_exact` puts together, for each way the digits are rounded.
 use mathlib.Core.Path.{_≡_, refl, sym, ap, _∙_}
 use mathlib.Core.Logic.{inr}
 use mathlib.Core.Bool.{Bool, true, false}

@@ -1,4 +1,4 @@
--- An operand v = a * 2 ^ k, for an a of at most 24 binary digits, brought by a power of 4 to 2 ^ 48 or more and below 2 ^ 50: nothing is lost. Assumes nothing.
+-- An operand v = a * 2 ^ k, for an a of at most 24 binary digits, brought by a power of 4 to 2 ^ 48 or more and below 2 ^ 50: nothing is lost.
 use mathlib.Core.Path.{_≡_, refl, sym, ap, _∙_, subst}
 use mathlib.Core.Logic.{_⊎_, inl, inr}
 use Prim.Native.Nat.{ℕ, zero, suc, _+_, _-_, _*_, _/_, _%_, _^_, _≤_, _<_}

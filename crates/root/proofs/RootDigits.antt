@@ -1,5 +1,5 @@
 -- The 24 digits that are kept: from the root r of n, an even n from 2 ^ 48 to 2 ^ 50 - 2 ^ 26, the number q with (2q - 1)² < n < (2q + 1)². So the root of n, which is twice
--- that of n / 4, is never half way between two whole numbers of half its size: there is no tie. Assumes nothing.
+-- that of n / 4, is never half way between two whole numbers of half its size: there is no tie.
 use mathlib.Core.Path.{_≡_, refl, ap, _∙_, subst}
 use mathlib.Core.Bool.{Bool, true, false, not}
 use Prim.Native.Nat.{ℕ, zero, suc, _+_, _-_, _*_, _/_, _%_, _^_, _≤_, _<_}

@@ -1,5 +1,5 @@
 -- The second step of the root (`exact-result`): every f32 that is finite and above zero, a subnormal too, is brought by one power of 4, and by no other, to 2 ^ 48 or more and below 2 ^ 50;
--- and the root of what it is brought to is the largest whole number whose square is at most that. Assumes nothing.
+-- and the root of what it is brought to is the largest whole number whose square is at most that.
 use mathlib.Core.Path.{_≡_, refl, sym, ap, _∙_, subst}
 use mathlib.Core.Logic.{⊎-elim}
 use mathlib.Core.Bool.{false}

@@ -1,4 +1,4 @@
--- From the table's 8 digits, which are within 2 ^ 17 of the root, one step of Newton's comes within 2 ^ 9 above it, and a second one to the root or the next number (`RootNewton.antt`). Assumes nothing.
+-- From the table's 8 digits, which are within 2 ^ 17 of the root, one step of Newton's comes within 2 ^ 9 above it, and a second one to the root or the next number (`RootNewton.antt`).
 use mathlib.Core.Path.{_≡_, refl, sym, ap, _∙_, subst}
 use Prim.Native.Nat.{ℕ, _+_, _-_, _*_, _/_, _^_, _≤_, _<_}
 use native.Mathlib.Nat.{le-trans, add-assoc, mul-comm, mul-add, add-mul, two-mul, mul-one, one-mul, mul-assoc, mul-le-mul, mul-mul-mul-comm, div-div-eq-div-mul}

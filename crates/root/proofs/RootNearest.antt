@@ -1,4 +1,4 @@
--- The root of a positive f32 is the nearest f32 to the exact root, and there is never a tie (`nearest-root`). Assumes nothing.
+-- The root of a positive f32 is the nearest f32 to the exact root, and there is never a tie (`nearest-root`).
 use mathlib.Core.Path.{_≡_, sym, ap, _∙_, subst}
 use mathlib.Core.Logic.{⊎-elim}
 use mathlib.Core.Bool.{false}

@@ -1,4 +1,4 @@
--- Newton's step from g, (g + n / g) / 2: it is never below the root of n, and it is near the root where g is, by the square of g's distance over 2 g. Assumes nothing.
+-- Newton's step from g, (g + n / g) / 2: it is never below the root of n, and it is near the root where g is, by the square of g's distance over 2 g.
 use mathlib.Core.Path.{_≡_, refl, sym, ap, _∙_, subst}
 use Prim.Native.Nat.{ℕ, suc, _+_, _-_, _*_, _/_, _≤_, _<_}
 use native.Mathlib.Nat.{le-of-lt, le-dest, lt-of-not-le, lt-suc-self, add-assoc, add-comm, add-left-comm, mul-comm, mul-add, add-mul, two-mul, mul-assoc, mul-le-mul, mul-le-mul-right, div-lt-iff-lt-mul}

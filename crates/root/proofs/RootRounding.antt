@@ -1,4 +1,4 @@
--- The third step of the root (`rounding-step`): from 25 digits, whether there is more, and a power of two, what every operation of the format would round to. Assumes nothing.
+-- The third step of the root (`rounding-step`): from 25 digits, whether there is more, and a power of two, what every operation of the format would round to.
 use mathlib.Core.Path.{_≡_, refl, sym, ap, _∙_}
 use mathlib.Core.Bool.{Bool, true, false}
 use Prim.Native.Nat.{ℕ, zero, suc, _+_, _-_, _*_, _/_, _%_, _^_, _≤_, _<_, compare}

@@ -1,5 +1,5 @@
 -- Of the numbers a * 2 ^ j with a below 2 ^ 24, q * 2 ^ k is the nearest to the root of n * 4 ^ k, where q is the number kept of n (`Kept`): the root lies on its side of the middle
--- between it and any other. The middle is half their sum, and a number is compared with the root by its square. Assumes nothing.
+-- between it and any other. The middle is half their sum, and a number is compared with the root by its square.
 use mathlib.Core.Path.{_≡_, sym, ap, _∙_, subst}
 use mathlib.Core.Logic.{_⊎_, inl, inr}
 use Prim.Native.Nat.{ℕ, suc, _+_, _-_, _*_, _^_, _≤_, _<_}

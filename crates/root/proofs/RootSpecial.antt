@@ -1,4 +1,4 @@
--- Special operands: zeros, plus infinity, NaN and negatives. The first step of the root answers these and no others (`special-step`). Assumes nothing.
+-- Special operands: zeros, plus infinity, NaN and negatives. The first step of the root answers these and no others (`special-step`).
 use mathlib.Core.Path.{_≡_, refl, sym, ap, _∙_, subst}
 use mathlib.Core.Logic.{⊎-elim}
 use mathlib.Core.Bool.{Bool, true, false, _&&_, _||_, Bool·beq, cond}

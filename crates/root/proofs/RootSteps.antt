@@ -1,4 +1,4 @@
--- What the functions of the square root need of one another, from the files beside this one. Assumes nothing.
+-- What the functions of the square root need of one another, from the files beside this one.
 use mathlib.Core.Path.{_≡_, refl, sym, ap, _∙_, subst}
 use mathlib.Core.Bool.{false, true, not}
 use Prim.Native.Nat.{ℕ, suc, _+_, _-_, _*_, _/_, _%_, _^_, _≤_, _<_}

@@ -1,4 +1,4 @@
--- The operand of the second step, from its value alone. Assumes nothing.
+-- The operand of the second step, from its value alone.
 use mathlib.Core.Path.{_≡_, sym, ap, _∙_, subst}
 use mathlib.Core.Bool.{Bool}
 use Prim.Native.Nat.{ℕ, suc, _*_, _/_, _^_, _<_}

@@ -1,4 +1,4 @@
--- `wholeRoot` is the largest whole number whose square is at most n. There is one such number (`root-unique`, of the table's laws). Assumes nothing.
+-- `wholeRoot` is the largest whole number whose square is at most n. There is one such number (`root-unique`, of the table's laws).
 use mathlib.Core.Path.{_≡_}
 use mathlib.Core.Bool.{Bool, true, false, not, cond}
 use Prim.Native.Nat.{ℕ, zero, suc, _+_, _*_, _/_, _^_, _≤_, _<_}

@@ -1,4 +1,4 @@
--- Laws of the definitions in specs/Slots.
+-- One edge more is one slot more: the width from the last edge and its boundary on. And what stands at the head of a buffer while slots are written after it.
 use mathlib.Core.Path.{_≡_, refl, sym, ap, _∙_}
 use mathlib.Core.List.{List, [], _∷_, _++_, append-assoc}
 use Prim.Native.Nat.{ℕ, suc, _+_, _<_}
@@ -7,7 +7,17 @@ use lib.ListN.{length, length-append, set, take}
 use lib.Ieee.{Float}
 use Rattle.arith.specs.declared.Carried.{Carried}
 use Rattle.arith.specs.Carry.{widthBy}
-use Rattle.slots.specs.Slots.{slotsFrom, boundFrom, lastOr}
+use Rattle.slots.specs.Slots.{slotsFrom}
+
+-- ---- one edge more
+-- the boundary and the edge that the next width starts from
+unfoldable pub boundFrom : ℕ → Float → ℕ → Float → List Float → ℕ
+boundFrom carry origin before a [] = before
+boundFrom carry origin before a (b ∷ es) = boundFrom carry origin (widthBy carry origin before a b .bound) b es
+
+unfoldable pub lastOr : Float → List Float → Float
+lastOr a [] = a
+lastOr a (b ∷ es) = lastOr b es
 
 pub last-snoc : (a : Float) (es : List Float) (e : Float) → lastOr a (es ++ (e ∷ [])) ≡ e
 unfolding lastOr
@@ -24,16 +34,15 @@ module _ (carry : ℕ) (origin : Float) where
   bound-snoc before a [] e = refl
   bound-snoc before a (b ∷ es) e = bound-snoc (widthBy carry origin before a b .bound) b es e
 
-  pub slots-snoc : (before : ℕ) (a : Float) (es : List Float) (e : Float) → slotsFrom carry origin before a (es ++ (e ∷ [])) ≡ slotsFrom carry origin before a es ++ (nextOf before a es e .width .0 ∷ [])
-  unfolding slotsFrom boundFrom lastOr
-  slots-snoc before a [] e = refl
-  slots-snoc before a (b ∷ es) e = ap {B = List ℕ} (λ l. widthBy carry origin before a b .width .0 ∷ l) (slots-snoc (widthBy carry origin before a b .bound) b es e)
-
   pub slots-append : (before : ℕ) (a : Float) (es fs : List Float)
       → slotsFrom carry origin before a (es ++ fs) ≡ slotsFrom carry origin before a es ++ slotsFrom carry origin (boundFrom carry origin before a es) (lastOr a es) fs
   unfolding slotsFrom boundFrom lastOr
   slots-append before a [] fs = refl
   slots-append before a (b ∷ es) fs = ap {B = List ℕ} (λ l. widthBy carry origin before a b .width .0 ∷ l) (slots-append (widthBy carry origin before a b .bound) b es fs)
+
+  pub slots-snoc : (before : ℕ) (a : Float) (es : List Float) (e : Float) → slotsFrom carry origin before a (es ++ (e ∷ [])) ≡ slotsFrom carry origin before a es ++ (nextOf before a es e .width .0 ∷ [])
+  unfolding slotsFrom
+  slots-snoc before a es e = slots-append before a es (e ∷ [])
 
   pub slots-length : (before : ℕ) (a : Float) (es : List Float) → length (slotsFrom carry origin before a es) ≡ length es
   unfolding slotsFrom
@@ -45,7 +54,7 @@ pub record Heads (xs ook : List ℕ) : Type 0 where
   pub rest : List ℕ
   pub split : ook ≡ xs ++ rest
 
-pub set-past : (xs ys : List ℕ) (v : ℕ) → set (xs ++ ys) (length xs) v ≡ xs ++ set ys 0 v
+set-past : (xs ys : List ℕ) (v : ℕ) → set (xs ++ ys) (length xs) v ≡ xs ++ set ys 0 v
 set-past [] ys v = refl
 set-past (x ∷ xs) ys v = ap {B = List ℕ} (λ l. x ∷ l) (set-past xs ys v)
 

@@ -1,4 +1,4 @@
--- Laws of the definitions in specs/Sum.
+-- Where no width is stopped, each is the difference of two neighbouring rounded boundaries: their sum telescopes.
 use mathlib.Core.Path.{_≡_, ap}
 use mathlib.Core.List.{List, [], _∷_}
 use Prim.Native.Nat.{ℕ, _+_, _-_, _≤_}
@@ -10,16 +10,8 @@ use Rattle.arith.proofs.OwnEdge.{own-edge}
 use Rattle.slots.specs.Slots.{slotsFrom, slotsOf}
 use Rattle.slots.specs.Sum.{sum, lastBound, Unstopped}
 
-pub rounded-later : (origin : Float) (before : ℕ) (es : List Float) → roundedOf before ≤ roundedOf (lastBound origin before es)
-unfolding lastBound
-rounded-later origin before [] = omega arith
-rounded-later origin before (e ∷ es) =
-    let a : roundedOf before ≤ roundedOf (boundOf origin before e) = rounded-rises before (boundOf origin before e) (bound-rises origin before e) in
-    let b : roundedOf (boundOf origin before e) ≤ roundedOf (lastBound origin (boundOf origin before e) es) = rounded-later origin (boundOf origin before e) es in
-    omega (arith, a, b)
-
 -- from any edge on
-pub sum-from : (origin : Float) (before : ℕ) (a : Float) (es : List Float) → Unstopped origin before es → roundedOf before + sum (slotsFrom 1 origin before a es) ≡ roundedOf (lastBound origin before es)
+sum-from : (origin : Float) (before : ℕ) (a : Float) (es : List Float) → Unstopped origin before es → roundedOf before + sum (slotsFrom 1 origin before a es) ≡ roundedOf (lastBound origin before es)
 unfolding slotsFrom lastBound Unstopped sum widthBy carriedAt
 sum-from origin before a [] U = omega arith
 sum-from origin before a (e ∷ es) U =

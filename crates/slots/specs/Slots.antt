@@ -18,13 +18,3 @@ unfoldable pub slotsOf : ℕ → List Float → List ℕ
 unfolding slotsFrom
 slotsOf carry [] = []
 slotsOf carry (a ∷ es) = slotsFrom carry a 0 a es
-
--- ---- one edge more
--- the boundary and the edge that the next width starts from
-unfoldable pub boundFrom : ℕ → Float → ℕ → Float → List Float → ℕ
-boundFrom carry origin before a [] = before
-boundFrom carry origin before a (b ∷ es) = boundFrom carry origin (widthBy carry origin before a b .bound) b es
-
-unfoldable pub lastOr : Float → List Float → Float
-lastOr a [] = a
-lastOr a (b ∷ es) = lastOr b es

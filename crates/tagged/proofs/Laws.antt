@@ -1,4 +1,4 @@
--- A line of the listing has a byte, so with its tag it is the number, a blank and the line. Assumes nothing.
+-- A line of the listing has a byte, so with its tag it is the number, a blank and the line.
 use Prim.Native.Nat.{ℕ, _<_}
 use mathlib.Core.Bool.{Bool, true, false, cond}
 use mathlib.Core.Path.{_≡_, refl, ap, sym, _∙_}

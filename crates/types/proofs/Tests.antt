@@ -1,6 +1,12 @@
 -- The parts of a test that holds.
 use mathlib.Core.Bool.{Bool, true, false, _&&_, _||_}
 use mathlib.Core.Path.{_≡_, refl}
+use Prim.Native.Nat.{ℕ}
+use native.Mathlib.Omega.{arith}
+
+-- a test that holds and does not
+pub clash : {A : Type 0} → true ≡ false → A
+clash q = absurd (let y : _≡_ {A = ℕ} 0 1 = cc in omega arith)
 
 pub both-true : (a b : Bool) → (a && b) ≡ true → (a ≡ true) × (b ≡ true)
 both-true true b h = (refl, h)

@@ -3,3 +3,4 @@ pub mod Counts
 pub mod Answers
 pub mod Params
 pub mod Core
+pub mod Settings

@@ -1,4 +1,4 @@
--- Laws of the definitions in specs/Laws.
+-- A number written is read again, and bytes read are written again; `byte-at` to `float-at` go through bytes place by place.
 use Prim.Native.Nat.{ℕ, _+_, _*_, _/_, _%_, _<_, _≤_}
 use mathlib.Core.Bool.{not}
 use mathlib.Core.Path.{_≡_, refl, sym, _∙_, ap}
@@ -11,8 +11,7 @@ use lib.Dec.{T}
 use lib.Ieee.{Float, binary32, ofBits, toBits, fits, isNan}
 use lib.Ieee.Bits.{ofBits-toBits, toBits-ofBits, toBits-lt}
 use borrow.Author.Tests.{eq-eqb}
-use Rattle.words.specs.Words.{joined, u32At, u64At, f32At, decode, word, word64, float, encode, readOf, writtenOf}
-use Rattle.words.specs.Words.{Word}
+use Rattle.words.specs.Words.{joined, u32At, u64At, f32At, decode, word, word64, float, encode, readOf, writtenOf, Word}
 
 abbrev pub Bytes : List ℕ → Type 0
 Bytes o = (i : ℕ) → getD o i 0 < 256

@@ -1,4 +1,4 @@
--- The loops that read words from bytes and write them there: a turn and the end of each. Assumes nothing.
+-- The loops that read words from bytes and write them there: a turn and the end of each.
 use Prim.Native.Nat.{ℕ, suc, _+_, _*_, _<_, _≤_}
 use mathlib.Core.List.{List, _∷_, _++_, append-assoc, append-nil}
 use mathlib.Core.Path.{_≡_, refl, ap, _∙_}

@@ -147,7 +147,7 @@ passes cs = laneOk (laneOf (changed cs))
 pub data Limit : Type 0 where
   limit : List (Field × ℕ) → Field → ℕ → Limit
 
-abbrev pub around : Limit → Bool × Bool
+abbrev around : Limit → Bool × Bool
 around (limit cs f n) = (passes ((f, n) ∷ cs), passes ((f, n + 1) ∷ cs))
 
 -- the flags with a number below n

@@ -1,4 +1,3 @@
--- `arith::max64` meets its contract: the tests of each return. Assumes nothing.
 use Rattle.ieee.proofs.Nan.{nan-true, nan-false}
 use Rattle.arith.proofs.max64.Statement.{statement}
 use Rattle.arith.proofs.max64.Tie as tie

@@ -1,4 +1,4 @@
--- `arith::to_u32` meets its contract: the wider cast, held to the narrower range (`Ends.antt`). Assumes nothing.
+-- The wider cast, held to the narrower range (`Ends.antt`).
 use Rattle.ieee.proofs.Ends.{to32}
 use native.Mathlib.Omega.{arith}
 use borrow.Author.Needs.{needs}

@@ -6,8 +6,12 @@ use Rattle.calls.proofs.call.Tie as tie
 
 returns : tie.Need-returns
 returns c =
-    c .before .before .before .before .step .ensures
-    ∙ called-step _ _ _ (sym (c .before .before .before .before .before .before .before .before .before .is-step .ensures) ∙ c .before .before .before .before .before .before .before .before .if1 .taken) (c .before .before .before .before .before .before .before .args-of .ensures)
+    let step = c .before .before .before .before in
+    let args-of = step .before .before .before in
+    let test = args-of .before in
+    let is-step = test .before in
+    step .step .ensures
+    ∙ called-step _ _ _ (sym (is-step .is-step .ensures) ∙ test .if1 .taken) (args-of .args-of .ensures)
 
 returns-2 : tie.Need-returns-2
 returns-2 c = c .before .before .call-other .ensures (sym (c .before .before .before .before .before .before .is-step .ensures) ∙ c .before .before .before .before .before .if1 .left)

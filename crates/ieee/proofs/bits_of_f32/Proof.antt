@@ -1,4 +1,3 @@
--- `ieee::bits_of_f32` meets its contract. Assumes nothing.
 use mathlib.Core.Path.{sym, ap, _∙_}
 use borrow.Author.Needs.{needs}
 use lib.Ieee.{binary32, toBits}
@@ -10,6 +9,6 @@ pub bits-of-f32-spec : {M : Type 1} → statement M
 bits-of-f32-spec =
     tie.close
     (tie.spec
-    (λ c. sym (ap (toBits binary32) (is-nan (c .before .args .x) (c .if1 .taken)) ∙ nan-written32))
-    (λ c. no-nan (c .before .args .x) (c .if1 .left))
+    (λ c. no-nan _ (c .if1 .left))
+    (λ c. sym (ap (toBits binary32) (is-nan _ (c .if1 .taken)) ∙ nan-written32))
     (search needs))

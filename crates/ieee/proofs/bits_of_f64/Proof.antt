@@ -1,4 +1,3 @@
--- `ieee::bits_of_f64` meets its contract. Assumes nothing.
 use mathlib.Core.Path.{sym, ap, _∙_}
 use borrow.Author.Needs.{needs}
 use lib.Ieee.{binary64, toBits}
@@ -10,6 +9,6 @@ pub bits-of-f64-spec : {M : Type 1} → statement M
 bits-of-f64-spec =
     tie.close
     (tie.spec
-    (λ c. sym (ap (toBits binary64) (is-nan (c .before .args .x) (c .if1 .taken)) ∙ nan-written64))
-    (λ c. no-nan (c .before .args .x) (c .if1 .left))
+    (λ c. no-nan _ (c .if1 .left))
+    (λ c. sym (ap (toBits binary64) (is-nan _ (c .if1 .taken)) ∙ nan-written64))
     (search needs))

@@ -1,6 +1,7 @@
--- `ieee::f64_of_bits` meets its contract: a NaN's pattern is looked at before it is read as a number. Assumes nothing.
+-- A NaN's pattern is looked at before it is read as a number.
 use mathlib.Core.Path.{sym, _∙_}
 use borrow.Author.Needs.{needs}
+use borrow.Author.Tests.{ltb-true, ltb-false}
 use lib.Ieee.{binary64}
 use Rattle.ieee.proofs.Nan.{nan-read, plain-read, zero-by-zero}
 use Rattle.ieee.proofs.f64_of_bits.Statement.{statement}
@@ -10,6 +11,6 @@ pub f64-of-bits-spec : {M : Type 1} → statement M
 f64-of-bits-spec =
     tie.close
     (tie.spec
-    (λ c. zero-by-zero binary64 ∙ sym (nan-read binary64 (c .before .args .n) (c .if1 .taken)))
-    (λ c. plain-read binary64 (c .before .args .n) (c .if1 .left))
+    (λ c. plain-read binary64 (c .before .args .n) (ltb-false _ _ (c .if1 .left)))
+    (λ c. zero-by-zero binary64 ∙ sym (nan-read binary64 (c .before .args .n) (ltb-true _ _ (c .if1 .taken))))
     (search needs))

@@ -1,23 +1,18 @@
--- `ieee::narrow` meets its contract: the pattern's fields (`Fields.antt`), narrowed below the sign. Assumes nothing.
+-- The pattern's fields (`Fields.antt`), narrowed below the sign.
 use Rattle.ieee.proofs.Fields.{by-fields, top-plain, narrowOf-nan}
-use Rattle.ieee.proofs.Nan.{is-nan, no-nan, zero-by-zero}
+use Rattle.ieee.proofs.Nan.{told, is-nan, no-nan, zero-by-zero}
 use Rattle.ieee.proofs.Values.{plain-bits-plus, plain-bits-minus}
 use Rattle.ieee.specs.Rounding.{narrowOf}
-use lib.Ieee.{binary32, binary64, fits, ofBits, toBits}
+use lib.Ieee.{binary32, binary64, ofBits, toBits}
 use borrow.Author.Tests.{lt-leb, le-leb}
-use lib.Dec.{T}
 use native.Mathlib.Omega.{arith}
 use native.Mathlib.Nat.{zero-add}
 use Prim.Native.Nat.{_^_}
 use mathlib.Core.Bool.{true, false}
-use mathlib.Core.Path.{sym, ap, _∙_, subst}
+use mathlib.Core.Path.{sym, ap, _∙_}
 use borrow.Author.Needs.{needs}
 use Rattle.ieee.proofs.narrow.Statement.{statement}
 use Rattle.ieee.proofs.narrow.Tie as tie
-
--- what owning an `f64` tells: the format holds it
-held : (c : tie.Start) → T (fits binary64 (c .args .x))
-held c = subst T (sym (c .good .0 .1)) tt
 
 returns : tie.Need-returns
 returns c = zero-by-zero binary32 ∙ sym (ap narrowOf (is-nan (c .before .args .x) (c .if1 .taken)) ∙ narrowOf-nan)
@@ -28,7 +23,7 @@ float-to-bits-b c = no-nan (c .before .args .x) (c .if1 .left)
 narrow-fields-requires : tie.Need-narrow-fields-requires
 narrow-fields-requires c κs =
     let s = c .before in
-    (omega arith, omega arith, top-plain (s .args .x) (held s) (no-nan (s .args .x) (c .if1 .left)))
+    (omega arith, omega arith, top-plain (s .args .x) (told (s .good .0 .1)) (no-nan (s .args .x) (c .if1 .left)))
 
 float-from-bits-result : tie.Need-float-from-bits-result
 float-from-bits-result c = plain-bits-plus (c .before .narrow-fields .result) (c .before .narrow-fields .ensures .1)
@@ -42,12 +37,12 @@ returns-2 c =
     let r = c .before .narrow-fields in
     ap (ofBits binary32) (sym (zero-add (r .result)))
     ∙ r .ensures .0 false
-    ∙ ap narrowOf (by-fields (s .args .x) false (held s) (lt-leb (2 ^ 63) (toBits binary64 (s .args .x)) (c .if2 .taken)))
+    ∙ ap narrowOf (by-fields (s .args .x) false (told (s .good .0 .1)) (lt-leb (2 ^ 63) (toBits binary64 (s .args .x)) (c .if2 .taken)))
 
 returns-3 : tie.Need-returns-3
 returns-3 c =
     let s = c .before .before .before in
-    c .before .narrow-fields .ensures .0 true ∙ ap narrowOf (by-fields (s .args .x) true (held s) (le-leb (2 ^ 63) (toBits binary64 (s .args .x)) (c .if2 .left)))
+    c .before .narrow-fields .ensures .0 true ∙ ap narrowOf (by-fields (s .args .x) true (told (s .good .0 .1)) (le-leb (2 ^ 63) (toBits binary64 (s .args .x)) (c .if2 .left)))
 
 pub narrow-spec : {M : Type 1} → statement M
 narrow-spec =

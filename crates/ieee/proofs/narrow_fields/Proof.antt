@@ -1,4 +1,4 @@
--- `ieee::narrow_fields` meets its contract, in the ranges of e that `Narrowing.antt` tells apart. Assumes nothing.
+-- In the ranges of e that `Narrowing.antt` tells apart.
 use lib.Pow.{pow-pos}
 use native.Mathlib.Omega.{arith}
 use Prim.Native.Nat.{ℕ, _+_, _-_, _*_, _^_, _<_, _≤_}

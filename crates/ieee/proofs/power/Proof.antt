@@ -1,4 +1,4 @@
--- `ieee::power` meets its contract: a shift by less than the width loses nothing. Assumes nothing.
+-- A shift by less than the width loses nothing.
 use Rattle.ieee.proofs.Narrowing.{one-shl}
 use borrow.Author.Needs.{needs}
 use Rattle.ieee.proofs.power.Statement.{statement}

@@ -1,21 +1,17 @@
--- `ieee::round` meets its contract: whole already from the field 1075 on, and else the whole number below the sign. Assumes nothing.
+-- Whole already from the field 1075 on, and else the whole number below the sign.
 use Rattle.ieee.proofs.Integral.{roundOf-nan, whole-already, neg-round}
 use Rattle.ieee.proofs.Fields.{by-fields}
-use Rattle.ieee.proofs.Nan.{is-nan, no-nan}
+use Rattle.ieee.proofs.Nan.{told, is-nan, no-nan}
 use Rattle.ieee.specs.Rounding.{roundOf}
-use lib.Ieee.{binary64, fits, toBits, inFloat, ofInt}
+use lib.Ieee.{binary64, toBits, inFloat, ofInt}
 use borrow.Author.Tests.{lt-leb, le-leb}
-use lib.Dec.{T, le→leb}
+use lib.Dec.{le→leb}
 use Prim.Native.Nat.{_^_}
 use mathlib.Core.Bool.{true, false}
-use mathlib.Core.Path.{sym, ap, _∙_, subst}
+use mathlib.Core.Path.{sym, ap, _∙_}
 use borrow.Author.Needs.{needs}
 use Rattle.ieee.proofs.round.Statement.{statement}
 use Rattle.ieee.proofs.round.Tie as tie
-
--- what owning an `f64` tells: the format holds it
-held : (c : tie.Start) → T (fits binary64 (c .args .x))
-held c = subst T (sym (c .good .0 .1)) tt
 
 returns : tie.Need-returns
 returns c =
@@ -28,7 +24,7 @@ float-to-bits-b c = no-nan (c .before .args .x) (c .if1 .left)
 returns-2 : tie.Need-returns-2
 returns-2 c =
     let s = c .before .before in
-    sym (whole-already (s .args .x) (held s) (no-nan (s .args .x) (c .before .if1 .left)) (c .if2 .taken))
+    sym (whole-already (s .args .x) (told (s .good .0 .1)) (no-nan (s .args .x) (c .before .if1 .left)) (c .if2 .taken))
 
 int-to-float-r : tie.Need-int-to-float-r
 unfolding inFloat
@@ -38,7 +34,7 @@ returns-3 : tie.Need-returns-3
 unfolding ofInt
 returns-3 c =
     let s = c .before .before .before .before .before in
-    sym (c .before .before .whole-fields .ensures .0 false) ∙ ap roundOf (by-fields (s .args .x) false (held s) (lt-leb (2 ^ 63) (toBits binary64 (s .args .x)) (c .if3 .taken)))
+    sym (c .before .before .whole-fields .ensures .0 false) ∙ ap roundOf (by-fields (s .args .x) false (told (s .good .0 .1)) (lt-leb (2 ^ 63) (toBits binary64 (s .args .x)) (c .if3 .taken)))
 
 returns-4 : tie.Need-returns-4
 unfolding ofInt
@@ -47,7 +43,7 @@ returns-4 c =
     let r = c .before .before .whole-fields in
     neg-round binary64 false (r .result) 1
     ∙ sym (r .ensures .0 true)
-    ∙ ap roundOf (by-fields (s .args .x) true (held s) (le-leb (2 ^ 63) (toBits binary64 (s .args .x)) (c .if3 .left)))
+    ∙ ap roundOf (by-fields (s .args .x) true (told (s .good .0 .1)) (le-leb (2 ^ 63) (toBits binary64 (s .args .x)) (c .if3 .left)))
 
 pub round-spec : {M : Type 1} → statement M
 round-spec =

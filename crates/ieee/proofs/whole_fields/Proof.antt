@@ -1,4 +1,4 @@
--- `ieee::whole_fields` meets its contract, in the ranges of e that `Integral.antt` tells apart. Assumes nothing.
+-- In the ranges of e that `Integral.antt` tells apart.
 use native.Mathlib.Omega.{arith}
 use Prim.Native.Nat.{ℕ, _+_, _^_, _≤_}
 use mathlib.Core.Path.{sym, ap, _∙_}

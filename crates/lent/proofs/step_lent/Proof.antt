@@ -1,5 +1,5 @@
 -- `lent::step_lent` meets its contract: the walk over any types (`Entry.antt`), at a lane's. Both buffers are given up to `step` for good. Assumes nothing.
-use mathlib.Core.Path.{_≡_, refl, subst}
+use mathlib.Core.Path.{_≡_, refl}
 use Prim.Native.Nat.{ℕ}
 use mathlib.Core.List.{[], _∷_, List}
 use lib.ListN.{length}
@@ -29,12 +29,12 @@ use denote.Struct.Laws as LL
 use denote.Triple.Statement.{Contract, Triple}
 use denote.Triple.Entry.{onEntry}
 use denote.Triple.Spec.{Meets, tripleOf}
-use denote.Triple.Table.{entered, cited}
+use denote.Triple.Table.{cited}
 use denote.Triple.Walked.{says, Stays, stay-ref, stay-none, gave-slice, walkOf, AllGo, goes-none, goes-ref, goes-gave-slice, ends-at, walked, walk-meets}
 use denote.Exit.{yes}
 use denote.Triple.Clauses.{ensured, lasts}
 use Rattle.lane.specs.Step.{stepped}
-use Rattle.lent.proofs.Held.{fits, gives}
+use Rattle.lent.proofs.Held.{fits, gives, enters}
 use Rattle.lent.proofs.Rows.{Buf, laneVal, argsVal, bufVal, Toks, Bufs, args-makes, lane-makes, lane-held, answer-held, args-held, reply-held}
 use Rattle.lent.proofs.Entry.{entry, walk}
 use Rattle.lane.specs.declared.Lane.{Lane}
@@ -158,10 +158,8 @@ module _ {M : Type 1} (𝓤 : URA M) (H : Heap 𝓤) (A : Atoms 𝓤) (W : Given
 pub step-lent-spec : {M : Type 1} → stated.statement M
 unfolding code.routine tablesOf
 step-lent-spec 𝓤 H 𝓜 𝓖 𝓡 =
-    entered 𝓤 H (tripleOf 𝓤 H (𝓖 .A) f.signature (f.spec 𝓤 H (𝓖 .A) (𝓜 .mem) (𝓡 .run)))
-    (tables 𝓤 H 𝓜 𝓡 code.env .C) (tables 𝓤 H 𝓜 𝓡 code.env .Λ) #lent·step-lent code.function (code.unfolded 𝓤 H 𝓜 𝓡)
-    (subst (λ (e : Fn). Meets 𝓤 H (𝓖 .A) f.signature (WpFn 𝓤 H (tables 𝓤 H 𝓜 𝓡 code.env .C) (tables 𝓤 H 𝓜 𝓡 code.env .Λ) e) (f.spec 𝓤 H (𝓖 .A) (𝓜 .mem) (𝓡 .run))) same
+    enters 𝓤 H 𝓜 𝓡 code.env (tripleOf 𝓤 H (𝓖 .A) f.signature (f.spec 𝓤 H (𝓖 .A) (𝓜 .mem) (𝓡 .run))) #lent·step-lent code-of code.function same (code.unfolded 𝓤 H 𝓜 𝓡)
     (step-lent-meets 𝓤 H (𝓖 .A) (givenOf 𝓤 H 𝓜 𝓖) (𝓜 .mem) (𝓡 .run) (tablesOf 𝓤 H 𝓜 (tables 𝓤 H 𝓜 𝓡 code.env))
     (cited 𝓤 H (Step 𝓤 H (𝓖 .A) (givenOf 𝓤 H 𝓜 𝓖) (𝓜 .mem) (𝓡 .run)) 𝓜 𝓡 code.env #step·step step-def.routine code.calls-step·step (step-thm.met 𝓤 H 𝓜 𝓖 𝓡))
     (cited 𝓤 H (LaneOf 𝓤 H (𝓖 .A) (givenOf 𝓤 H 𝓜 𝓖) (𝓜 .mem) (𝓡 .run)) 𝓜 𝓡 code.env #lent·lane-of lane-of-def.routine code.calls-lent·lane-of (lane-of-thm.met 𝓤 H 𝓜 𝓖 𝓡))
-    (cited 𝓤 H (ReplyOf 𝓤 H (𝓖 .A) (givenOf 𝓤 H 𝓜 𝓖) (𝓜 .mem) (𝓡 .run)) 𝓜 𝓡 code.env #lent·reply-of reply-of-def.routine code.calls-lent·reply-of (reply-of-thm.met 𝓤 H 𝓜 𝓖 𝓡))))
+    (cited 𝓤 H (ReplyOf 𝓤 H (𝓖 .A) (givenOf 𝓤 H 𝓜 𝓖) (𝓜 .mem) (𝓡 .run)) 𝓜 𝓡 code.env #lent·reply-of reply-of-def.routine code.calls-lent·reply-of (reply-of-thm.met 𝓤 H 𝓜 𝓖 𝓡)))

@@ -1,4 +1,3 @@
--- `refusals::first_failed` meets its contract: the definition over what the calls ensure. Assumes nothing.
 use Rattle.refusals.specs.Order.{firstFailed}
 use borrow.Author.Needs.{needs}
 use Rattle.refusals.proofs.first_failed.Statement.{statement}

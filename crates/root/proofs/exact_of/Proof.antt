@@ -1,4 +1,4 @@
--- `root::exact_of` meets its contract. What it hands to `whole_root` is the operand brought by a power of 4, and there is one whole root (`RootSteps.antt`). Assumes nothing.
+-- What it hands to `whole_root` is the operand brought by a power of 4, and there is one whole root (`RootSteps.antt`).
 use mathlib.Core.Path.{sym, subst}
 use Prim.Native.Nat.{ℕ, _*_, _^_, _≤_, _<_}
 use native.Mathlib.Nat.{le-trans, lt-of-not-le, not-le-of-lt, mul-le-mul}

@@ -1,21 +1,17 @@
--- `root::exact_root` meets its contract: a positive number's pattern is that of a * 2 ^ k of 4 ^ -75 (`Reading` of `RootSteps.antt`). Assumes nothing.
-use mathlib.Core.Path.{sym, ap, _∙_, subst}
+-- A positive number's pattern is that of a * 2 ^ k of 4 ^ -75 (`Reading` of `RootSteps.antt`).
+use mathlib.Core.Path.{sym, ap, _∙_}
 use Prim.Native.Nat.{_<_}
 use borrow.Author.Needs.{needs}
-use lib.Dec.{T}
-use lib.Ieee.{binary32, fits, toBits}
+use Rattle.ieee.proofs.Nan.{told}
+use lib.Ieee.{binary32, toBits}
 use lib.Ieee.Bits.{ofBits-toBits}
 use Rattle.root.specs.Root.{exactOf, scaled}
 use Rattle.root.proofs.RootSteps.{positive-bits, positive-plain, read-low, read-high, read-scaled}
 use Rattle.root.proofs.exact_root.Statement.{statement}
 use Rattle.root.proofs.exact_root.Tie as tie
 
--- what owning an `f32` tells: the format holds it
-held : (c : tie.Start) → T (fits binary32 (c .args .x))
-held c = subst T (sym (c .good .0 .1)) tt
-
 in-range : (c : tie.Start) → (0 < toBits binary32 (c .args .x)) × (toBits binary32 (c .args .x) < 2139095040)
-in-range c = positive-bits (c .args .x) (held c) (c .pre)
+in-range c = positive-bits (c .args .x) (told (c .good .0 .1)) (c .pre)
 
 float-to-bits-b : tie.Need-float-to-bits-b
 float-to-bits-b c = positive-plain (c .args .x) (c .pre)
@@ -34,13 +30,13 @@ returns : tie.Need-returns
 returns c =
     let s = c .before .before in
     let x = s .args .x in
-    c .exact-of .ensures ∙ ap exactOf (sym (read-scaled (read-low (toBits binary32 x) (in-range s .0) (c .before .if1 .taken))) ∙ ap scaled (ofBits-toBits binary32 x (held s)))
+    c .exact-of .ensures ∙ ap exactOf (sym (read-scaled (read-low (toBits binary32 x) (in-range s .0) (c .before .if1 .taken))) ∙ ap scaled (ofBits-toBits binary32 x (told (s .good .0 .1))))
 
 returns-2 : tie.Need-returns-2
 returns-2 c =
     let s = c .before .before in
     let x = s .args .x in
-    c .exact-of2 .ensures ∙ ap exactOf (sym (read-scaled (read-high (toBits binary32 x) (c .before .if1 .left) (in-range s .1))) ∙ ap scaled (ofBits-toBits binary32 x (held s)))
+    c .exact-of2 .ensures ∙ ap exactOf (sym (read-scaled (read-high (toBits binary32 x) (c .before .if1 .left) (in-range s .1))) ∙ ap scaled (ofBits-toBits binary32 x (told (s .good .0 .1))))
 
 pub exact-root-spec : {M : Type 1} → statement M
 exact-root-spec =

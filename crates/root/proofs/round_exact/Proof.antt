@@ -1,4 +1,4 @@
--- `root::round_exact` meets its contract. Each return is one way of rounding (`RootAssembled.antt`). Assumes nothing.
+-- Each return is one way of rounding (`RootAssembled.antt`).
 use Prim.Native.Nat.{_+_, _/_, _%_}
 use native.Mathlib.Omega.{arith}
 use borrow.Author.Needs.{needs}

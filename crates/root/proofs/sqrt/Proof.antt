@@ -1,18 +1,13 @@
--- `root::sqrt` meets its contract: the three steps in a row, and what the first leaves is what the second asks for (`RootSpecial.antt`, `RootSteps.antt`). Assumes nothing.
-use mathlib.Core.Path.{_≡_, sym, ap, _∙_, subst}
+-- The three steps in a row, and what the first leaves is what the second asks for (`RootSpecial.antt`, `RootSteps.antt`).
+use mathlib.Core.Path.{_≡_, sym, ap, _∙_}
 use mathlib.Core.Option.{none}
 use borrow.Author.Needs.{needs}
-use lib.Dec.{T}
-use lib.Ieee.{binary32, fits}
+use Rattle.ieee.proofs.Nan.{told}
 use Rattle.root.specs.Root.{specialOf, roundExactOf}
 use Rattle.root.proofs.RootSpecial.{special-step, given-root, none-given, root-left}
 use Rattle.root.proofs.RootSteps.{exact-range}
 use Rattle.root.proofs.sqrt.Statement.{statement}
 use Rattle.root.proofs.sqrt.Tie as tie
-
--- what owning an `f32` tells: the format holds it
-held : (c : tie.Start) → T (fits binary32 (c .args .x))
-held c = subst T (sym (c .good .0 .1)) tt
 
 returns : tie.Need-returns
 returns c =
@@ -32,7 +27,7 @@ round-exact-requires : tie.Need-round-exact-requires
 round-exact-requires c κs =
     let s = c .before .before .before in
     let x = s .args .x in
-    exact-range x (held s) (special-step .left x (none-left (c .before))) (c .exact-root .result) (c .exact-root .ensures)
+    exact-range x (told (s .good .0 .1)) (special-step .left x (none-left (c .before))) (c .exact-root .result) (c .exact-root .ensures)
 
 returns-2 : tie.Need-returns-2
 returns-2 c =

@@ -1,4 +1,4 @@
--- `root::whole_root` meets its contract: two steps of Newton's from the table's digits reach the root, or the next number (`RootFromTable.antt`). Assumes nothing.
+-- Two steps of Newton's from the table's digits reach the root, or the next number (`RootFromTable.antt`).
 use native.Mathlib.Nat.{div-le-self}
 use native.Mathlib.Omega.{arith}
 use borrow.Author.Needs.{needs}

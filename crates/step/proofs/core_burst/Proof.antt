@@ -20,8 +20,8 @@ burst-back b f o g e₁ e₂ e₃ =
     ∙ ap (λ (x : Out). burstOf (b .high) (b .«e_prev») (b .env) (b .pac) (b .train) x (b .frames) (b .pres) (b .frame) (numbered (b .«out_fsk» .serial) (wholeOut g))) e₂
     ∙ ap (λ (x : Out). burstOf (b .high) (b .«e_prev») (b .env) (b .pac) (b .train) (b .«out_ook») (b .frames) (b .pres) (b .frame) x) e₃
 
-returns : tie.Need-returns
-returns c = burst-back _ _ _ _ (c .before .before .core-frame .ensures) (c .before .core-out .ensures) (c .core-out2 .ensures)
-
 pub core-burst-spec : {M : Type 1} → statement M
-core-burst-spec = tie.close (tie.spec (search needs) (search needs) (search needs) returns)
+core-burst-spec =
+    tie.close
+    (tie.spec (search needs) (search needs) (search needs)
+    (λ c. burst-back _ _ _ _ (c .before .before .core-frame .ensures) (c .before .core-out .ensures) (c .core-out2 .ensures)))

@@ -35,10 +35,8 @@ lane-back l re im b e₁ e₂ =
     ap (λ (xs : List C32). partsOf l xs (withSerials (l .serial) (l .serial) b)) e₁
     ∙ ap (λ (x : Burst). partsOf l (l .lead .«lead_x») (withSerials (l .serial) (l .serial) x)) e₂
 
-returns : tie.Need-returns
-returns c =
-    let l = c .before .before .before .before .args .l in
-    λ re im e. lane-back l re im (wholeBurst (l .burst .frame .cand .«cand_f») (c .core-burst .result)) e (c .core-burst .ensures)
-
 pub core-of-spec : {M : Type 1} → statement M
-core-of-spec = tie.close (tie.spec (search needs) returns)
+core-of-spec =
+    tie.close
+    (tie.spec (search needs)
+    (λ c. let l = c .before .before .before .before .args .l in λ re im e. lane-back l re im (wholeBurst (l .burst .frame .cand .«cand_f») (c .core-burst .result)) e (c .core-burst .ensures)))

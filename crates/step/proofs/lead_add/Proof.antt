@@ -26,14 +26,9 @@ lead-full : (at n r : ℕ) (es re im : List Float) (e : Float) (x : C32) → 16 
 unfolding leadAddOf
 lead-full at n r es re im e x h a b d q = simp (q, set-out es n e (omega (arith, h, a)), set-out (zipOf re im) (n + 1) x (omega (arith, h, b, zip-length re im (b ∙ sym d))))
 
-returns : tie.Need-returns
-returns c = (λ at. lead-adds at _ _ _ _ _ _ _ (c .inc .ensures), simp length-set, simp length-set, simp length-set)
-
-returns-2 : tie.Need-returns-2
-returns-2 c = (λ at. lead-full at _ _ _ _ _ _ _ (c .before .if1 .left) (c .before .before .pre .0) (c .before .before .pre .1) (c .before .before .pre .2) (c .inc2 .ensures), refl, refl, refl)
-
 pub lead-add-spec : {M : Type 1} → statement M
 lead-add-spec =
     tie.close
-    (tie.spec (search needs) (search needs) (search needs) (search needs) (search needs) (search needs) (search needs)
-    (search needs) (search needs) returns (search needs) returns-2)
+    (tie.spec (search needs) (search needs) (search needs) (search needs) (search needs) (search needs) (search needs) (search needs) (search needs)
+    (λ c. (λ at. lead-adds at _ _ _ _ _ _ _ (c .inc .ensures), simp length-set, simp length-set, simp length-set)) (search needs)
+    (λ c. (λ at. lead-full at _ _ _ _ _ _ _ (c .before .if1 .left) (c .before .before .pre .0) (c .before .before .pre .1) (c .before .before .pre .2) (c .inc2 .ensures), refl, refl, refl)))

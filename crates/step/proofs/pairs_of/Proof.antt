@@ -16,17 +16,10 @@ Inv-loop re im r₀ i₀ r i = Filled 17 (zipOf re im) r i × (length re ≡ len
 abbrev μ-loop : tie.MeasureT-loop
 μ-loop re im r₀ i₀ r i = 17 - i
 
-loop-holds : tie.Need-loop-holds Inv-loop μ-loop
-loop-holds c = (fill-start refl (zip-length (c .args .t1) (c .args .t2) (search needs) ∙ search needs), search needs)
-
-loop-again : tie.Need-loop-again Inv-loop μ-loop
-loop-again c = (fill-turn (c .before .loop .inv .0) (record { re = nan; im = nan }) (c .loop-test .taken) (sym (zip-read (c .before .before .args .t1) (c .before .before .args .t2) _ (c .before .loop .inv .1))), c .before .loop .inv .1)
-
-returns : tie.Need-returns Inv-loop μ-loop
-returns c = fill-end (c .before .loop .inv .0) (c .loop-test .left)
-
 pub pairs-of-spec : {M : Type 1} → statement M
 pairs-of-spec =
     tie.close
-    (tie.spec Inv-loop μ-loop loop-holds (search needs) (search needs) (search needs) (search needs) (search needs) (search needs) (search needs)
-    (search needs) loop-again returns)
+    (tie.spec Inv-loop μ-loop (λ c. (fill-start refl (zip-length (c .args .t1) (c .args .t2) (search needs) ∙ search needs), search needs))
+    (search needs) (search needs) (search needs) (search needs) (search needs) (search needs) (search needs) (search needs)
+    (λ c. (fill-turn (c .before .loop .inv .0) (record { re = nan; im = nan }) (c .loop-test .taken) (sym (zip-read (c .before .before .args .t1) (c .before .before .args .t2) _ (c .before .loop .inv .1))), c .before .loop .inv .1))
+    (λ c. fill-end (c .before .loop .inv .0) (c .loop-test .left)))

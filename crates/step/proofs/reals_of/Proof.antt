@@ -16,16 +16,10 @@ Inv-loop xs r₀ i₀ r i = Filled 17 (realsOf xs) r i
 abbrev μ-loop : tie.MeasureT-loop
 μ-loop xs r₀ i₀ r i = 17 - i
 
-loop-holds : tie.Need-loop-holds Inv-loop μ-loop
-loop-holds c = fill-start refl (length-map (c .args .t1) _ ∙ search needs)
-
-loop-again : tie.Need-loop-again Inv-loop μ-loop
-loop-again c = fill-turn (c .before .loop .inv) nan (c .loop-test .taken) (sym (List·getD-map (λ (x : C32). x .re) (c .before .before .args .t1) _ (record { re = nan; im = nan })))
-
-returns : tie.Need-returns Inv-loop μ-loop
-returns c = (fill-end (c .before .loop .inv) (c .loop-test .left), c .before .loop .inv .long)
-
 pub reals-of-spec : {M : Type 1} → statement M
 reals-of-spec =
     tie.close
-    (tie.spec Inv-loop μ-loop loop-holds (search needs) (search needs) (search needs) (search needs) (search needs) (search needs) loop-again returns)
+    (tie.spec Inv-loop μ-loop (λ c. fill-start refl (length-map (c .args .t1) _ ∙ search needs)) (search needs) (search needs) (search needs)
+    (search needs) (search needs) (search needs)
+    (λ c. fill-turn (c .before .loop .inv) nan (c .loop-test .taken) (sym (List·getD-map (λ (x : C32). x .re) (c .before .before .args .t1) _ (record { re = nan; im = nan }))))
+    (λ c. (fill-end (c .before .loop .inv) (c .loop-test .left), c .before .loop .inv .long)))

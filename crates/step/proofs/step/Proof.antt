@@ -129,14 +129,9 @@ returns c =
     (split .core-of .ensures) (parts .before .before .envelopes .ensures .0) (parts .before .reals .ensures .0) (parts .imaginaries .ensures .0)
     (c .joined .ensures) (c .before .before .before .before .before .before .step-core .ensures .0)
 
-returns-2 : tie.Need-returns-2
-returns-2 c =
-    let refused = c .before in
-    let asked = refused .before in
-    step-refused (asked .before .before .before .before .args .l) (asked .before .before .before .before .args .s) _ _ _ _ (asked .lane-ok .ensures) (refused .step-refusal .ensures) (c .if1 .left)
-
 pub step-spec : {M : Type 1} → statement M
 step-spec =
     tie.close
     (tie.spec (search needs) (search needs) (search needs) (search needs) (search needs) (search needs) step-core-requires (search needs)
-    (search needs) (search needs) returns returns-2)
+    (search needs) (search needs) returns
+    (λ c. let refused = c .before in let asked = refused .before in step-refused (asked .before .before .before .before .args .l) (asked .before .before .before .before .args .s) _ _ _ _ (asked .lane-ok .ensures) (refused .step-refusal .ensures) (c .if1 .left)))

@@ -26,17 +26,6 @@ due-some n h e = let z : n ≡ 0 = eqb-true n 0 (not-false (eqb n 0) h) in omega
 long : {xs ys : List Float} → xs ≡ ys → length xs ≡ length ys
 long e = ap (λ (x : List Float). length x) e
 
-add-m : tie.Need-add-m
-add-m c = let start = c .before .before .before .before .before .before .before .before .before .before .before .before in omega (arith, start .pre .4)
-
-lead-add-requires : tie.Need-lead-add-requires
-lead-add-requires c κs = let start = c .before .before .before .before .before .before .before .before .before .before .before .before .before .before .before .before .before in (start .pre .0, start .pre .1, start .pre .2)
-
-samples-requires : tie.Need-samples-requires
-samples-requires c κs =
-    ⊎-elim (λ w. omega (arith, w .13, w .5 .ensures)) (⊎-elim (λ w. omega (arith, w .11)) (λ w. omega (arith, w .5)))
-    (c .before .before .before .before .before .before .before .before .before .if2 .came)
-
 returns : tie.Need-returns
 returns c =
     let sampled = c .before .before .before .before .before .before .before in
@@ -88,11 +77,13 @@ returns-2 c =
     (λ w. absurd (due-some (met .if2 .n) (c .if4 .left) (omega (arith, w .5)))))
     (met .if2 .came)
 
-returns-3 : tie.Need-returns-3
-returns-3 c = (core-refuses _ _ _ _ _ _ _ _ _ _ _ (c .before .step-refusal .ensures) (c .if1 .left), refl, refl, refl)
-
 pub step-core-spec : {M : Type 1} → statement M
 step-core-spec =
     tie.close
-    (tie.spec (search needs) (search needs) (search needs) (search needs) add-m lead-add-requires (search needs) (search needs)
-    (search needs) samples-requires (search needs) (search needs) (search needs) (search needs) returns returns-2 returns-3)
+    (tie.spec (search needs) (search needs) (search needs) (search needs)
+    (λ c. let start = c .before .before .before .before .before .before .before .before .before .before .before .before in omega (arith, start .pre .4))
+    (λ c κs. let start = c .before .before .before .before .before .before .before .before .before .before .before .before .before .before .before .before .before in (start .pre .0, start .pre .1, start .pre .2))
+    (search needs) (search needs) (search needs)
+    (λ c κs. ⊎-elim (λ w. omega (arith, w .13, w .5 .ensures)) (⊎-elim (λ w. omega (arith, w .11)) (λ w. omega (arith, w .5))) (c .before .before .before .before .before .before .before .before .before .if2 .came))
+    (search needs) (search needs) (search needs) (search needs) returns returns-2
+    (λ c. (core-refuses _ _ _ _ _ _ _ _ _ _ _ (c .before .step-refusal .ensures) (c .if1 .left), refl, refl, refl)))

@@ -1,12 +1,9 @@
--- `step::step_refusal` meets its contract: the definition over what the calls ensure. Assumes nothing.
 use borrow.Author.Needs.{needs}
 use Rattle.step.proofs.step_refusal.Statement.{statement}
 use Rattle.step.proofs.step_refusal.Tie as tie
 
-returns : tie.Need-returns
-returns c = simp (← c .before .before .before .before .index-ok .ensures, ← c .before .before .before .follows .ensures, ← c .before .before .step-floats-ok .ensures, ← c .before .room-ok .ensures, ← c .first-failed .ensures)
-
 pub step-refusal-spec : {M : Type 1} → statement M
 step-refusal-spec =
     tie.close
-    (tie.spec (search needs) (search needs) (search needs) (search needs) (search needs) returns)
+    (tie.spec (search needs) (search needs) (search needs) (search needs) (search needs)
+    (λ c. simp (← c .before .before .before .before .index-ok .ensures, ← c .before .before .before .follows .ensures, ← c .before .before .step-floats-ok .ensures, ← c .before .room-ok .ensures, ← c .first-failed .ensures)))
