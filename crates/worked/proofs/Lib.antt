@@ -2,3 +2,4 @@
 pub mod Table
 pub mod Limits
 pub mod Serials
+pub mod Edges
