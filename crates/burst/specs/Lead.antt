@@ -10,6 +10,7 @@ use Rattle.arith.specs.Leaves.{leadLenOf}
 use Rattle.arith.specs.declared.C32.{C32}
 use Rattle.types.specs.Counts.{inc, zeroC32}
 use Rattle.types.specs.Answers.{isStayOf}
+use Rattle.run.specs.Run.{startRunOf}
 use Rattle.ook.specs.Run.{beginEnvOf}
 use Rattle.ook.specs.Train.{emptyTrainOf}
 use Rattle.types.specs.declared.Settings.{Settings}
@@ -43,7 +44,7 @@ largestOf «lead_e» len = largestFrom «lead_e» len 0 zero32
 
 -- begin_burst: no pulse and no presence yet, at the time t; the records, the frame, ref_idx, ref_pending and p_factor stay
 abbrev pub beginPresOf : Float → Pres → Pres
-beginPresOf t s = presOf t t (s .«p_factor») 0 0 1 0
+beginPresOf t s = presOf (startRunOf t) (s .«p_factor»)
 
 unfoldable pub beginBurstOf : Float → Float → Float → Burst → Burst
 beginBurstOf high t e b = burstOf high e (beginEnvOf t (b .env)) zeroC32 (emptyTrainOf (b .train)) (b .«out_ook») 0 (beginPresOf t (b .pres)) (b .frame) (b .«out_fsk»)

@@ -30,7 +30,7 @@ snapIfOf began on tc pres frame = cond began (cond on (snapOf pres frame tc) (re
 
 -- a carrier, or the end of the burst
 abbrev pub absenceOf : Burst → Absence
-absenceOf b = record { frames = b .frames; «p_level» = b .pres .«p_level»; «p_confirmed» = b .pres .«p_confirmed» }
+absenceOf b = record { frames = b .frames; «p_level» = b .pres .run .level; «p_confirmed» = b .pres .run .confirmed }
 
 abbrev pub sampledBy : Burst → List ℕ → Done × List ℕ → Sampled × List ℕ × List ℕ
 sampledBy b fsk q = (record { next = q .0 .next; burst = withTrain (q .0 .train) (q .0 .out) b }, q .1, fsk)
@@ -50,7 +50,7 @@ inputsOf a ep s b =
       high = s .high;
       pac = s .pac;
       level = b .env .run .level;
-      «c_run» = b .env .times .«c_run»;
+      «c_run» = b .env .«c_run»;
     }
 
 abbrev pub presentBy : Settings → At → Seen → Burst → Present × List ℕ × List ℕ → Sampled × List ℕ × List ℕ
@@ -73,7 +73,7 @@ actedBy p a b s n fsk q =
     (record { next = q .0 .next; burst = withActed (a .e) s n (q .0) b }, q .1, fsk)
 
 abbrev pub seenBy : Settings → At → Burst → List ℕ → List ℕ → Seen → Sampled × List ℕ × List ℕ
-seenBy p a b ook fsk s = actedBy p a b s (snapIfOf (s .began) (s .on) (s .env .times .«c_run») (b .pres) (b .frame)) fsk (actOf p s (b .train) (b .«out_ook») ook)
+seenBy p a b ook fsk s = actedBy p a b s (snapIfOf (s .began) (s .on) (s .env .«c_run») (b .pres) (b .frame)) fsk (actOf p s (b .train) (b .«out_ook») ook)
 
 unfoldable pub sampleOf : Settings → At → List Float → Burst → List ℕ → List ℕ → Sampled × List ℕ × List ℕ
 sampleOf p a ring b ook fsk = seenBy p a b ook fsk (seeOf p a ring (b .high) (b .«e_prev») (b .env) (b .pac))

@@ -14,23 +14,23 @@ ghost use mathlib.Core.List.{List};
 ghost use lib.Ieee.{Float};
 ghost use mathlib.Core.Bool.{cond};
 use arith::C32;
+use envelope::Absence;
+use envelope::ActedCore;
+use envelope::At;
+use envelope::Seen;
 use frame_end::BodyCore;
 use fsk::Frame;
 use fsk::FrameCore;
 use ook::DoneCore;
 use ook::Env;
-use types::Next;
-use types::Out;
-use types::OutCore;
-use types::Settings;
 use ook::Train;
 use presence::Inputs;
 use presence::Pres;
 use presence::SnappedCore;
-use envelope::Absence;
-use envelope::ActedCore;
-use envelope::At;
-use envelope::Seen;
+use types::Next;
+use types::Out;
+use types::OutCore;
+use types::Settings;
 
 // The burst under way; what an earlier burst left stands in it too.
 pub struct Burst {
@@ -138,7 +138,7 @@ fn inputs_of(a: At, ep: f32, s: Seen, b: BurstCore) -> Inputs
         high: s.high,
         pac,
         level: b.env.run.level,
-        c_run: b.env.times.c_run,
+        c_run: b.env.c_run,
     }
 }
 
@@ -231,8 +231,8 @@ fn rest(
         let run = n.env.run;
         let absence = Absence {
             frames: n.frames,
-            p_level: n.pres.p_level,
-            p_confirmed: n.pres.p_confirmed,
+            p_level: n.pres.run.level,
+            p_confirmed: n.pres.run.confirmed,
         };
         let train = n.train;
         let out = n.out_ook;
@@ -258,7 +258,7 @@ pub fn sample(
     let s = envelope::see(p, a, ring, b.high, b.e_prev, env, pac);
     let pres = b.pres;
     let frame = b.frame;
-    let n = snap_if(s.began, s.on, s.env.times.c_run, pres, frame);
+    let n = snap_if(s.began, s.on, s.env.c_run, pres, frame);
     let t = b.train;
     let o = b.out_ook;
     let d = envelope::act(p, s, t, o, ook);
@@ -301,14 +301,10 @@ pub fn begin_burst(high: f32, t: f64, e: f32, b: BurstCore) -> BurstCore
     let t0 = b.train;
     let train = ook::empty_train(t0);
     let pac = C32 { re: 0.0, im: 0.0 };
+    let absent = run::start_run(t);
     let pres = Pres {
-        p_t_run: t,
-        p_t_prev: t,
+        run: absent,
         p_factor: b.pres.p_factor,
-        p_level: 0,
-        p_run: 0,
-        p_confirmed: 1,
-        p_prev: 0,
     };
     let mut n = b;
     n.high = high;

@@ -7,9 +7,10 @@ use lib.Dec.{leb, eqb, ltb}
 use lib.Ieee.{Float}
 use Rattle.arith.specs.declared.C32.{C32}
 use Rattle.arith.proofs.Carry.{taken-within}
+use Rattle.run.specs.Run.{dueOf}
+use Rattle.run.specs.declared.Run.{Run}
+use Rattle.run.proofs.Limits.{sure-within}
 use Rattle.ook.specs.declared.Env.{Env}
-use Rattle.ook.specs.declared.Run.{Run}
-use Rattle.ook.specs.declared.Times.{Times}
 use Rattle.ook.specs.declared.Train.{Train}
 use Rattle.types.specs.declared.Out.{Out}
 use Rattle.ook.specs.declared.Done.{Done}
@@ -25,23 +26,23 @@ use Rattle.envelope.specs.declared.Seen.{Seen}
 use Rattle.envelope.specs.declared.Acted.{Acted}
 use Rattle.envelope.specs.declared.Absence.{Absence}
 use Rattle.envelope.specs.See.{refineDueOf, seeOf}
-use Rattle.envelope.specs.Act.{takenOf, dueOf, confirmIf, riseOf, fallOf, confirmOf, actOf}
+use Rattle.envelope.specs.Act.{takenOf, confirmIf, riseOf, fallOf, confirmOf, actOf}
 use Rattle.envelope.specs.Tail.{carrierOf, goneOf, hasPulsesOf, gapOverOf, limitOf, waitOf, tailOf}
 
 refine-due-within : (m : ℕ) (a : At) (ring : List Float) (high : Float) (on : Bool) (s : Env) → EnvWithin s → EnvWithin (refineDueOf m a ring high on s)
 unfolding refineDueOf
 refine-due-within m a ring high on s h =
     either EnvWithin (eqb (s .«ref_pending») 1)
-    (either EnvWithin (leb (refineAtOf m) (s .run .«run_len»)) (record { level-flag = h .level-flag; confirmed-flag = h .confirmed-flag; pending-flag = omega arith }) h)
+    (either EnvWithin (leb (refineAtOf m) (s .run .«run_len»)) (record { run-within = record { level-flag = h .run-within .level-flag; confirmed-flag = h .run-within .confirmed-flag }; pending-flag = omega arith }) h)
     h
 
 pub see-within : (p : Settings) (a : At) (ring : List Float) (high before : Float) (s : Env) (pac : C32) → EnvWithin s → EnvWithin (seeOf p a ring high before s pac .env)
 unfolding seeOf
-see-within p a ring high before s pac h = refine-due-within (p .«min_steps») a ring high _ _ (advance-within s _ _ (a .idx) h)
+see-within p a ring high before s pac h = refine-due-within (p .«min_steps») a ring high _ _ (advance-within _ _ s _ _ (a .idx) h)
 
 confirm-if-within : (due : Bool) (s : Env) → EnvWithin s → EnvWithin (confirmIf due s)
 unfolding confirmIf
-confirm-if-within due s h = either EnvWithin due (record { level-flag = h .level-flag; confirmed-flag = omega arith; pending-flag = h .pending-flag }) h
+confirm-if-within due s h = either EnvWithin due (record { run-within = sure-within (s .run) (h .run-within); pending-flag = h .pending-flag }) h
 
 pub record ActedWithin (max : ℕ) (d : Acted) : Type 0 where
   pub env-within : EnvWithin (d .env)
@@ -54,23 +55,23 @@ Within max q = DoneWithin max (q .0)
 
 module _ (p : Settings) (fits : p .«max_pulses» < 2 ^ 32) where
   -- the train takes a boundary on
-  taken-on : (s : Times) (t : Train) → TrainWithin (p .«max_pulses») t → TrainWithin (p .«max_pulses») (withBound (takenOf (p .carry) s t .bound) t)
+  taken-on : (s : Env) (t : Train) → TrainWithin (p .«max_pulses») t → TrainWithin (p .«max_pulses») (withBound (takenOf (p .carry) s t .bound) t)
   taken-on s t h = record {
     started-flag = h .started-flag;
     open-flag = h .open-flag;
     truncated-flag = h .truncated-flag;
     pulses = h .pulses;
-    bounded = taken-within (p .carry) (t .origin) (t .bound) (s .«t_prev») (s .«t_run») (h .bounded);
+    bounded = taken-within (p .carry) (t .origin) (t .bound) (s .run .«t_prev») (s .run .«t_run») (h .bounded);
   }
 
-  rise-within : (s : Times) (t : Train) (ook : List ℕ) → TrainWithin (p .«max_pulses») t → TrainWithin (p .«max_pulses») (riseOf (p .carry) s t ook .0)
+  rise-within : (s : Env) (t : Train) (ook : List ℕ) → TrainWithin (p .«max_pulses») t → TrainWithin (p .«max_pulses») (riseOf (p .carry) s t ook .0)
   unfolding riseOf
   rise-within s t ook h =
       either (λ (q : Train × List ℕ). TrainWithin (p .«max_pulses») (q .0)) (eqb (t .started) 1)
       (close-gap-within (p .«max_pulses») fits (withBound (takenOf (p .carry) s t .bound) t) (takenOf (p .carry) s t .width) ook (taken-on s t h))
       (record { started-flag = omega arith; open-flag = h .open-flag; truncated-flag = h .truncated-flag; pulses = h .pulses; bounded = omega arith })
 
-  confirm-within : (due on : Bool) (s : Times) (t : Train) (pac : C32) (high : Float) (out : Out) (ook : List ℕ) → TrainWithin (p .«max_pulses») t → OutWithin (p .«max_pulses») out → Within (p .«max_pulses») (confirmOf due p on s t pac high out ook)
+  confirm-within : (due on : Bool) (s : Env) (t : Train) (pac : C32) (high : Float) (out : Out) (ook : List ℕ) → TrainWithin (p .«max_pulses») t → OutWithin (p .«max_pulses») out → Within (p .«max_pulses») (confirmOf due p on s t pac high out ook)
   unfolding confirmOf fallOf
   confirm-within due on s t pac high out ook h o =
       either (Within (p .«max_pulses»)) due
@@ -82,7 +83,7 @@ module _ (p : Settings) (fits : p .«max_pulses» < 2 ^ 32) where
   pub act-within : (s : Seen) (t : Train) (out : Out) (ook : List ℕ) → EnvWithin (s .env) → TrainWithin (p .«max_pulses») t → OutWithin (p .«max_pulses») out → ActedWithin (p .«max_pulses») (actOf p s t out ook .0)
   unfolding actOf
   act-within s t out ook v h o =
-      let d : Within (p .«max_pulses») (confirmOf (dueOf (p .«min_steps») (s .env .run)) p (s .on) (s .env .times) t (s .pac) (s .high) out ook) = confirm-within _ (s .on) (s .env .times) t (s .pac) (s .high) out ook h o in
+      let d : Within (p .«max_pulses») (confirmOf (dueOf (s .env .run) (p .«min_steps»)) p (s .on) (s .env) t (s .pac) (s .high) out ook) = confirm-within _ (s .on) (s .env) t (s .pac) (s .high) out ook h o in
       record { env-within = confirm-if-within _ (s .env) v; train-within = d .train-within; out-within = d .out-within }
 
   wait-within : (n : ℕ) (t : Train) (frames : ℕ) (high : Float) (out : Out) (ook : List ℕ) → TrainWithin (p .«max_pulses») t → OutWithin (p .«max_pulses») out → Within (p .«max_pulses») (waitOf p n t frames high out ook)

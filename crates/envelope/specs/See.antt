@@ -8,10 +8,11 @@ use lib.Ieee.{Float, binary32, add, sub, mul, lt, le, ofBits}
 use Rattle.arith.specs.declared.C32.{C32}
 use Rattle.arith.specs.Leaves.{midpointOf, flushOf, crossOf, edgeOf, cmulConjOf}
 use Rattle.ook.specs.declared.Env.{Env}
-use Rattle.ook.specs.declared.Run.{Run}
 use Rattle.types.specs.declared.Settings.{Settings}
 use Rattle.types.specs.Params.{refineAtOf}
-use Rattle.ook.specs.Run.{timesOf, withTimes, withRef, beginsOf, advanceOf, pacRunOf}
+use Rattle.types.specs.Counts.{bit}
+use Rattle.run.specs.Run.{withStart, beginsOf}
+use Rattle.ook.specs.Run.{envOf, advanceOf, pacRunOf}
 use Rattle.ook.specs.Refine.{refineOf}
 use Rattle.ook.specs.Train.{plusOf}
 use Rattle.envelope.specs.declared.At.{At}
@@ -31,7 +32,7 @@ onOf level e thr = cond (eqb level 1) (le thr e) (lt thr e)
 
 -- the edge of a run is refined once, when the run has refine_at samples
 abbrev pub withRefined : Float → Env → Env
-withRefined t s = withRef (s .«ref_idx») 0 (withTimes (timesOf t (s .times .«t_prev») (s .times .«c_run») (s .times .«c_prev»)) s)
+withRefined t s = envOf (withStart t (s .run)) (s .«c_run») (s .«c_prev») (s .«ref_idx») 0
 
 unfoldable pub refineDueOf : ℕ → At → List Float → Float → Bool → Env → Env
 refineDueOf «min_steps» a ring high on s =
@@ -59,12 +60,14 @@ seeOf p a ring high «e_prev» s pac =
     let h : Float = hysteresisOf t in
     let thr : Float = thresholdOf (s .run .level) t h in
     let on : Bool = onOf (s .run .level) (a .e) thr in
+    let same : Bool = eqb (bit on) (s .run .level) in
+    let short : Bool = eqb (s .run .confirmed) 0 in
     let d : C32 = cmulConjOf (a .x) (a .xp) in
     record {
       on = on;
-      began = beginsOf (s .run) on;
+      began = beginsOf same short;
       d = d;
       high = highOf on (a .e) (add binary32 t h) high;
-      env = refineDueOf (p .«min_steps») a ring high on (advanceOf s on (edgeOf (a .idx) (crossOf «e_prev» (a .e) thr)) (a .idx));
-      pac = pacOf on (pacRunOf (s .run) on pac) d;
+      env = refineDueOf (p .«min_steps») a ring high on (advanceOf same short s on (edgeOf (a .idx) (crossOf «e_prev» (a .e) thr)) (a .idx));
+      pac = pacOf on (pacRunOf same short on pac) d;
     }

@@ -4,7 +4,7 @@ use mathlib.Core.Bool.{Bool, true, false, cond}
 use mathlib.Core.List.{List}
 use lib.Dec.{ltb, eqb}
 use lib.Ieee.{Float}
-use Rattle.ook.specs.declared.Run.{Run}
+use Rattle.run.specs.declared.Run.{Run}
 use Rattle.ook.specs.declared.Train.{Train}
 use Rattle.types.specs.declared.Out.{Out}
 use Rattle.types.specs.declared.Settings.{Settings}

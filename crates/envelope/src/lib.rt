@@ -3,7 +3,7 @@
 // sample calls presence between act and tail, outside OOK mode.
 ghost use mathlib.Core.Path.{_≡_};
 ghost use Rattle.envelope.specs.See.{thresholdOf, onOf, refineDueOf, highOf, pacOf, seeOf};
-ghost use Rattle.envelope.specs.Act.{dueOf, confirmIf, riseOf, fallOf, confirmOf, actOf};
+ghost use Rattle.envelope.specs.Act.{confirmIf, riseOf, fallOf, confirmOf, actOf};
 ghost use Rattle.envelope.specs.Core.{wholeActed};
 ghost use Rattle.types.specs.Core.{wholeOut};
 ghost use Rattle.ook.specs.Core.{wholeDone};
@@ -11,13 +11,13 @@ ghost use Rattle.envelope.specs.Tail.{carrierOf, goneOf, hasPulsesOf, ga
 use arith::C32;
 use ook::DoneCore;
 use ook::Env;
+use ook::Train;
+use run::Crossing;
+use run::Run;
 use types::Next;
 use types::Out;
 use types::OutCore;
-use ook::Run;
 use types::Settings;
-use ook::Times;
-use ook::Train;
 
 // What a sample reads beside the burst and the ring: its index, the lead-in's, the noise, the
 // envelope, the sample and the one before.
@@ -95,7 +95,7 @@ fn refine_due(min_steps: u32, a: At, ring: &[f32; 32], high: f32, on: bool, s: E
             let t = ook::refine(ring, min_steps, high, a.noise, on, a.lead_at, a.idx, s);
             let mut n = s;
             n.ref_pending = 0;
-            n.times.t_run = t;
+            n.run.t_run = t;
             return n;
         }
         return s;
@@ -137,14 +137,22 @@ pub fn see(p: Settings, a: At, ring: &[f32; 32], high: f32, e_prev: f32, s: Env,
     let thr = threshold(level, t, h);
     let on = on_of(level, a.e, thr);
     let r = s.run;
-    let began = ook::begins(r, on);
-    let moved = ook::advance(s, on, e_prev, a.e, thr, a.idx);
+    let same = types::bit(on) == r.level;
+    let short = r.confirmed == 0;
+    let began = run::begins(same, short);
+    let c = Crossing {
+        idx: a.idx,
+        before: e_prev,
+        at: a.e,
+        thr,
+    };
+    let moved = ook::advance(same, short, s, on, c);
     let env = refine_due(p.min_steps, a, ring, high, on, moved);
     let x = a.x;
     let xp = a.xp;
     let d = arith::cmul_conj(x, xp);
     let next_high = high_of(on, a.e, t + h, high);
-    let next_pac = pac_of(on, ook::pac_run(r, on, pac), d);
+    let next_pac = pac_of(on, ook::pac_run(same, short, on, pac), d);
     Seen {
         on,
         began,
@@ -156,16 +164,6 @@ pub fn see(p: Settings, a: At, ring: &[f32; 32], high: f32, e_prev: f32, s: Env,
 }
 
 // ---- act
-
-fn due_of(min_steps: u32, r: Run) -> bool
-    ensures { λ b. ⌜ b ≡ dueOf «min_steps» r ⌝ }
-{
-    let waits = r.confirmed == 0;
-    if waits {
-        return r.run_len >= min_steps;
-    }
-    false
-}
 
 fn confirm_if(due: bool, s: Env) -> Env
     ensures { λ r. ⌜ r ≡ confirmIf due s ⌝ }
@@ -179,46 +177,46 @@ fn confirm_if(due: bool, s: Env) -> Env
 }
 
 // The width of the run before, in the mode that carry gives; the train takes its boundary on.
-fn rise(carry: u32, s: Times, t: Train, ook: &mut [u32]) -> Train
-    ensures { λ r. ⌜ (r, now (ook .exit)) ≡ riseOf carry s t (now (ook .entry)) ⌝ }
+fn rise(carry: u32, env: Env, t: Train, ook: &mut [u32]) -> Train
+    ensures { λ r. ⌜ (r, now (ook .exit)) ≡ riseOf carry env t (now (ook .entry)) ⌝ }
 {
     let again = t.started == 1;
     if again {
-        let gap = arith::width_by(carry, t.origin, t.bound, s.t_prev, s.t_run);
+        let gap = arith::width_by(carry, t.origin, t.bound, env.run.t_prev, env.run.t_run);
         let width = gap.width;
         let mut n = t;
         n.bound = gap.bound;
         return ook::close_gap(n, width, ook);
     }
-    let start = arith::step_of(s.c_run);
+    let start = arith::step_of(env.c_run);
     let zero = C32 { re: 0.0, im: 0.0 };
     let mut n = t;
     n.started = 1;
     n.start = start;
     n.acc = zero;
-    n.origin = s.t_run;
+    n.origin = env.run.t_run;
     n.bound = 0;
     n
 }
 
 fn fall(
     p: Settings,
-    s: Times,
+    env: Env,
     t: Train,
     pac: C32,
     high: f32,
     out: OutCore,
     ook: &mut [u32],
 ) -> DoneCore
-    ensures { λ r. ⌜ (wholeDone r, now (ook .exit)) ≡ fallOf p s t pac high (wholeOut out) (now (ook .entry)) ⌝ }
+    ensures { λ r. ⌜ (wholeDone r, now (ook .exit)) ≡ fallOf p env t pac high (wholeOut out) (now (ook .entry)) ⌝ }
 {
     let started = t.started == 1;
     if started {
-        let len = arith::width_by(p.carry, t.origin, t.bound, s.t_prev, s.t_run);
+        let len = arith::width_by(p.carry, t.origin, t.bound, env.run.t_prev, env.run.t_run);
         let width = len.width;
         let mut n = t;
         n.bound = len.bound;
-        return ook::pulse_done(p, n, pac, high, out, width, s.c_run, ook);
+        return ook::pulse_done(p, n, pac, high, out, width, env.c_run, ook);
     }
     DoneCore {
         next: Next::Stay,
@@ -231,25 +229,25 @@ fn confirm(
     due: bool,
     p: Settings,
     on: bool,
-    s: Times,
+    env: Env,
     t: Train,
     pac: C32,
     high: f32,
     out: OutCore,
     ook: &mut [u32],
 ) -> DoneCore
-    ensures { λ r. ⌜ (wholeDone r, now (ook .exit)) ≡ confirmOf due p on s t pac high (wholeOut out) (now (ook .entry)) ⌝ }
+    ensures { λ r. ⌜ (wholeDone r, now (ook .exit)) ≡ confirmOf due p on env t pac high (wholeOut out) (now (ook .entry)) ⌝ }
 {
     if due {
         if on {
-            let n = rise(p.carry, s, t, ook);
+            let n = rise(p.carry, env, t, ook);
             return DoneCore {
                 next: Next::Stay,
                 train: n,
                 out,
             };
         }
-        return fall(p, s, t, pac, high, out, ook);
+        return fall(p, env, t, pac, high, out, ook);
     }
     DoneCore {
         next: Next::Stay,
@@ -263,11 +261,10 @@ pub fn act(p: Settings, s: Seen, t: Train, out: OutCore, ook: &mut [u32]) -> Act
 {
     let v = s.env;
     let r = v.run;
-    let due = due_of(p.min_steps, r);
+    let due = run::due(r, p.min_steps);
     let env = confirm_if(due, v);
-    let times = v.times;
     let pac = s.pac;
-    let d = confirm(due, p, s.on, times, t, pac, s.high, out, ook);
+    let d = confirm(due, p, s.on, v, t, pac, s.high, out, ook);
     let next = d.next;
     let train = d.train;
     let o = d.out;

@@ -36,10 +36,10 @@ isFrameOf mode split enough = cond (eqb mode 0) false (cond (eqb mode 1) true (c
 unfoldable pub lastRunOf : ℕ → ℕ → Runs → Committed → Float → List ℕ → Committed × List ℕ
 lastRunOf «max_pulses» «fsk_phase» r c end fsk =
     cond (eqb «fsk_phase» 0)
-    (fskCommitOf «max_pulses» c true (r .«ft_run») end fsk)
+    (fskCommitOf «max_pulses» c true (r .run .«t_run») end fsk)
     (cond (eqb (r .«fsk_has_prev») 1)
-    (fskCommitOf «max_pulses» c (not (eqb (r .«fsk_level») 1)) (r .«ft_prev») end fsk)
-    (fskCommitOf «max_pulses» c (eqb (r .«fsk_level») 1) (r .«ft_run») end fsk))
+    (fskCommitOf «max_pulses» c (not (eqb (r .run .level) 1)) (r .run .«t_prev») end fsk)
+    (fskCommitOf «max_pulses» c (eqb (r .run .level) 1) (r .run .«t_run») end fsk))
 
 -- a pair that waits gets an empty second slot
 unfoldable pub closePairOf : Committed → List ℕ → Committed × List ℕ

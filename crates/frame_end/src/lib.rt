@@ -17,11 +17,11 @@ use fsk::Frame;
 use fsk::FrameCore;
 use fsk::Runs;
 use ook::EndedCore;
+use ook::Train;
 use types::Flat;
 use types::Out;
 use types::OutCore;
 use types::Settings;
-use ook::Train;
 
 // Whether a presence was a frame, the frame, and the record of frames.
 pub struct Framed {
@@ -101,14 +101,14 @@ fn last_run(max: u32, phase: u32, r: Runs, c: Committed, end: f64, fsk: &mut [u3
 {
     let first = phase == 0;
     if first {
-        return fsk::fsk_commit(max, c, true, r.ft_run, end, fsk);
+        return fsk::fsk_commit(max, c, true, r.run.t_run, end, fsk);
     }
-    let upper = r.fsk_level == 1;
+    let upper = r.run.level == 1;
     let has = r.fsk_has_prev == 1;
     if has {
-        return fsk::fsk_commit(max, c, !upper, r.ft_prev, end, fsk);
+        return fsk::fsk_commit(max, c, !upper, r.run.t_prev, end, fsk);
     }
-    fsk::fsk_commit(max, c, upper, r.ft_run, end, fsk)
+    fsk::fsk_commit(max, c, upper, r.run.t_run, end, fsk)
 }
 
 fn close_pair(c: Committed, fsk: &mut [u32]) -> Committed

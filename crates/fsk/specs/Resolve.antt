@@ -8,6 +8,7 @@ use lib.Ieee.{Float, nan, binary32, binary64, add, sub, mul, div, lt, le, ofBits
 use Rattle.ieee.specs.Constants.{zero32, one32}
 use Rattle.arith.specs.Leaves.{midpointOf, edgeOf, crossOf, absOf}
 use Rattle.types.specs.Counts.{bit, zeroC32}
+use Rattle.run.specs.Run.{runOf, startRunOf}
 use Rattle.fsk.specs.Commit.{fskCommitOf}
 use Rattle.fsk.specs.Makers.{committedOf, runsOf, ranOf, ranBy, levelsOf, meanOf, candOf, earlyOf, frameOf, withRan}
 use Rattle.fsk.specs.declared.Committed.{Committed}
@@ -34,7 +35,7 @@ beginFrameOf fr t =
     (candOf (fr .cand .«cand_f») zero32 0)
     (earlyOf zero32 t 0)
     (levelsOf zero32 zero32)
-    (runsOf t t 0 0 1 0 0)
+    (runsOf (startRunOf t) 0)
     (committedOf (fr .done .«f_origin») (fr .done .«f_last») 0 0 0 0)
 
 -- the threshold between two levels: their midpoint, less FSK_HYSTERESIS (a sixteenth, 3d800000) of their distance for a run at the upper one, and more for one at the lower
@@ -108,7 +109,8 @@ openRunsOf «max_pulses» early «first_upper» «ft_run» «t_early» c fsk =
 
 -- the second run, of t.second samples; the one before it is committed where it is confirmed at once
 abbrev pub secondRunOf : Bool → ℕ → Turn → Float → ℕ → ℕ → Runs
-secondRunOf «first_upper» «fsk_run» t from confirmed «has_prev» = runsOf (t .tc) from (bit (not «first_upper»)) (t .second) confirmed («fsk_run» - t .second) «has_prev»
+secondRunOf «first_upper» «fsk_run» t from confirmed «has_prev» =
+    runsOf (runOf (bit (not «first_upper»)) (t .second) confirmed («fsk_run» - t .second) (t .tc) from) «has_prev»
 
 unfoldable pub settleOf : ℕ → ℕ → Bool → ℕ → Turn → Opening → List ℕ → Ran × List ℕ
 settleOf «max_pulses» «fsk_min» «first_upper» «fsk_run» t o fsk =
@@ -125,9 +127,9 @@ resolveBy fr l q = (withRan (fr .tone) 1 l (q .0) fr, q .1)
 abbrev pub resolveAt : ℕ → ℕ → Frame → Float → ℕ → Bool → Levels → List ℕ → Frame × List ℕ
 resolveAt «max_pulses» «fsk_min» fr f idx «first_upper» l fsk =
     resolveBy fr l
-    (settleBy «max_pulses» «fsk_min» «first_upper» (fr .runs .«fsk_run»)
+    (settleBy «max_pulses» «fsk_min» «first_upper» (fr .runs .run .«run_len»)
     (turnAtOf «first_upper» (sliceThrOf «first_upper» (l .«f_hi») (l .«f_lo»)) (fr .cand) f idx)
-    (openRunsOf «max_pulses» (isEarlyOf (fr .early) «first_upper» (l .«f_hi») (l .«f_lo») (fr .runs .«ft_run»)) «first_upper» (fr .runs .«ft_run») (fr .early .«t_early») (fr .done) fsk))
+    (openRunsOf «max_pulses» (isEarlyOf (fr .early) «first_upper» (l .«f_hi») (l .«f_lo») (fr .runs .run .«t_run»)) «first_upper» (fr .runs .run .«t_run») (fr .early .«t_early») (fr .done) fsk))
 
 -- fsk_resolve: the first run is at the upper level where f_ref > f
 unfoldable pub fskResolveOf : ℕ → ℕ → Frame → Float → ℕ → List ℕ → Frame × List ℕ

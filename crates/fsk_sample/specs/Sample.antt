@@ -61,7 +61,7 @@ trackThr p «fsk_min» fr t idx was thr fsk = trackAt p «fsk_min» fr t idx thr
 
 unfoldable pub trackOf : Settings → ℕ → Frame → Tone → ℕ → List ℕ → Frame × List ℕ
 trackOf p «fsk_min» fr t idx fsk =
-    let was = eqb (fr .runs .«fsk_level») 1 in
+    let was = eqb (fr .runs .run .level) 1 in
     trackThr p «fsk_min» fr t idx was (sliceThrOf was (fr .levels .«f_hi») (fr .levels .«f_lo»)) fsk
 
 abbrev pub sampleBy : Settings → ℕ → Frame → Tone → ℕ → List ℕ → Frame × List ℕ

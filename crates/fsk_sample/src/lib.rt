@@ -14,6 +14,7 @@ use fsk::FrameCore;
 use fsk::Levels;
 use fsk::Mean;
 use fsk::Tone;
+use run::Crossing;
 use types::Settings;
 
 fn low_pass(m: f32, a: f32, g: f32, d: f32) -> f32
@@ -278,22 +279,17 @@ fn track(p: Settings, m: u32, fr: FrameCore, t: Tone, idx: u64, fsk: &mut [u32])
     let r0 = fr.runs;
     let l0 = fr.levels;
     let d0 = fr.done;
-    let up = r0.fsk_level == 1;
+    let up = r0.run.level == 1;
     let thr = fsk::slice_thr(up, l0.f_hi, l0.f_lo);
     let upper = upper_of(up, f, thr);
     let l = follow(upper, l0, f);
-    let s = fsk::fsk_run_step(
-        p.max_pulses,
-        m,
-        r0,
-        d0,
-        upper,
+    let c = Crossing {
         idx,
-        fr.tone.f_prev,
-        f,
+        before: fr.tone.f_prev,
+        at: f,
         thr,
-        fsk,
-    );
+    };
+    let s = fsk::fsk_run_step(p.max_pulses, m, r0, d0, upper, c, fsk);
     let sr = s.runs;
     let sd = s.done;
     let mut n = fr;

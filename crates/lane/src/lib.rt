@@ -4,7 +4,7 @@ ghost use mathlib.Core.Path.{_≡_};
 ghost use mathlib.Core.Bool.{true};
 ghost use Prim.Native.Nat.{ℕ, _≤_};
 ghost use Rattle.lane.specs.Refusals.{openedOk, laneOk, historyOk, beginFloatsOk, stepFloatsOk, followsOf, openRefusal, beginRefusal, closeRefusal};
-ghost use Rattle.lane.specs.Idle.{noOut, noRuns, noneDone, noFrame, noEnv, noTrain, noPres, noBurst, noLead, idleLane};
+ghost use Rattle.lane.specs.Idle.{noOut, noRun, noRuns, noneDone, noFrame, noEnv, noTrain, noPres, noBurst, noLead, idleLane};
 ghost use Rattle.lane.specs.Begin.{ringBeforeOf, historyOf, ringOf, beginLeadOf, clearedOf, leadLane};
 ghost use Rattle.types.specs.Core.{wholeOut, numbered};
 ghost use mathlib.Core.List.{List};
@@ -25,15 +25,14 @@ use fsk::Levels;
 use fsk::Mean;
 use fsk::Runs;
 use fsk::Tone;
-use types::Carrier;
 use ook::Env;
-use types::Out;
-use types::OutCore;
-use ook::Run;
-use types::Settings;
-use ook::Times;
 use ook::Train;
 use presence::Pres;
+use run::Run;
+use types::Carrier;
+use types::Out;
+use types::OutCore;
+use types::Settings;
 
 // The seven envelopes before begin's, nearest first.
 pub struct History {
@@ -213,16 +212,25 @@ fn no_out(serial: u64) -> Out
     }
 }
 
+fn no_run() -> Run
+    ensures { λ r. ⌜ r ≡ noRun ⌝ }
+{
+    Run {
+        level: 0,
+        run_len: 0,
+        confirmed: 0,
+        prev_len: 0,
+        t_run: 0.0,
+        t_prev: 0.0,
+    }
+}
+
 fn no_runs() -> Runs
     ensures { λ r. ⌜ r ≡ noRuns ⌝ }
 {
+    let run = no_run();
     Runs {
-        ft_run: 0.0,
-        ft_prev: 0.0,
-        fsk_level: 0,
-        fsk_run: 0,
-        fsk_confirmed: 0,
-        fsk_prev: 0,
+        run,
         fsk_has_prev: 0,
     }
 }
@@ -278,19 +286,11 @@ fn no_frame() -> Frame
 fn no_env() -> Env
     ensures { λ r. ⌜ r ≡ noEnv ⌝ }
 {
+    let run = no_run();
     Env {
-        run: Run {
-            level: 0,
-            run_len: 0,
-            confirmed: 0,
-            prev_len: 0,
-        },
-        times: Times {
-            t_run: 0.0,
-            t_prev: 0.0,
-            c_run: 0.0,
-            c_prev: 0.0,
-        },
+        run,
+        c_run: 0.0,
+        c_prev: 0.0,
         ref_idx: 0,
         ref_pending: 0,
     }
@@ -316,15 +316,8 @@ fn no_train() -> Train
 fn no_pres() -> Pres
     ensures { λ r. ⌜ r ≡ noPres ⌝ }
 {
-    Pres {
-        p_t_run: 0.0,
-        p_t_prev: 0.0,
-        p_factor: 0.0,
-        p_level: 0,
-        p_run: 0,
-        p_confirmed: 0,
-        p_prev: 0,
-    }
+    let run = no_run();
+    Pres { run, p_factor: 0.0 }
 }
 
 fn no_burst(serial: u64) -> Burst

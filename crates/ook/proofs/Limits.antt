@@ -20,34 +20,28 @@ use Rattle.types.specs.declared.Next.the-variants.{Idle}
 use Rattle.ook.specs.declared.Done.{Done}
 use Rattle.types.proofs.Counts.{inc-exact}
 use Rattle.types.specs.Counts.{bit}
-use Rattle.ook.specs.Run.{lengthenOf, rejoinOf, beginRunOf, advanceOf, beginEnvOf}
+use Rattle.run.specs.Run.{movedOf}
+use Rattle.run.specs.Limits.{RunWithin}
+use Rattle.run.specs.declared.Run.{Run}
+use Rattle.run.proofs.Limits.{moved-within, start-run-within}
+use Rattle.ook.specs.Run.{advanceOf, beginEnvOf}
 use Rattle.ook.specs.Train.{withStarted, withEnd, withLongest, longerOf, zeroSteps, stayBy, endBy, pushPulseOf, pushedBy, closeGapOf, emptyTrainOf, finishOf, endTrainOf, pulseDoneOf}
 use Rattle.ook.specs.Limits.{EnvWithin, TrainWithin, OutWithin, DoneWithin}
 use Rattle.types.proofs.Cases.{either, by-test, bit-flag}
 
 -- the run
 
-pub lengthen-within : (s : Env) → EnvWithin s → EnvWithin (lengthenOf s)
-unfolding lengthenOf
-lengthen-within s h = omega arith
-
-pub rejoin-within : (s : Env) (on : Bool) → EnvWithin (rejoinOf s on)
-unfolding rejoinOf
-rejoin-within s on = omega (arith, bit-flag on)
-
-pub begin-run-within : (s : Env) (tc : Float) (idx : ℕ) (on : Bool) → EnvWithin (beginRunOf s tc idx on)
-unfolding beginRunOf
-begin-run-within s tc idx on = omega (arith, bit-flag on)
-
-pub advance-within : (s : Env) (on : Bool) (tc : Float) (idx : ℕ) → EnvWithin s → EnvWithin (advanceOf s on tc idx)
+pub advance-within : (same short : Bool) (s : Env) (on : Bool) (tc : Float) (idx : ℕ) → EnvWithin s → EnvWithin (advanceOf same short s on tc idx)
 unfolding advanceOf
-advance-within s on tc idx h =
-    either EnvWithin (eqb (bit on) (s .run .level)) (lengthen-within s h)
-    (either EnvWithin (eqb (s .run .confirmed) 0) (rejoin-within s on) (begin-run-within s tc idx on))
+advance-within same short s on tc idx h =
+    let r : Run = movedOf same short (s .run) (bit on) tc in
+    let w : RunWithin r = moved-within same short (s .run) (bit on) tc (bit-flag on) (h .run-within) in
+    either EnvWithin same (record { run-within = w; pending-flag = h .pending-flag })
+    (either EnvWithin short (record { run-within = w; pending-flag = omega arith }) (record { run-within = w; pending-flag = omega arith }))
 
 pub begin-env-within : (t : Float) (s : Env) → EnvWithin s → EnvWithin (beginEnvOf t s)
 unfolding beginEnvOf
-begin-env-within t s h = omega arith
+begin-env-within t s h = record { run-within = start-run-within t; pending-flag = h .pending-flag }
 
 -- the train
 

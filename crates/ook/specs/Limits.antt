@@ -2,14 +2,14 @@
 -- flags stay 0 or 1, pulses plus open stay at most max_pulses, and so `inc` never wraps.
 use Prim.Native.Nat.{ℕ, _+_, _≤_}
 use Rattle.domain.specs.Limits.{maxBound, maxSerial}
+use Rattle.run.specs.Limits.{RunWithin}
 use Rattle.ook.specs.declared.Env.{Env}
 use Rattle.ook.specs.declared.Train.{Train}
 use Rattle.types.specs.declared.Out.{Out}
 use Rattle.ook.specs.declared.Done.{Done}
 
 pub record EnvWithin (s : Env) : Type 0 where
-  pub level-flag : s .run .level ≤ 1
-  pub confirmed-flag : s .run .confirmed ≤ 1
+  pub run-within : RunWithin (s .run)
   pub pending-flag : s .«ref_pending» ≤ 1
 
 pub record TrainWithin (max : ℕ) (t : Train) : Type 0 where

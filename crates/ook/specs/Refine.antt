@@ -62,4 +62,4 @@ refineInOf ring t on lo idx «t_run» = cond (leb idx lo) «t_run» (crossAt rin
 -- refine, of a burst whose run is s
 unfoldable pub refineOf : List Float → ℕ → Float → Float → Bool → ℕ → ℕ → Env → Float
 refineOf ring «min_steps» high noise on «lead_at» idx s =
-    refineInOf ring (refineLevelOf high noise) on (refineLoOf «min_steps» (s .«ref_idx») «lead_at» idx) idx (s .times .«t_run»)
+    refineInOf ring (refineLevelOf high noise) on (refineLoOf «min_steps» (s .«ref_idx») «lead_at» idx) idx (s .run .«t_run»)

@@ -2,14 +2,16 @@
 // each struct by value.
 ghost use mathlib.Core.Path.{_≡_};
 ghost use Prim.Native.Nat.{_+_, _*_, _-_, _<_, min, max};
-ghost use Rattle.arith.specs.Leaves.{edgeOf, crossOf};
+ghost use Rattle.run.specs.Run.{edgeAt};
 ghost use Rattle.types.specs.Core.{wholeOut};
 ghost use Rattle.ook.specs.Core.{wholeEnded, wholeDone};
-ghost use Rattle.ook.specs.Run.{lengthenOf, rejoinOf, beginRunOf, beginsOf, advanceOf, zeroIf, pacRunOf, beginEnvOf};
+ghost use Rattle.ook.specs.Run.{advanceOf, zeroIf, pacRunOf, beginEnvOf};
 ghost use Rattle.ook.specs.Refine.{refineLevelOf, refineLoOf, excessOf, bestAt, splitAt, bestSplitOf, refineInOf, refineOf};
 ghost use Rattle.ook.specs.Train.{pushPulseOf, closeGapOf, emptyTrainOf, finishOf, endTrainOf, longerOf, pushedBy, pulseDoneOf, gapRatioExceededOf};
 use arith::C32;
 use arith::Steps;
+use run::Crossing;
+use run::Run;
 use types::Next;
 use types::Out;
 use types::OutCore;
@@ -17,25 +19,13 @@ use types::Settings;
 
 // ---- what the run and the train are
 
-// The run of the envelope.
-pub struct Run {
-    pub level: u32,
-    pub run_len: u32,
-    pub confirmed: u32,
-    pub prev_len: u32,
-}
-
-// The edges of the run and of the one before, refined (t) and as the envelope crossed (c).
-pub struct Times {
-    pub t_run: f64,
-    pub t_prev: f64,
-    pub c_run: f64,
-    pub c_prev: f64,
-}
-
+// The run of the envelope, whose edge t_run is refined once the run is long enough, and what that needs.
 pub struct Env {
     pub run: Run,
-    pub times: Times,
+    // The edges of the run and of the one before as the envelope crossed: by them a train starts and ends, refined or not.
+    pub c_run: f64,
+    pub c_prev: f64,
+    // The sample at which the envelope crossed, and 1 while the edge waits for its refinement.
     pub ref_idx: u64,
     pub ref_pending: u32,
 }
@@ -85,75 +75,34 @@ pub struct DoneCore {
 
 // ---- the run of the envelope
 
-pub fn lengthen(s: Env) -> Env
-    ensures { λ r. ⌜ r ≡ lengthenOf s ⌝ }
+// The run after a sample whose level is `on`: a glitch takes its edge back, and the edge of a run that begins waits for its refinement.
+pub fn advance(same: bool, short: bool, env: Env, on: bool, c: Crossing) -> Env
+    ensures { λ r. ⌜ r ≡ advanceOf same short env on (edgeAt c) (c .idx) ⌝ }
 {
-    let n = types::sat_add(s.run.run_len, 1);
-    let mut m = s;
-    m.run.run_len = n;
-    m
-}
-
-pub fn rejoin(s: Env, on: bool) -> Env
-    ensures { λ r. ⌜ r ≡ rejoinOf s on ⌝ }
-{
-    let n = types::sat_add(types::sat_add(s.run.prev_len, s.run.run_len), 1);
-    let level = types::bit(on);
-    let mut m = s;
-    m.run.level = level;
-    m.run.run_len = n;
-    m.times.t_run = s.times.t_prev;
-    m.times.c_run = s.times.c_prev;
-    m.run.confirmed = 1;
-    m.ref_pending = 0;
-    m
-}
-
-// Its effect on the sums is in pac_run, that on presence belongs to the whole sample.
-pub fn begin_run(s: Env, tc: f64, idx: u64, on: bool) -> Env
-    ensures { λ r. ⌜ r ≡ beginRunOf s tc idx on ⌝ }
-{
-    let level = types::bit(on);
+    let r = env.run;
+    if same {
+        let q = run::lengthen(r);
+        let mut n = env;
+        n.run = q;
+        return n;
+    }
+    if short {
+        let q = run::rejoin(r, types::bit(on));
+        let mut n = env;
+        n.run = q;
+        n.c_run = env.c_prev;
+        n.ref_pending = 0;
+        return n;
+    }
+    let tc = run::edge_at(c);
+    let q = run::begin_run(r, types::bit(on), tc);
     Env {
-        run: Run {
-            level,
-            run_len: 1,
-            confirmed: 0,
-            prev_len: s.run.run_len,
-        },
-        times: Times {
-            t_run: tc,
-            t_prev: s.times.t_run,
-            c_run: tc,
-            c_prev: s.times.c_run,
-        },
-        ref_idx: idx,
+        run: q,
+        c_run: tc,
+        c_prev: env.c_run,
+        ref_idx: c.idx,
         ref_pending: 1,
     }
-}
-
-pub fn begins(r: Run, on: bool) -> bool
-    ensures { λ b. ⌜ b ≡ beginsOf r on ⌝ }
-{
-    let same = types::bit(on) == r.level;
-    if same {
-        return false;
-    }
-    r.confirmed != 0
-}
-
-pub fn advance(s: Env, on: bool, ep: f32, e: f32, thr: f32, idx: u64) -> Env
-    ensures { λ r. ⌜ r ≡ advanceOf s on (edgeOf idx (crossOf ep e thr)) idx ⌝ }
-{
-    let same = types::bit(on) == s.run.level;
-    if same {
-        return lengthen(s);
-    }
-    let short = s.run.confirmed == 0;
-    if short {
-        return rejoin(s, on);
-    }
-    begin_run(s, arith::edge(idx, arith::cross(ep, e, thr)), idx, on)
 }
 
 fn zero_if(b: bool, pac: C32) -> C32
@@ -165,38 +114,30 @@ fn zero_if(b: bool, pac: C32) -> C32
     pac
 }
 
-pub fn pac_run(r: Run, on: bool, pac: C32) -> C32
-    ensures { λ q. ⌜ q ≡ pacRunOf r on pac ⌝ }
+// The pulse's sum: a short pulse leaves nothing, and a pulse that begins starts from 0.
+pub fn pac_run(same: bool, short: bool, on: bool, pac: C32) -> C32
+    ensures { λ q. ⌜ q ≡ pacRunOf same short on pac ⌝ }
 {
-    let same = types::bit(on) == r.level;
     if same {
         return pac;
     }
-    let short = r.confirmed == 0;
     if short {
         return zero_if(!on, pac);
     }
     zero_if(on, pac)
 }
 
-pub fn begin_env(t: f64, s: Env) -> Env
-    ensures { λ r. ⌜ r ≡ beginEnvOf t s ⌝ }
+// A burst begins at the time t; ref_idx and ref_pending stay as an earlier one left them, as in the Rust.
+pub fn begin_env(t: f64, env: Env) -> Env
+    ensures { λ r. ⌜ r ≡ beginEnvOf t env ⌝ }
 {
+    let r = run::start_run(t);
     Env {
-        run: Run {
-            level: 0,
-            run_len: 0,
-            confirmed: 1,
-            prev_len: 0,
-        },
-        times: Times {
-            t_run: t,
-            t_prev: t,
-            c_run: t,
-            c_prev: t,
-        },
-        ref_idx: s.ref_idx,
-        ref_pending: s.ref_pending,
+        run: r,
+        c_run: t,
+        c_prev: t,
+        ref_idx: env.ref_idx,
+        ref_pending: env.ref_pending,
     }
 }
 
@@ -309,7 +250,7 @@ pub fn refine(
 {
     let t = refine_level(high, noise);
     let lo = refine_lo(min_steps, s.ref_idx, lead_at, idx);
-    refine_in(ring, t, on, lo, idx, s.times.t_run)
+    refine_in(ring, t, on, lo, idx, s.run.t_run)
 }
 
 // ---- the train

@@ -13,6 +13,7 @@ use Rattle.types.specs.declared.Settings.{Settings}
 use Rattle.types.specs.declared.Next.{Next}
 use Rattle.types.specs.Answers.{isStayOf}
 use Rattle.types.specs.Counts.{bit}
+use Rattle.run.specs.Run.{startRunOf}
 use Rattle.ook.specs.Run.{beginEnvOf}
 use Rattle.ook.specs.Train.{emptyTrainOf}
 use Rattle.refusals.proofs.Domain.{InDomain}
@@ -53,7 +54,7 @@ Next-is p r xs = After p (r .0 .burst .env) (record { next = r .0 .next; train =
 
 -- a burst at its start has no pulse
 start-follows : (p : Settings) (high t e : Float) (b : Burst) (ook : List ℕ) → b .«out_ook» .state ≡ 0 → 2 * p .«max_pulses» ≤ length ook → Under p (beginBurstOf high t e b) ook []
-unfolding beginBurstOf beginEnvOf emptyTrainOf after emitted opened flat slotsOf lastOr
+unfolding beginBurstOf beginEnvOf startRunOf emptyTrainOf after emitted opened flat slotsOf lastOr
 start-follows p high t e b ook z h = record {
   run = rest-low refl refl refl refl (λ u. absurd (omega arith));
   train = record { state = none-yet refl refl refl refl; uncut = refl; room = h; fits = omega arith; slots = record { rest = ook; split = refl } };
@@ -157,7 +158,7 @@ module _ (p : Settings) (D : InDomain p) where
     acts = actOf p seen (b .train) (b .«out_ook») ook
 
     abbrev pub burst′ : Burst
-    burst′ = withActed (a .e) seen (snapIfOf (seen .began) (seen .on) (seen .env .times .«c_run») (b .pres) (b .frame)) (acts .0) b
+    burst′ = withActed (a .e) seen (snapIfOf (seen .began) (seen .on) (seen .env .«c_run») (b .pres) (b .frame)) (acts .0) b
 
     -- its rest: presence is asked in Auto mode
     rest : Bool → Sampled × List ℕ × List ℕ

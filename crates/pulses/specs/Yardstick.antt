@@ -90,7 +90,7 @@ accepts y c = eqb (refusal y c) 0
 unfoldable pub levelled : Settings → At → List Float → Burst → Sample Float
 levelled p a ring b =
     let s : Seen = seeOf p a ring (b .high) (b .«e_prev») (b .env) (b .pac) in
-    sample (s .on) (s .env .times .«t_run»)
+    sample (s .on) (s .env .run .«t_run»)
 
 -- "as it is stepped or replayed": the k samples of the lead-in from place i on, after the answer r; "what a replay drops is not in it"
 unfoldable pub replayed : Settings → Float → List Float → Lead → ℕ → ℕ → Sampled × List ℕ × List ℕ → List (Sample Float)

@@ -23,6 +23,7 @@ use Rattle.envelope.specs.declared.Seen.{Seen}
 use Rattle.envelope.specs.declared.Acted.{Acted}
 use Rattle.burst.specs.Makers.{withActed, bodyIn, withBody}
 use Rattle.burst.specs.Sample.{snapIfOf, inputsOf, lastOf, presentBy, presentOf, restOf, actedBy, sampleOf}
+use Rattle.run.specs.Run.{startRunOf}
 use Rattle.burst.specs.Lead.{beginBurstOf, leadAtOf, replayFrom}
 use Rattle.burst.specs.declared.Burst.{Burst}
 use Rattle.burst.specs.declared.Lead.{Lead}
@@ -81,8 +82,8 @@ module _ (p : Settings) where
     unfolding sampleOf
     sample-counted a ring b ook fsk r =
         let s : Seen = seeOf p a ring (b .high) (b .«e_prev») (b .env) (b .pac) in
-        acted-counted a b s (snapIfOf (s .began) (s .on) (s .env .times .«c_run») (b .pres) (b .frame)) fsk (actOf p s (b .train) (b .«out_ook») ook)
-        (snap-if-within (s .began) (s .on) (s .env .times .«c_run») (b .pres) (b .frame) r)
+        acted-counted a b s (snapIfOf (s .began) (s .on) (s .env .«c_run») (b .pres) (b .frame)) fsk (actOf p s (b .train) (b .«out_ook») ook)
+        (snap-if-within (s .began) (s .on) (s .env .«c_run») (b .pres) (b .frame) r)
 
 module _ (p : Settings) (fits : p .«max_pulses» < 2 ^ 32) where
   module _ (small : p .«long_steps» ≤ maxSteps) where
@@ -101,7 +102,7 @@ module _ (p : Settings) (fits : p .«max_pulses» < 2 ^ 32) where
 
   -- a burst begins, whatever the one before left
   pub begin-burst-within : (high t e : Float) (b : Burst) → BurstWithin p b → BurstWithin p (beginBurstOf high t e b) × UnderWay p (beginBurstOf high t e b)
-  unfolding beginBurstOf
+  unfolding beginBurstOf startRunOf
   begin-burst-within high t e b h = (
     record { fits = begin-burst-fits p fits high t e b (h .fits); pres-within = omega arith; frame-within = h .frame-within },
     record { flags = omega arith; most = h .frame-within; present = λ q. absurd (omega arith); absent = λ q z. absurd (omega arith) },

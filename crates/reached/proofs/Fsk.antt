@@ -10,7 +10,10 @@ use Rattle.arith.specs.Leaves.{fskWidthOf}
 use Rattle.types.specs.Counts.{inc, bit}
 use Rattle.types.proofs.Cases.{either, by-test, bit-flag}
 use Rattle.fsk.specs.Commit.{countRunOf, upperRunOf, lowerRunOf, fskCommitOf}
-use Rattle.fsk.specs.RunStep.{lengthenOf, rejoinOf, beginRunOf, confirmOf, confirmDueOf, fskRunStepOf}
+use Rattle.fsk.specs.RunStep.{lengthenOf, confirmOf, confirmDueOf, moveRunsOf, fskRunStepOf}
+use Rattle.run.specs.Run.{dueOf, startRunOf}
+use Rattle.run.proofs.Limits.{moved-within}
+use Rattle.run.proofs.Limits as run
 use Rattle.fsk.specs.Resolve.{beginFrameOf, isEarlyOf, openRunsOf, turnAtOf, sliceThrOf, hiLoOf, settleOf, fskResolveOf}
 use Rattle.fsk.specs.declared.Committed.{Committed}
 use Rattle.fsk.specs.declared.Runs.{Runs}
@@ -70,15 +73,14 @@ StepWithin max m q = RanWithin max m (q .0)
 
 pub lengthen-within : (r : Runs) → RunsWithin r → RunsWithin (lengthenOf r)
 unfolding lengthenOf
-lengthen-within r h = omega arith
+lengthen-within r h = record { run-within = run.lengthen-within (r .run) (h .run-within); has-prev-flag = h .has-prev-flag }
 
-rejoin-within : (r : Runs) (upper : Bool) → RunsWithin (rejoinOf r (bit upper))
-unfolding rejoinOf
-rejoin-within r upper = omega (arith, bit-flag upper)
-
-begin-run-within : (r : Runs) (upper : Bool) (tc : Float) → RunsWithin (beginRunOf r (bit upper) tc)
-unfolding beginRunOf
-begin-run-within r upper tc = omega (arith, bit-flag upper)
+move-runs-within : (same short : Bool) (r : Runs) (upper : Bool) (tc : Float) → RunsWithin r → RunsWithin (moveRunsOf same short r (bit upper) tc)
+move-runs-within same short r upper tc h =
+    record {
+      run-within = moved-within same short (r .run) (bit upper) tc (bit-flag upper) (h .run-within);
+      has-prev-flag = either (λ (n : ℕ). n ≤ 1) same (h .has-prev-flag) (either (λ (n : ℕ). n ≤ 1) short (omega arith) (omega arith));
+    }
 
 module _ (max m : ℕ) where
   confirm-within : (r : Runs) (c : Committed) (upper : Bool) (fsk : List ℕ) → RunsWithin r → CommittedWithin max m c → StepWithin max (m + 1) (confirmOf max r c upper fsk)
@@ -91,29 +93,17 @@ module _ (max m : ℕ) where
   confirm-due-within : (least : ℕ) (r : Runs) (c : Committed) (upper : Bool) (fsk : List ℕ) → RunsWithin r → CommittedWithin max m c → StepWithin max (m + 1) (confirmDueOf max least r c upper fsk)
   unfolding confirmDueOf
   confirm-due-within least r c upper fsk h d =
-      either (StepWithin max (m + 1)) (eqb (r .«fsk_confirmed») 0)
-      (either (StepWithin max (m + 1)) (leb least (r .«fsk_run»))
-      (confirm-within r c upper fsk h d)
-      (search arith))
-      (search arith)
+      either (StepWithin max (m + 1)) (dueOf (r .run) least) (confirm-within r c upper fsk h d) (search arith)
 
   -- a step commits at most one run
   pub run-step-within : (least : ℕ) (r : Runs) (c : Committed) (upper : Bool) (tc : Float) (fsk : List ℕ) → RunsWithin r → CommittedWithin max m c → StepWithin max (m + 1) (fskRunStepOf max least r c upper tc fsk)
   unfolding fskRunStepOf
-  run-step-within least r c upper tc fsk h d =
-      let begun : StepWithin max (m + 1) (confirmDueOf max least (beginRunOf r (bit upper) tc) c upper fsk) = confirm-due-within least (beginRunOf r (bit upper) tc) c upper fsk (begin-run-within r upper tc) d in
-      either (StepWithin max (m + 1)) (eqb (bit upper) (r .«fsk_level»))
-      (confirm-due-within least (lengthenOf r) c upper fsk (lengthen-within r h) d)
-      (either (StepWithin max (m + 1)) (eqb (r .«fsk_confirmed») 0)
-      (either (StepWithin max (m + 1)) (eqb (r .«fsk_has_prev») 1)
-      (search (rejoin-within, arith))
-      begun)
-      begun)
+  run-step-within least r c upper tc fsk h d = confirm-due-within least (moveRunsOf _ _ r (bit upper) tc) c upper fsk (move-runs-within _ _ r upper tc h) d
 
 -- a frame begins with nothing counted
 
 pub begin-frame-within : (max least : ℕ) (fr : Frame) (t : Float) → 0 < least → FrameWithin max least 0 0 (beginFrameOf fr t)
-unfolding beginFrameOf
+unfolding beginFrameOf startRunOf
 begin-frame-within max least fr t h = search arith
 
 -- the first transition commits at most two runs
@@ -143,6 +133,6 @@ resolve-within max least k m fr f idx fsk e n d =
     let up : Bool = lt f (fr .mean .«f_ref») in
     let hi : Float = hiLoOf up (fr .mean .«f_ref») f .«f_hi» in
     let lo : Float = hiLoOf up (fr .mean .«f_ref») f .«f_lo» in
-    let opened : Opening × List ℕ = openRunsOf max (isEarlyOf (fr .early) up hi lo (fr .runs .«ft_run»)) up (fr .runs .«ft_run») (fr .early .«t_early») (fr .done) fsk in
-    let s : StepWithin max (m + 1 + 1) (settleOf max least up (fr .runs .«fsk_run») (turnAtOf up (sliceThrOf up hi lo) (fr .cand) f idx) (opened .0) (opened .1)) = settle-within max (m + 1) least up (fr .runs .«fsk_run») _ (opened .0) (opened .1) (open-runs-within max m _ up (fr .runs .«ft_run») (fr .early .«t_early») (fr .done) fsk d) in
+    let opened : Opening × List ℕ = openRunsOf max (isEarlyOf (fr .early) up hi lo (fr .runs .run .«t_run»)) up (fr .runs .run .«t_run») (fr .early .«t_early») (fr .done) fsk in
+    let s : StepWithin max (m + 1 + 1) (settleOf max least up (fr .runs .run .«run_len») (turnAtOf up (sliceThrOf up hi lo) (fr .cand) f idx) (opened .0) (opened .1)) = settle-within max (m + 1) least up (fr .runs .run .«run_len») _ (opened .0) (opened .1) (open-runs-within max m _ up (fr .runs .run .«t_run») (fr .early .«t_early») (fr .done) fsk d) in
     search arith

@@ -70,8 +70,8 @@ module _ (p : Settings) (least k m : ℕ) where
   track-within : (fr : Frame) (t : Tone) (idx : ℕ) (fsk : List ℕ) → FrameWithin (p .«max_pulses») least k m fr → SampleWithin (p .«max_pulses») least (k + 1) (m + 1 + 1) (trackOf p least fr t idx fsk)
   unfolding trackOf
   track-within fr t idx fsk h =
-      let s = run-step-within (p .«max_pulses») m least (fr .runs) (fr .done) (upperOf (eqb (fr .runs .«fsk_level») 1) (t .«f_prev») (sliceThrOf (eqb (fr .runs .«fsk_level») 1) (fr .levels .«f_hi») (fr .levels .«f_lo»)))
-      (edgeOf idx (crossOf (fr .tone .«f_prev») (t .«f_prev») (sliceThrOf (eqb (fr .runs .«fsk_level») 1) (fr .levels .«f_hi») (fr .levels .«f_lo»)))) fsk (h .runs-within) (h .done-within) in
+      let s = run-step-within (p .«max_pulses») m least (fr .runs) (fr .done) (upperOf (eqb (fr .runs .run .level) 1) (t .«f_prev») (sliceThrOf (eqb (fr .runs .run .level) 1) (fr .levels .«f_hi») (fr .levels .«f_lo»)))
+      (edgeOf idx (crossOf (fr .tone .«f_prev») (t .«f_prev») (sliceThrOf (eqb (fr .runs .run .level) 1) (fr .levels .«f_hi») (fr .levels .«f_lo»)))) fsk (h .runs-within) (h .done-within) in
       search arith
 
 pub sample-within : (k m : ℕ) (p : Settings) (fr : Frame) (high : Float) (d : C32) (e : Float) (idx : ℕ) (fsk : List ℕ) → FrameWithin (p .«max_pulses») (fskMinOf (p .«min_steps»)) k m fr → SampleWithin (p .«max_pulses») (fskMinOf (p .«min_steps»)) (k + 1) (m + 1 + 1) (fskSampleOf p fr high d e idx fsk)

@@ -1,6 +1,6 @@
 -- What a burst within the limits passes, and what leaves it within them: refusal 4's check says yes to it, and so it does to a burst that is new, cleared,
 -- ended, or has a new serial.
-use Prim.Native.Nat.{ℕ, _+_, _*_, _^_, _<_, _≤_}
+use Prim.Native.Nat.{ℕ, _+_, _^_, _<_, _≤_}
 use mathlib.Core.Bool.{Bool, true, false, not, _||_}
 use mathlib.Core.Path.{_≡_, refl}
 use mathlib.Core.List.{List}
@@ -11,6 +11,8 @@ use borrow.Author.Tests.{le-leb, lt-ltb, eqb-true}
 use Rattle.domain.specs.Limits.{maxCount, maxBound, maxSerial}
 use Rattle.types.specs.Core.{numbered}
 use Rattle.types.specs.Params.{fskMinOf}
+use Rattle.run.specs.Limits.{RunWithin}
+use Rattle.run.specs.declared.Run.{Run}
 use Rattle.ook.specs.Limits.{EnvWithin, TrainWithin, OutWithin}
 use Rattle.ook.proofs.Limits.{end-train-within}
 use Rattle.ook.specs.declared.Env.{Env}
@@ -24,13 +26,16 @@ use Rattle.burst.specs.declared.Burst.{Burst}
 use Rattle.reached.specs.Limits.{mostRuns, CommittedWithin, FrameWithin, PresWithin, Paired, BurstFits, BurstWithin, UnderWay}
 use Rattle.reached.proofs.FskSample.{fsk-min-above}
 use Rattle.refusals.proofs.Domain.{InDomain}
-use Rattle.refusals.specs.State.{envOk, trainOk, presOk, frameOk, outOk, burstOk, candOk}
-use Rattle.lane.specs.Idle.{noOut, noneDone, noBurst}
+use Rattle.refusals.specs.State.{runOk, envOk, trainOk, presOk, frameOk, outOk, burstOk, candOk}
+use Rattle.lane.specs.Idle.{noOut, noRun, noneDone, noBurst}
 use Rattle.lane.specs.Begin.{withFactor, clearedOf}
 use Rattle.lane.specs.Close.{endBurstOf}
 
+run-ok : (r : Run) → RunWithin r → runOk r ≡ true
+run-ok r h = simp (le-leb (r .level) 1 (h .level-flag), le-leb (r .confirmed) 1 (h .confirmed-flag))
+
 env-ok : (v : Env) → EnvWithin v → envOk v ≡ true
-env-ok v h = simp (le-leb (v .run .level) 1 (h .level-flag), le-leb (v .run .confirmed) 1 (h .confirmed-flag), le-leb (v .«ref_pending») 1 (h .pending-flag))
+env-ok v h = simp (run-ok (v .run) (h .run-within), le-leb (v .«ref_pending») 1 (h .pending-flag))
 
 train-ok : (max : ℕ) (t : Train) → TrainWithin max t → trainOk max t ≡ true
 train-ok max t h = simp (le-leb (t .started) 1 (h .started-flag), le-leb (t .«open») 1 (h .open-flag), le-leb (t .truncated) 1 (h .truncated-flag), le-leb (t .«ook_n» + t .«open») max (h .pulses), le-leb (t .bound) maxBound (h .bounded))
@@ -39,7 +44,7 @@ out-ok : (max : ℕ) (o : Out) → OutWithin max o → outOk o ≡ true
 out-ok max o h = simp (le-leb (o .state) 1 (h .state-flag), le-leb (o .cut) 1 (h .cut-flag), le-leb (o .fsk) 1 (h .kind-flag), le-leb (o .serial) maxSerial (h .numbered))
 
 pres-ok : (q : Pres) → PresWithin q → presOk q ≡ true
-pres-ok q h = simp (le-leb (q .«p_level») 1 (h .level-flag), le-leb (q .«p_confirmed») 1 (h .confirmed-flag))
+pres-ok q h = run-ok (q .run) h
 
 frame-ok : (max least k m : ℕ) (f : Frame) → k ≤ maxCount → m ≤ maxCount → FrameWithin max least k m f → frameOk max f ≡ true
 unfolding frameOk
@@ -48,8 +53,7 @@ frame-ok max least k m f i j h =
       le-leb (f .«fsk_phase») 1 (h .phase-flag),
       le-leb (f .mean .«fsk_cnt») maxCount (omega (arith, h .count)),
       le-leb (f .early .early) 1 (h .early-flag),
-      le-leb (f .runs .«fsk_level») 1 (h .runs-within .level-flag),
-      le-leb (f .runs .«fsk_confirmed») 1 (h .runs-within .confirmed-flag),
+      run-ok (f .runs .run) (h .runs-within .run-within),
       le-leb (f .runs .«fsk_has_prev») 1 (h .runs-within .has-prev-flag),
       le-leb (f .done .«fsk_open») 1 (h .done-within .open-flag),
       le-leb (f .done .«fsk_full») 1 (h .done-within .full-flag),
@@ -86,24 +90,27 @@ no-out max = record { state-flag = omega arith; cut-flag = omega arith; kind-fla
 none-done : (max m : ℕ) → CommittedWithin max m noneDone
 none-done max m = record { open-flag = omega arith; full-flag = omega arith; pairs = omega arith; runs-most = omega arith }
 
+no-run : RunWithin noRun
+no-run = record { level-flag = omega arith; confirmed-flag = omega arith }
+
 pub none-within : (p : Settings) → BurstWithin p noBurst
 unfolding noBurst
 none-within p =
     record {
       fits = record {
-        env-within = record { level-flag = omega arith; confirmed-flag = omega arith; pending-flag = omega arith };
+        env-within = record { run-within = no-run; pending-flag = omega arith };
         train-within = record { started-flag = omega arith; open-flag = omega arith; truncated-flag = omega arith; pulses = omega arith; bounded = omega arith };
         ook-within = no-out (p .«max_pulses»);
         fsk-within = no-out (p .«max_pulses»);
         pairs = none-done (p .«max_pulses») 0;
       };
-      pres-within = record { level-flag = omega arith; confirmed-flag = omega arith };
+      pres-within = no-run;
       frame-within = record {
         phase-flag = omega arith;
         early-flag = omega arith;
         candidates = λ q. fsk-min-above (p .«min_steps»);
         count = omega arith;
-        runs-within = record { level-flag = omega arith; confirmed-flag = omega arith; has-prev-flag = omega arith };
+        runs-within = record { run-within = no-run; has-prev-flag = omega arith };
         done-within = none-done (p .«max_pulses») (mostRuns (p .«long_steps»));
       };
     }

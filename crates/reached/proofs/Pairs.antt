@@ -18,7 +18,9 @@ use Rattle.ook.proofs.Limits.{empty-within, begin-env-within}
 use Rattle.ook.specs.Limits.{EnvWithin, TrainWithin, OutWithin}
 use Rattle.types.specs.declared.Settings.{Settings}
 use Rattle.types.specs.declared.Out.{Out}
-use Rattle.fsk.specs.RunStep.{lengthenOf, beginRunOf, confirmOf, confirmDueOf, fskRunStepOf}
+use Rattle.fsk.specs.RunStep.{lengthenOf, confirmOf, confirmDueOf, moveRunsOf, fskRunStepOf}
+use Rattle.run.specs.Run.{dueOf}
+use Rattle.run.specs.declared.Run.{Run}
 use Rattle.fsk.specs.Resolve.{beginFrameOf, isEarlyOf, openRunsOf, turnAtOf, sliceThrOf, hiLoOf, settleOf, fskResolveOf}
 use Rattle.fsk.specs.declared.Committed.{Committed}
 use Rattle.fsk.specs.declared.Runs.{Runs}
@@ -74,21 +76,17 @@ module _ (max : ℕ) where
   unfolding confirmOf
   confirm-paired r c upper fsk h =
       either (RanPaired max) (eqb (r .«fsk_has_prev») 1)
-      (paired (commit-within max (c .«fsk_runs») c (not upper) (r .«ft_prev») (r .«ft_run») fsk h))
+      (paired (commit-within max (c .«fsk_runs») c (not upper) (r .run .«t_prev») (r .run .«t_run») fsk h))
       h
 
   confirm-due-paired : (least : ℕ) (r : Runs) (c : Committed) (upper : Bool) (fsk : List ℕ) → Paired max c → RanPaired max (confirmDueOf max least r c upper fsk)
   unfolding confirmDueOf
   confirm-due-paired least r c upper fsk h =
-      either (RanPaired max) (eqb (r .«fsk_confirmed») 0) (either (RanPaired max) (leb least (r .«fsk_run»)) (confirm-paired r c upper fsk h) h) h
+      either (RanPaired max) (dueOf (r .run) least) (confirm-paired r c upper fsk h) h
 
   run-step-paired : (least : ℕ) (r : Runs) (c : Committed) (upper : Bool) (tc : Float) (fsk : List ℕ) → Paired max c → RanPaired max (fskRunStepOf max least r c upper tc fsk)
   unfolding fskRunStepOf
-  run-step-paired least r c upper tc fsk h =
-      let begun : RanPaired max (confirmDueOf max least (beginRunOf r (bit upper) tc) c upper fsk) = confirm-due-paired least (beginRunOf r (bit upper) tc) c upper fsk h in
-      either (RanPaired max) (eqb (bit upper) (r .«fsk_level»))
-      (confirm-due-paired least (lengthenOf r) c upper fsk h)
-      (either (RanPaired max) (eqb (r .«fsk_confirmed») 0) (either (RanPaired max) (eqb (r .«fsk_has_prev») 1) h begun) begun)
+  run-step-paired least r c upper tc fsk h = confirm-due-paired least (moveRunsOf _ _ r (bit upper) tc) c upper fsk h
 
   resolve-paired : (least : ℕ) (fr : Frame) (f : Float) (idx : ℕ) (fsk : List ℕ) → Paired max (fr .done) → FramePaired max (fskResolveOf max least fr f idx fsk)
   unfolding fskResolveOf
@@ -96,9 +94,9 @@ module _ (max : ℕ) where
       let up : Bool = lt f (fr .mean .«f_ref») in
       let hi : Float = hiLoOf up (fr .mean .«f_ref») f .«f_hi» in
       let lo : Float = hiLoOf up (fr .mean .«f_ref») f .«f_lo» in
-      let opened : Opening × List ℕ = openRunsOf max (isEarlyOf (fr .early) up hi lo (fr .runs .«ft_run»)) up (fr .runs .«ft_run») (fr .early .«t_early») (fr .done) fsk in
+      let opened : Opening × List ℕ = openRunsOf max (isEarlyOf (fr .early) up hi lo (fr .runs .run .«t_run»)) up (fr .runs .run .«t_run») (fr .early .«t_early») (fr .done) fsk in
       let m : ℕ = fr .done .«fsk_runs» in
-      let s : StepWithin max (m + 1 + 1) (settleOf max least up (fr .runs .«fsk_run») (turnAtOf up (sliceThrOf up hi lo) (fr .cand) f idx) (opened .0) (opened .1)) = settle-within max (m + 1) least up (fr .runs .«fsk_run») _ (opened .0) (opened .1) (open-runs-within max m _ up (fr .runs .«ft_run») (fr .early .«t_early») (fr .done) fsk h) in
+      let s : StepWithin max (m + 1 + 1) (settleOf max least up (fr .runs .run .«run_len») (turnAtOf up (sliceThrOf up hi lo) (fr .cand) f idx) (opened .0) (opened .1)) = settle-within max (m + 1) least up (fr .runs .run .«run_len») _ (opened .0) (opened .1) (open-runs-within max m _ up (fr .runs .run .«t_run») (fr .early .«t_early») (fr .done) fsk h) in
       paired (s .done-within)
 
   away-paired : (least : ℕ) (fr : Frame) (t : Tone) (m : Mean) (c : Cand) (idx : ℕ) (fsk : List ℕ) → Paired max (fr .done) → FramePaired max (awayOf max least fr t m c idx fsk)
@@ -160,20 +158,19 @@ module _ (p : Settings) (fits : p .«max_pulses» < 2 ^ 32) where
 
   -- ---- presence
 
-  move-paired : (s : Pres) (on : Bool) (level : ℕ) (tc : Float) (fr : Frame) → Paired max (fr .done) → Paired max (moveFrameOf s on level tc fr .done)
+  move-paired : (same short on : Bool) (n : ℕ) (tc : Float) (fr : Frame) → Paired max (fr .done) → Paired max (moveFrameOf same short on n tc fr .done)
   unfolding moveFrameOf extendOf beginFrameOf
-  move-paired s on level tc fr h =
-      let same : Frame → Type 0 = λ (q : Frame). Paired max (q .done) in
-      either same (eqb level (s .«p_level»)) h
-      (either same (eqb (s .«p_confirmed») 0) (either same on h h) (either same on (search arith) h))
+  move-paired same short on n tc fr h =
+      let kept : Frame → Type 0 = λ (q : Frame). Paired max (q .done) in
+      either kept same h (either kept short (either kept on h h) (either kept on (search arith) h))
 
   slice-paired : (a : Inputs) (on : Bool) (fr : Frame) (fsk : List ℕ) → Paired max (fr .done) → FramePaired max (sliceIfOf p a on fr fsk)
   unfolding sliceIfOf
   slice-paired a on fr fsk h = either (FramePaired max) on (sample-paired p fr (a .high) (a .d) (a .e) (a .idx) fsk h) h
 
-  end-if-fits : (ends : Bool) (a : Inputs) (s : Pres) (b : Body) (ook fsk : List ℕ) → BodyFits max b → DoneFits max (endIfOf ends p a s b ook fsk)
+  end-if-fits : (ends : Bool) (a : Inputs) (s : Run) (b : Body) (ook fsk : List ℕ) → BodyFits max b → DoneFits max (endIfOf ends p a s b ook fsk)
   unfolding endIfOf
-  end-if-fits ends a s b ook fsk h = either (DoneFits max) ends (frame-done-fits b (a .high) (a .pac) (s .«p_t_prev») _ ook fsk h) h
+  end-if-fits ends a s b ook fsk h = either (DoneFits max) ends (frame-done-fits b (a .high) (a .pac) (s .«t_prev») _ ook fsk h) h
 
   end-carrier-fits : (a : Inputs) (t : Float) (b : Body) (ook fsk : List ℕ) → BodyFits max b → DoneFits max (endCarrierOf p a t b ook fsk)
   unfolding endCarrierOf
@@ -190,12 +187,12 @@ module _ (p : Settings) (fits : p .«max_pulses» < 2 ^ 32) where
 
   carrier-fits : (a : Inputs) (on : Bool) (s : Pres) (b : Body) (ook fsk : List ℕ) → BodyFits max b → PresentFits (carrierIfOf p a on s b ook fsk)
   unfolding carrierIfOf
-  carrier-fits a on s b ook fsk h = either PresentFits (longOf on (s .«p_run») (p .«long_steps»)) (end-carrier-fits a (s .«p_t_run») b ook fsk h) h
+  carrier-fits a on s b ook fsk h = either PresentFits (longOf on (s .run .«run_len») (p .«long_steps»)) (end-carrier-fits a (s .run .«t_run») b ook fsk h) h
 
   presence-fits : (a : Inputs) (s : Pres) (b : Body) (ook fsk : List ℕ) → BodyFits max b → PresentFits (presenceOf p a s b ook fsk)
   unfolding presenceOf advanceOf
   presence-fits a s b ook fsk h =
-      let f = slice-paired a _ _ fsk (move-paired s _ _ _ (b .frame) (h .pairs)) in
+      let f = slice-paired a _ _ fsk (move-paired _ _ _ _ _ (b .frame) (h .pairs)) in
       carrier-fits a _ _ _ _ _ (end-if-fits _ a _ _ ook _ (record { pairs = f; train-within = h .train-within; ook-within = h .ook-within; fsk-within = h .fsk-within }))
 
 -- ---- a sample of a burst
@@ -242,15 +239,15 @@ module _ (p : Settings) (fits : p .«max_pulses» < 2 ^ 32) where
   unfolding snapIfOf snapOf
   snap-if-paired began on tc s fr h =
       let same : Snapped → Type 0 = λ (q : Snapped). Paired (p .«max_pulses») (q .frame .done) in
-      either same began (either same on (either same (nearStartOf (s .«p_level») (fr .«fsk_phase») (fr .done .«fsk_runs») (sub binary64 tc (s .«p_t_run»))) h h) h) h
+      either same began (either same on (either same (nearStartOf (s .run .level) (fr .«fsk_phase») (fr .done .«fsk_runs») (sub binary64 tc (s .run .«t_run»))) h h) h) h
 
   pub sample-fits : (a : At) (ring : List Float) (b : Burst) (ook fsk : List ℕ) → BurstFits (p .«max_pulses») b → SampledFits (p .«max_pulses») (sampleOf p a ring b ook fsk)
   unfolding sampleOf
   sample-fits a ring b ook fsk h =
       let s : Seen = seeOf p a ring (b .high) (b .«e_prev») (b .env) (b .pac) in
-      acted-fits a b s (snapIfOf (s .began) (s .on) (s .env .times .«c_run») (b .pres) (b .frame)) fsk (actOf p s (b .train) (b .«out_ook») ook) h
+      acted-fits a b s (snapIfOf (s .began) (s .on) (s .env .«c_run») (b .pres) (b .frame)) fsk (actOf p s (b .train) (b .«out_ook») ook) h
       (act-within p fits s (b .train) (b .«out_ook») ook (see-within p a ring (b .high) (b .«e_prev») (b .env) (b .pac) (h .env-within)) (h .train-within) (h .ook-within))
-      (snap-if-paired (s .began) (s .on) (s .env .times .«c_run») (b .pres) (b .frame) (h .pairs))
+      (snap-if-paired (s .began) (s .on) (s .env .«c_run») (b .pres) (b .frame) (h .pairs))
 
   -- the replay of a lead-in
   pub replay-fits : (noise : Float) (ring : List Float) (l : Lead) (k i : ℕ) (q : Sampled × List ℕ × List ℕ) → SampledFits (p .«max_pulses») q → SampledFits (p .«max_pulses») (replayFrom p noise ring l k i q)

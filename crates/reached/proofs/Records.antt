@@ -27,7 +27,7 @@ use Rattle.burst.specs.Lead.{leadAddOf, largestOf, beginBurstOf, staying, repla
 use Rattle.reached.specs.Limits.{Paired, BurstFits}
 use Rattle.reached.proofs.Pairs.{SampledFits, sample-fits, replay-fits, begin-burst-fits}
 use Rattle.refusals.proofs.Domain.{InDomain, settings-tell}
-use Rattle.refusals.specs.State.{flag, envOk, trainOk, runsOk, committedOk, outOk, presOk, frameOk, burstOk}
+use Rattle.refusals.specs.State.{runOk, flag, envOk, trainOk, runsOk, committedOk, outOk, presOk, frameOk, burstOk}
 use Rattle.reached.proofs.Kept.{cleared-fits, ended-fits}
 use Rattle.lane.specs.declared.BeginArgs.{BeginArgs}
 use Rattle.lane.specs.declared.StepArgs.{StepArgs}
@@ -49,9 +49,9 @@ use Rattle.reached.proofs.Reached.{step-passes, close-passes}
 
 env-tells : (v : Env) → envOk v ≡ true → EnvWithin v
 env-tells v h =
-    let b = both-true (flag (v .run .level) && flag (v .run .confirmed)) (flag (v .«ref_pending»)) h in
+    let b = both-true (runOk (v .run)) (flag (v .«ref_pending»)) h in
     let a = both-true (flag (v .run .level)) (flag (v .run .confirmed)) (b .0) in
-    record { level-flag = leb-true _ _ (a .0); confirmed-flag = leb-true _ _ (a .1); pending-flag = leb-true _ _ (b .1) }
+    record { run-within = record { level-flag = leb-true _ _ (a .0); confirmed-flag = leb-true _ _ (a .1) }; pending-flag = leb-true _ _ (b .1) }
 
 four-true : (a b c d : Bool) → (a && b && c && d) ≡ true → (a ≡ true) × (b ≡ true) × (c ≡ true) × (d ≡ true)
 four-true a b c d h =
@@ -89,11 +89,11 @@ record Ready (l : Lane) : Type 0 where
 
 -- out of idle a lane has settings
 domain-tells : (had phase : ℕ) (p : Settings) → eqb phase 0 ≡ false → openedOk had phase p ≡ true → InDomain p
-domain-tells had phase p busy h = settings-tell p (opened-tells had phase p h (go (eqb had 0) (eqb phase 0) busy))
+domain-tells had phase p busy h = settings-tell p (opened-tells had phase p h (go (eqb had 0)))
   where
-    go : (a b : Bool) → b ≡ false → (a && b) ≡ false
-    go true b q = q
-    go false b q = refl
+    go : (a : Bool) → (a && eqb phase 0) ≡ false
+    go true = busy
+    go false = refl
 
 ready : (l : Lane) (s : StepArgs) (m n : ℕ) → stepRefusal l s m n ≡ 0 → Ready l
 ready l s m n e =

@@ -3,6 +3,7 @@
 -- most one counted sample and two committed runs for each sample of its presence.
 use Prim.Native.Nat.{ℕ, _+_, _*_, _<_, _≤_}
 use mathlib.Core.Path.{_≡_}
+use Rattle.run.specs.Limits.{RunWithin}
 use Rattle.fsk.specs.declared.Committed.{Committed}
 use Rattle.fsk.specs.declared.Runs.{Runs}
 use Rattle.fsk.specs.declared.Frame.{Frame}
@@ -24,8 +25,7 @@ pub record CommittedWithin (max m : ℕ) (c : Committed) : Type 0 where
   pub runs-most : c .«fsk_runs» ≤ m
 
 pub record RunsWithin (r : Runs) : Type 0 where
-  pub level-flag : r .«fsk_level» ≤ 1
-  pub confirmed-flag : r .«fsk_confirmed» ≤ 1
+  pub run-within : RunWithin (r .run)
   pub has-prev-flag : r .«fsk_has_prev» ≤ 1
 
 -- fsk_cnt is at most k
@@ -37,16 +37,15 @@ pub record FrameWithin (max least k m : ℕ) (fr : Frame) : Type 0 where
   pub runs-within : RunsWithin (fr .runs)
   pub done-within : CommittedWithin max m (fr .done)
 
-pub record PresWithin (s : Pres) : Type 0 where
-  pub level-flag : s .«p_level» ≤ 1
-  pub confirmed-flag : s .«p_confirmed» ≤ 1
+abbrev pub PresWithin : Pres → Type 0
+PresWithin s = RunWithin (s .run)
 
 -- presence and frame of a burst under way, for bounds max on the pairs, least on the candidates and long on the presence
 pub record Running (max least long : ℕ) (s : Pres) (fr : Frame) : Type 0 where
   pub flags : PresWithin s
   pub most : FrameWithin max least (long + 1) (mostRuns long) fr
-  pub present : s .«p_level» ≡ 1 → (s .«p_run» ≤ long) × FrameWithin max least (s .«p_run») (2 * s .«p_run») fr
-  pub absent : s .«p_level» ≡ 0 → s .«p_confirmed» ≡ 0 → (s .«p_prev» ≤ long) × FrameWithin max least (s .«p_prev») (2 * s .«p_prev») fr
+  pub present : s .run .level ≡ 1 → (s .run .«run_len» ≤ long) × FrameWithin max least (s .run .«run_len») (2 * s .run .«run_len») fr
+  pub absent : s .run .level ≡ 0 → s .run .confirmed ≡ 0 → (s .run .«prev_len» ≤ long) × FrameWithin max least (s .run .«prev_len») (2 * s .run .«prev_len») fr
 
 -- pairs plus open are at most max, whatever the count of runs
 abbrev pub Paired : ℕ → Committed → Type 0

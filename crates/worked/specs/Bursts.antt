@@ -11,9 +11,10 @@ use Rattle.arith.specs.Leaves.{absOf, midpointOf, flushOf, crossOf, nearestIn}
 use Rattle.arith.specs.Carry.{widthBy, carriedAt, boundOf}
 use Rattle.types.specs.Counts.{satAddOf, inc}
 use Rattle.ook.specs.Refine.{refineLevelOf, refineLoOf, excessOf, splitFrom, refineInOf, refineOf}
-use Rattle.ook.specs.Run.{lengthenOf, rejoinOf, beginRunOf, beginsOf, advanceOf as advanceRunOf, zeroIf, pacRunOf, beginEnvOf}
+use Rattle.run.specs.Run.{beginsOf, lengthenOf, rejoinOf, beginRunOf, movedOf, dueOf, startRunOf}
+use Rattle.ook.specs.Run.{advanceOf as advanceRunOf, zeroIf, pacRunOf, beginEnvOf}
 use Rattle.ook.specs.Train.{pushPulseOf, closeGapOf, emptyTrainOf, finishOf, endTrainOf, pulseDoneOf, gapRatioExceededOf}
-use Rattle.envelope.specs.Act.{dueOf, confirmIf, riseOf, fallOf, confirmOf, actOf}
+use Rattle.envelope.specs.Act.{confirmIf, riseOf, fallOf, confirmOf, actOf}
 use Rattle.envelope.specs.See.{thresholdOf, onOf, refineDueOf, highOf, pacOf, seeOf}
 use Rattle.envelope.specs.Tail.{carrierOf, goneOf, hasPulsesOf, gapOverOf, waitOf, tailOf}
 use Rattle.burst.specs.Lead.{leadAddOf, largestFrom, beginBurstOf, leadAtOf, replayFrom, replayOf, leadFullOf}
@@ -93,5 +94,5 @@ burstWith e es = burstBy 1000 4 e es
 
 -- what is printed of commands, with the program's buffers
 unfoldable pub printed : List ℕ → List ℕ
-unfolding listed printedOf called answerText decoded settingsOf carrySettingsOf beginArgsOf stepArgsOf historyBytes u32At u64At encode callText recordLine trainLine widths idleLine carrierLine refusedLine decimal leading hex8 snapOf nearStartOf roundOf narrowOf wholeRoot roundExact exactOf sqrtOf absOf midpointOf flushOf crossOf nearestIn widthBy carriedAt boundOf satAddOf inc refineLevelOf refineLoOf excessOf splitFrom refineInOf refineOf lengthenOf rejoinOf beginRunOf beginsOf advanceRunOf zeroIf pacRunOf beginEnvOf pushPulseOf closeGapOf emptyTrainOf finishOf endTrainOf pulseDoneOf gapRatioExceededOf dueOf confirmIf riseOf fallOf confirmOf actOf thresholdOf onOf refineDueOf highOf pacOf seeOf carrierOf goneOf hasPulsesOf gapOverOf waitOf tailOf leadAddOf largestFrom beginBurstOf leadAtOf replayFrom replayOf leadFullOf snapIfOf lastOf restOf sampleOf settingsOk unsetOk firstFailed frameOk burstOk leadOk candOk settleOf fillOf replayStep leadStep burstStep advanceOf replyOf phaseOf historyOf beginLeadOf clearedOf leadLane noBurst idleLane front namedOf partOf openedOk laneOk historyOk beginFloatsOk stepFloatsOk followsOf openRefusal beginRefusal stepRefusal closeRefusal stampOf idleWith endBurstOf closeOf newLane opened begun stepped closed add sub mul div neg lt le eq ofBits toBits ofInt toUnsigned isNan
+unfolding listed printedOf called answerText decoded settingsOf carrySettingsOf beginArgsOf stepArgsOf historyBytes u32At u64At encode callText recordLine trainLine widths idleLine carrierLine refusedLine decimal leading hex8 snapOf nearStartOf roundOf narrowOf wholeRoot roundExact exactOf sqrtOf absOf midpointOf flushOf crossOf nearestIn widthBy carriedAt boundOf satAddOf inc refineLevelOf refineLoOf excessOf splitFrom refineInOf refineOf lengthenOf rejoinOf beginRunOf movedOf startRunOf beginsOf advanceRunOf zeroIf pacRunOf beginEnvOf pushPulseOf closeGapOf emptyTrainOf finishOf endTrainOf pulseDoneOf gapRatioExceededOf dueOf confirmIf riseOf fallOf confirmOf actOf thresholdOf onOf refineDueOf highOf pacOf seeOf carrierOf goneOf hasPulsesOf gapOverOf waitOf tailOf leadAddOf largestFrom beginBurstOf leadAtOf replayFrom replayOf leadFullOf snapIfOf lastOf restOf sampleOf settingsOk unsetOk firstFailed frameOk burstOk leadOk candOk settleOf fillOf replayStep leadStep burstStep advanceOf replyOf phaseOf historyOf beginLeadOf clearedOf leadLane noBurst idleLane front namedOf partOf openedOk laneOk historyOk beginFloatsOk stepFloatsOk followsOf openRefusal beginRefusal stepRefusal closeRefusal stampOf idleWith endBurstOf closeOf newLane opened begun stepped closed add sub mul div neg lt le eq ofBits toBits ofInt toUnsigned isNan
 printed commands = listing (newLane, replicate 4096 0, replicate 4096 0) commands

@@ -16,9 +16,10 @@ use Rattle.types.specs.Counts.{bit, zeroC32}
 use Rattle.types.specs.declared.Out.{Out}
 use Rattle.types.specs.declared.Settings.{Settings}
 use Rattle.types.specs.declared.Carrier.the-variants.{Angle}
-use Rattle.ook.specs.Run.{runOf, timesOf, withRun, withTimes, withRef, rejoinOf}
+use Rattle.run.specs.Run.{runOf, rejoinOf}
+use Rattle.ook.specs.Run.{envOf}
 use Rattle.ook.specs.Train.{withFirst, withBound, withPairs, zeroSteps, pushPulseOf, endTrainOf}
-use Rattle.ook.specs.declared.Times.{Times}
+use Rattle.ook.specs.declared.Env.{Env}
 use Rattle.envelope.specs.Act.{riseOf, fallOf}
 use Rattle.envelope.specs.See.{onOf, refineDueOf}
 use Rattle.envelope.specs.Tail.{gapOverOf}
@@ -32,7 +33,7 @@ use Rattle.burst.specs.Lead.{leadAddOf, beginBurstOf, leadFullOf}
 use Rattle.burst.specs.Sample.{sampleOf}
 use Rattle.refusals.specs.Domain.{factorOk, roomOk}
 use Rattle.lane.specs.declared.Reply.the-variants.{Stay, Idle}
-use Rattle.lane.specs.Idle.{noEnv, noTrain, noOut, noneDone, noBurst, noLead}
+use Rattle.lane.specs.Idle.{noTrain, noOut, noneDone, noBurst, noLead}
 use Rattle.lines.specs.Line.{writtenCall}
 use Rattle.calls.specs.Turn.{slotsOf, answerText}
 use Rattle.worked.specs.Limits.{Field, phase, mode, «min_steps», carry, last, serial, laneOf, changed}
@@ -54,8 +55,8 @@ abbrev step : ℕ → Float
 step n = ofInt binary64 (pos n)
 
 -- a run's edge and the one before, each refined (t) and as the midpoint was crossed (c)
-abbrev edges : ℕ → ℕ → ℕ → ℕ → Times
-edges «t_run» «t_prev» «c_run» «c_prev» = timesOf (step «t_run») (step «t_prev») (step «c_run») (step «c_prev»)
+abbrev edges : ℕ → ℕ → ℕ → ℕ → Env
+edges «t_run» «t_prev» «c_run» «c_prev» = envOf (runOf 0 0 0 0 (step «t_run») (step «t_prev»)) (step «c_run») (step «c_prev») 0 0
 
 -- those of Limits, min_steps 2, gap_steps 4, max_pulses 4 and floats 0, with some fields changed
 abbrev settings : List (Field × ℕ) → Settings
@@ -76,11 +77,11 @@ decided kind = record { index = 0; end = 0; state = 1; cut = 0; pairs = 0; level
 
 -- with min_steps 2, whether the edge of a high run of n samples still waits for its refinement
 abbrev waits : ℕ → ℕ
-waits n = refineDueOf 2 sample5 ring one32 true (withRef 5 1 (withRun (runOf 1 n 0 0) noEnv)) .«ref_pending»
+waits n = refineDueOf 2 sample5 ring one32 true (envOf (runOf 1 n 0 0 zero64 zero64) zero64 zero64 5 1) .«ref_pending»
 
 -- the edge of a run from step t on after a glitch at step g has joined it
 abbrev joined : ℕ → ℕ → Float
-joined t g = rejoinOf (withTimes (edges g t g t) noEnv) true .times .«t_run»
+joined t g = rejoinOf (edges g t g t .run) 1 .«t_run»
 
 -- the index of a train whose first pulse crossed the midpoint at step c and has its edge at step t
 abbrev indexed : ℕ → ℕ → ℕ
@@ -109,11 +110,11 @@ early f = isEarlyOf (earlyOf f (step 2) 1) true one32 zero32 zero64
 
 -- the slots of a frame that ends at step 4, of a run from step 0 and one at the upper level from step 3, which does not count yet
 abbrev lastRun : List ℕ
-lastRun = lastRunOf 4 1 (runsOf (step 3) (step 0) 1 1 0 3 1) noneDone (step 4) (9 ∷ 9 ∷ []) .1
+lastRun = lastRunOf 4 1 (runsOf (runOf 1 1 0 3 (step 3) (step 0)) 1) noneDone (step 4) (9 ∷ 9 ∷ []) .1
 
 -- the start of a presence that begins with sample 5, over the threshold 0, where the envelope before was 0
 abbrev presenceStart : Float
-presenceStart = sampleOf (settings ((mode, 1) ∷ [])) sample5 ring (beginBurstOf one32 zero64 zero32 noBurst) [] [] .0 .burst .pres .«p_t_run»
+presenceStart = sampleOf (settings ((mode, 1) ∷ [])) sample5 ring (beginBurstOf one32 zero64 zero32 noBurst) [] [] .0 .burst .pres .run .«t_run»
 
 -- the level of a burst whose lead-in, of min_steps 1, has these three envelopes
 abbrev level : Float → Float → Float → Float

@@ -1,12 +1,14 @@
--- `fsk_sample::track` meets its contract: the definition over what the calls ensure. Assumes nothing.
 use Rattle.fsk_sample.specs.Sample.{trackOf}
+use Rattle.run.specs.Run.{edgeAt}
 use borrow.Author.Needs.{needs}
 use Rattle.fsk_sample.proofs.track.Statement.{statement}
 use Rattle.fsk_sample.proofs.track.Tie as tie
 
 returns : tie.Need-returns
-unfolding trackOf
-returns c = λ cs. simp (← c .before .before .before .before .before .before .before .before .slice-thr .ensures, ← c .before .before .before .before .before .before .before .upper-of .ensures, ← c .before .before .before .before .before .before .follow .ensures, ← c .before .before .before .before .fsk-run-step .ensures)
+unfolding trackOf edgeAt
+returns c =
+    let h = c .before .before .before .before in
+    λ cs. simp (← h .before .before .before .before .slice-thr .ensures, ← h .before .before .before .upper-of .ensures, ← h .before .before .follow .ensures, ← h .fsk-run-step .ensures)
 
 pub track-spec : {M : Type 1} → statement M
 track-spec =

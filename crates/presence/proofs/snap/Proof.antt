@@ -1,4 +1,3 @@
--- `presence::snap` meets its contract: at each branch the definition gives what the calls ensure. Assumes nothing.
 use Rattle.presence.specs.Presence.{snapOf}
 use borrow.Author.Needs.{needs}
 use Rattle.presence.proofs.snap.Statement.{statement}
@@ -6,7 +5,7 @@ use Rattle.presence.proofs.snap.Tie as tie
 
 returns : tie.Need-returns
 unfolding snapOf
-returns c = λ cs. simp (← c .before .before .near-start .ensures, c .before .if1 .taken)
+returns c = λ cs. simp (← c .before .before .before .near-start .ensures, c .before .before .if1 .taken)
 
 returns-2 : tie.Need-returns-2
 unfolding snapOf
