@@ -13,7 +13,7 @@ use Rattle.commands.specs.declared.Command.{Command}
 use Rattle.commands.specs.declared.Command.the-variants.{End, Open, Begin, Step, Unknown, Short, Close}
 use Rattle.commands.specs.Command.{stepArgsOf, decoded, sizeOf, isStepOf}
 use Rattle.commands.specs.Stream.{whole}
-use Rattle.types.proofs.Tests.{clash}
+use Rattle.shared.proofs.Tests.{clash}
 use Rattle.commands.proofs.Stream.{decoded-more, isEnd, a-step, some-there as some-decoded, size-fits as fits, step-there as step-in, long-front as front}
 use Rattle.addressed.specs.Addressed.{withoutAntenna, addressedOf, antennaOf, addressedSize}
 

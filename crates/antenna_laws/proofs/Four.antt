@@ -8,7 +8,7 @@ use native.Mathlib.Omega.{arith}
 use lib.ListN.{length, set}
 use lib.Dec.{leb, eqb}
 use borrow.Author.Tests.{leb-false, eqb-true, eq-eqb, ne-eqb}
-use Rattle.types.specs.declared.Settings.{Settings}
+use Rattle.shared.specs.declared.Settings.{Settings}
 use Rattle.lane.specs.declared.Lane.{Lane}
 use Rattle.lane.specs.declared.BeginArgs.{BeginArgs}
 use Rattle.lane.specs.declared.StepArgs.{StepArgs}

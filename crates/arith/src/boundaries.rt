@@ -78,7 +78,7 @@ pub fn carried_at(origin: f64, before: u64, t: f64) -> Carried
     }
 }
 
-// The width of an envelope run from a to b, with carry (1) or without.
+// How wide a pulse or gap between the edges a and b is: by boundaries where carry is 1, else by itself.
 pub fn width_by(carry: u32, origin: f64, before: u64, a: f64, b: f64) -> Carried
     ensures { λ r. ⌜ r ≡ widthBy carry origin before a b ⌝ }
 {

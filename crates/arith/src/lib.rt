@@ -235,14 +235,14 @@ pub fn whole(x: f64) -> u32
     to_u32(ieee::round(x))
 }
 
-// The width of an envelope run from a to b: within half a step of the measured one.
+// How wide a pulse or gap between two edges is, by itself: never off by more than half a step.
 pub fn width(a: f64, b: f64) -> Steps
     ensures { λ r. ⌜ r ≡ widthOf a b ⌝ }
 {
     Steps(whole(b - a))
 }
 
-// The width of a frequency run from a to b: the difference of the two rounded times, so that widths of neighbouring runs add up.
+// How wide a frequency run is. Both ends are rounded before they are subtracted, so that the widths of runs in a row give the whole.
 pub fn fsk_width(a: f64, b: f64) -> Steps
     ensures { λ r. ⌜ r ≡ fskWidthOf a b ⌝ }
 {
@@ -252,7 +252,7 @@ pub fn fsk_width(a: f64, b: f64) -> Steps
 // What is not above this counts as 0.
 const FLUSH: f32 = 1e-30;
 
-// The gain for the envelope e: 1 / e^2 rounded up to a power of two, by the exponent's field alone, with no division for each sample.
+// What brings a sample of this envelope near 1: a power of two at or above the square's inverse, read off the exponent's field, so that no sample costs a division.
 pub fn a_gain(e: f32) -> f32
     ensures { λ r. ⌜ r ≡ gainOf e ⌝ }
 {

@@ -6,8 +6,8 @@ use mathlib.Core.List.{List}
 use native.Mathlib.Omega.{arith}
 use lib.ListN.{getD}
 use lib.Ieee.{Float, nan, lt}
-use Rattle.types.specs.Answers.{isStayOf}
-use Rattle.types.specs.declared.Settings.{Settings}
+use Rattle.shared.specs.Answers.{isStayOf}
+use Rattle.shared.specs.declared.Settings.{Settings}
 use Rattle.burst.specs.declared.Lead.{Lead}
 use Rattle.burst.specs.declared.Sampled.{Sampled}
 use Rattle.burst.specs.Lead.{largestFrom, replayFrom}

@@ -6,8 +6,8 @@ use mathlib.Core.List.{List}
 use lib.ListN.{getD}
 use lib.Dec.{eqb}
 use lib.Ieee.{Float, nan}
-use Rattle.types.specs.Core.{wholeOut}
-use Rattle.types.specs.declared.Settings.{Settings}
+use Rattle.shared.specs.Core.{wholeOut}
+use Rattle.shared.specs.declared.Settings.{Settings}
 use Rattle.fsk.specs.Core.{wholeFrame}
 use Rattle.presence.specs.Presence.{presenceOf}
 use Rattle.presence.specs.declared.Present.{Present}

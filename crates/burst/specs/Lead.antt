@@ -8,13 +8,13 @@ use lib.Ieee.{Float, nan, binary64, lt, ofInt}
 use Rattle.ieee.specs.Constants.{zero32}
 use Rattle.arith.specs.Leaves.{leadLenOf}
 use Rattle.arith.specs.declared.C32.{C32}
-use Rattle.types.specs.Counts.{inc, zeroC32}
-use Rattle.types.specs.Answers.{isStayOf}
+use Rattle.shared.specs.Counts.{inc, zeroC32}
+use Rattle.shared.specs.Answers.{isStayOf}
 use Rattle.run.specs.Run.{startRunOf}
 use Rattle.ook.specs.Run.{beginEnvOf}
 use Rattle.ook.specs.Train.{emptyTrainOf}
-use Rattle.types.specs.declared.Settings.{Settings}
-use Rattle.types.specs.declared.Next.the-variants.{Stay}
+use Rattle.shared.specs.declared.Settings.{Settings}
+use Rattle.shared.specs.declared.Next.the-variants.{Stay}
 use Rattle.presence.specs.Move.{presOf}
 use Rattle.presence.specs.declared.Pres.{Pres}
 use Rattle.envelope.specs.declared.At.{At}

@@ -4,8 +4,8 @@ use mathlib.Core.Bool.{Bool, cond}
 use mathlib.Core.List.{List}
 use lib.Dec.{eqb}
 use lib.Ieee.{Float}
-use Rattle.types.specs.Answers.{isStayOf}
-use Rattle.types.specs.declared.Settings.{Settings}
+use Rattle.shared.specs.Answers.{isStayOf}
+use Rattle.shared.specs.declared.Settings.{Settings}
 use Rattle.ook.specs.declared.Done.{Done}
 use Rattle.fsk.specs.declared.Frame.{Frame}
 use Rattle.presence.specs.Presence.{snapOf, presenceOf}

@@ -27,10 +27,10 @@ use ook::Train;
 use presence::Inputs;
 use presence::Pres;
 use presence::SnappedCore;
-use types::Next;
-use types::Out;
-use types::OutCore;
-use types::Settings;
+use shared::Next;
+use shared::Out;
+use shared::OutCore;
+use shared::Settings;
 
 // The burst under way; what an earlier burst left stands in it too.
 pub struct Burst {
@@ -226,7 +226,7 @@ fn rest(
     let w = present(p, a, ep, s, b, cs, ook, fsk);
     let next = w.next;
     let n = w.burst;
-    let stay = types::is_stay(next);
+    let stay = shared::is_stay(next);
     if stay {
         let run = n.env.run;
         let absence = Absence {
@@ -264,7 +264,7 @@ pub fn sample(
     let d = envelope::act(p, s, t, o, ook);
     let next = d.next;
     let c = with_acted(a.e, s, n, d, b);
-    let stay = types::is_stay(next);
+    let stay = shared::is_stay(next);
     if stay {
         return rest(p, a, b.e_prev, s, c, cs, ook, fsk);
     }
@@ -292,7 +292,7 @@ pub fn largest(es: &[f32; 16], len: usize) -> f32
     m
 }
 
-// A burst without a pulse yet, at the time t.
+// A burst starts at t; it has no pulse yet.
 pub fn begin_burst(high: f32, t: f64, e: f32, b: BurstCore) -> BurstCore
     ensures { λ r. ⌜ ((cs : List Float) → wholeBurst cs r ≡ beginBurstOf high t e (wholeBurst cs b)) ⌝ }
 {
@@ -368,7 +368,7 @@ pub fn samples(
         let r = sample(p, a, ring, cur, cs, ook, fsk);
         next = r.next;
         cur = r.burst;
-        let stay = types::is_stay(next);
+        let stay = shared::is_stay(next);
         if !stay {
             break;
         }

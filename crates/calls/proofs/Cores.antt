@@ -21,7 +21,7 @@ use Rattle.lane.specs.Step.{newLane}
 use Rattle.lane.specs.Idle.{idleLane}
 use Rattle.reached.specs.Reached.{Sound, unopened, within}
 use Rattle.reached.proofs.Reached.{sound-ok, own-records}
-use Rattle.types.proofs.Tests.{clash}
+use Rattle.shared.proofs.Tests.{clash}
 use Rattle.calls.specs.Steps.{Took}
 
 -- a sound lane's records have its serial, so that its core and arrays join to it

@@ -8,8 +8,8 @@ use lib.ListN.{length, take, length-take}
 use lib.Seq.{sets}
 use lib.Dec.{eqb, ltb, leb}
 use borrow.Author.Tests.{ltb-false, leb-false, le-ltb, le-leb}
-use Rattle.types.specs.declared.Out.{Out}
-use Rattle.types.proofs.Tests.{clash}
+use Rattle.shared.specs.declared.Out.{Out}
+use Rattle.shared.proofs.Tests.{clash}
 use Rattle.lane.specs.declared.Lane.{Lane}
 use Rattle.lane.specs.declared.Reply.{Reply}
 use Rattle.lane.specs.declared.Reply.the-variants.{Refused, Stay, Idle, IdleAt}

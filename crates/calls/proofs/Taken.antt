@@ -7,7 +7,7 @@ use native.Mathlib.Omega.{arith}
 use lib.ListN.{length, take, drop, length-drop}
 use lib.Dec.{eqb}
 use borrow.Author.Tests.{not-true}
-use Rattle.types.proofs.Tests.{both-true, clash}
+use Rattle.shared.proofs.Tests.{both-true, clash}
 use Rattle.lane.specs.declared.Lane.{Lane}
 use Rattle.lane.specs.declared.Reply.{Reply}
 use Rattle.lane.specs.declared.Reply.the-variants as reply

@@ -6,7 +6,7 @@ use mathlib.Core.List.{List, _++_}
 use lib.ListN.{length, take}
 use lib.Dec.{eqb}
 use Rattle.ieee.specs.Constants.{zero32}
-use Rattle.types.specs.Counts.{zeroC32}
+use Rattle.shared.specs.Counts.{zeroC32}
 use Rattle.lane.specs.declared.Reply.{Reply}
 use Rattle.lane.specs.declared.Reply.the-variants as reply
 use Rattle.lane.specs.declared.StepArgs.{StepArgs}

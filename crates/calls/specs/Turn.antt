@@ -5,7 +5,7 @@ use mathlib.Core.Path.{_≡_}
 use mathlib.Core.List.{List, [], _++_}
 use lib.ListN.{length, take}
 use lib.Dec.{ltb}
-use Rattle.types.specs.declared.Out.{Out}
+use Rattle.shared.specs.declared.Out.{Out}
 use Rattle.lane.specs.declared.Lane.{Lane}
 use Rattle.lane.specs.declared.Answer.{Answer}
 use Rattle.lane.specs.declared.Reply.{Reply}

@@ -19,7 +19,7 @@ use lane::Lane;
 use lane::Reply;
 use lane::StepArgs;
 use lines::Written;
-use types::Out;
+use shared::Out;
 
 // ---- one command
 

@@ -7,8 +7,8 @@ use native.Mathlib.Omega.{arith}
 use lib.ListN.{length, drop}
 use borrow.Author.Tests.{le-ltb}
 use Rattle.words.proofs.Laws.{word-back, word64-back, float-back}
-use Rattle.types.specs.declared.Settings.{Settings}
-use Rattle.types.specs.Settings.{withCarry}
+use Rattle.shared.specs.declared.Settings.{Settings}
+use Rattle.shared.specs.Settings.{withCarry}
 use Rattle.lane.specs.declared.BeginArgs.{BeginArgs}
 use Rattle.lane.specs.declared.StepArgs.{StepArgs}
 use Rattle.commands.specs.declared.Command.the-variants.{Open, Begin, Step, Close}

@@ -7,8 +7,8 @@ use lib.Dec.{eqb, ltb}
 use Rattle.arith.specs.declared.C32.{C32}
 unfoldable pub use Rattle.words.specs.Words.{u32At, u64At}
 pub use Rattle.words.specs.Words.{f32At}
-use Rattle.types.specs.declared.Settings.{Settings}
-use Rattle.types.specs.Settings.{withCarry}
+use Rattle.shared.specs.declared.Settings.{Settings}
+use Rattle.shared.specs.Settings.{withCarry}
 use Rattle.lane.specs.declared.BeginArgs.{BeginArgs}
 use Rattle.lane.specs.declared.StepArgs.{StepArgs}
 use Rattle.lane.specs.declared.History.{History}

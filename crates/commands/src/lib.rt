@@ -4,14 +4,14 @@ ghost use mathlib.Core.Path.{_≡_};
 ghost use mathlib.Core.List.{_∷_};
 ghost use Prim.Native.Nat.{_+_, _≤_, _<_};
 ghost use lib.ListN.{length, drop};
-ghost use Rattle.commands.specs.Command.{pairAt, settingsOf, openingOf, beginArgsOf, stepArgsOf, decoded, openSize, sizeOf, isStepOf};
+ghost use Rattle.commands.specs.Command.{pairAt, historyOf, settingsOf, openingOf, beginArgsOf, stepArgsOf, decoded, openSize, sizeOf, isStepOf};
 ghost use mathlib.Core.Bool.{true};
 ghost use Rattle.commands.specs.declared.Command.the-variants.{Step};
 use arith::C32;
 use lane::BeginArgs;
 use lane::History;
 use lane::StepArgs;
-use types::Settings;
+use shared::Settings;
 
 pub enum Command {
     // Nothing is left.
@@ -68,11 +68,11 @@ fn settings_of(o: &[u8]) -> Settings
     }
 }
 
-fn begin_args(o: &[u8]) -> BeginArgs
+fn history_of(o: &[u8]) -> History
     requires { ⌜ 60 ≤ length (now o) ⌝ }
-    ensures { λ r. ⌜ r ≡ beginArgsOf (now (o .entry)) ⌝ }
+    ensures { λ r. ⌜ r ≡ historyOf (now (o .entry)) ⌝ }
 {
-    let history = History {
+    History {
         e1: words::f32_at(o, 32),
         e2: words::f32_at(o, 36),
         e3: words::f32_at(o, 40),
@@ -80,14 +80,20 @@ fn begin_args(o: &[u8]) -> BeginArgs
         e5: words::f32_at(o, 48),
         e6: words::f32_at(o, 52),
         e7: words::f32_at(o, 56),
-    };
+    }
+}
+
+fn begin_args(o: &[u8]) -> BeginArgs
+    requires { ⌜ 60 ≤ length (now o) ⌝ }
+    ensures { λ r. ⌜ r ≡ beginArgsOf (now (o .entry)) ⌝ }
+{
     BeginArgs {
         index: words::u64_at(o, 0),
         factor: words::f32_at(o, 8),
         envelope: words::f32_at(o, 12),
         x: pair_at(o, 16),
         before: pair_at(o, 24),
-        history,
+        history: history_of(o),
     }
 }
 

@@ -12,14 +12,14 @@ use Rattle.run.specs.declared.Run.{Run}
 use Rattle.run.proofs.Limits.{sure-within}
 use Rattle.ook.specs.declared.Env.{Env}
 use Rattle.ook.specs.declared.Train.{Train}
-use Rattle.types.specs.declared.Out.{Out}
+use Rattle.shared.specs.declared.Out.{Out}
 use Rattle.ook.specs.declared.Done.{Done}
-use Rattle.types.specs.declared.Settings.{Settings}
-use Rattle.types.specs.declared.Next.the-variants.{Idle, IdleAt}
-use Rattle.types.specs.Params.{refineAtOf}
+use Rattle.shared.specs.declared.Settings.{Settings}
+use Rattle.shared.specs.declared.Next.the-variants.{Idle, IdleAt}
+use Rattle.shared.specs.Params.{refineAtOf}
 use Rattle.ook.specs.Train.{withBound}
 use Rattle.ook.specs.Limits.{EnvWithin, TrainWithin, OutWithin, DoneWithin}
-use Rattle.types.proofs.Cases.{either}
+use Rattle.shared.proofs.Cases.{either}
 use Rattle.ook.proofs.Limits.{advance-within, close-gap-within, pulse-done-within, stay-within, end-within}
 use Rattle.envelope.specs.declared.At.{At}
 use Rattle.envelope.specs.declared.Seen.{Seen}

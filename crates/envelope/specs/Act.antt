@@ -10,8 +10,8 @@ use Rattle.arith.specs.Leaves.{stepOf}
 use Rattle.arith.specs.Carry.{widthBy}
 use Rattle.ook.specs.declared.Env.{Env}
 use Rattle.ook.specs.declared.Train.{Train}
-use Rattle.types.specs.declared.Out.{Out}
-use Rattle.types.specs.declared.Settings.{Settings}
+use Rattle.shared.specs.declared.Out.{Out}
+use Rattle.shared.specs.declared.Settings.{Settings}
 use Rattle.ook.specs.declared.Done.{Done}
 use Rattle.run.specs.Run.{withConfirmed, dueOf}
 use Rattle.ook.specs.Run.{withRun}

@@ -1,5 +1,5 @@
 -- The answer of a confirmation in the core, with the record that a caller sees (ook, specs/Core).
-use Rattle.types.specs.Core.{wholeOut}
+use Rattle.shared.specs.Core.{wholeOut}
 use Rattle.envelope.specs.declared.Acted.{Acted}
 use Rattle.envelope.specs.declared.ActedCore.{ActedCore}
 

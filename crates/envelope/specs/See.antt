@@ -8,9 +8,9 @@ use lib.Ieee.{Float, binary32, add, sub, mul, lt, le, ofBits}
 use Rattle.arith.specs.declared.C32.{C32}
 use Rattle.arith.specs.Leaves.{midpointOf, flushOf, crossOf, edgeOf, cmulConjOf}
 use Rattle.ook.specs.declared.Env.{Env}
-use Rattle.types.specs.declared.Settings.{Settings}
-use Rattle.types.specs.Params.{refineAtOf}
-use Rattle.types.specs.Counts.{bit}
+use Rattle.shared.specs.declared.Settings.{Settings}
+use Rattle.shared.specs.Params.{refineAtOf}
+use Rattle.shared.specs.Counts.{bit}
 use Rattle.run.specs.Run.{withStart, beginsOf}
 use Rattle.ook.specs.Run.{envOf, advanceOf, pacRunOf}
 use Rattle.ook.specs.Refine.{refineOf}

@@ -6,10 +6,10 @@ use lib.Dec.{ltb, eqb}
 use lib.Ieee.{Float}
 use Rattle.run.specs.declared.Run.{Run}
 use Rattle.ook.specs.declared.Train.{Train}
-use Rattle.types.specs.declared.Out.{Out}
-use Rattle.types.specs.declared.Settings.{Settings}
+use Rattle.shared.specs.declared.Out.{Out}
+use Rattle.shared.specs.declared.Settings.{Settings}
 use Rattle.ook.specs.declared.Done.{Done}
-use Rattle.types.specs.declared.Next.the-variants.{Stay, Idle, IdleAt}
+use Rattle.shared.specs.declared.Next.the-variants.{Stay, Idle, IdleAt}
 use Rattle.ook.specs.Train.{withStarted, endTrainOf, gapRatioExceededOf, stayBy, endBy}
 use Rattle.envelope.specs.declared.Absence.{Absence}
 

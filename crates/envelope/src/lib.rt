@@ -5,7 +5,7 @@ ghost use mathlib.Core.Path.{_≡_};
 ghost use Rattle.envelope.specs.See.{thresholdOf, onOf, refineDueOf, highOf, pacOf, seeOf};
 ghost use Rattle.envelope.specs.Act.{confirmIf, riseOf, fallOf, confirmOf, actOf};
 ghost use Rattle.envelope.specs.Core.{wholeActed};
-ghost use Rattle.types.specs.Core.{wholeOut};
+ghost use Rattle.shared.specs.Core.{wholeOut};
 ghost use Rattle.ook.specs.Core.{wholeDone};
 ghost use Rattle.envelope.specs.Tail.{carrierOf, goneOf, hasPulsesOf, gapOverOf, limitOf, waitOf, tailOf};
 use arith::C32;
@@ -14,10 +14,10 @@ use ook::Env;
 use ook::Train;
 use run::Crossing;
 use run::Run;
-use types::Next;
-use types::Out;
-use types::OutCore;
-use types::Settings;
+use shared::Next;
+use shared::Out;
+use shared::OutCore;
+use shared::Settings;
 
 // What a sample reads beside the burst and the ring: its index, the lead-in's, the noise, the
 // envelope, the sample and the one before.
@@ -65,6 +65,13 @@ pub struct Absence {
 
 // ---- see
 
+// Half the width of the hysteresis, as a part of the threshold.
+const HYSTERESIS: f32 = 0.125;
+
+// The signal level's step with each sample of a pulse.
+const HIGH_RATIO: f32 = 0.015625;
+
+// A level is left later than it is reached, so that noise at the threshold makes no runs.
 fn threshold(level: u32, t: f32, h: f32) -> f32
     ensures { λ r. ⌜ r ≡ thresholdOf level t h ⌝ }
 {
@@ -85,12 +92,13 @@ fn on_of(level: u32, e: f32, thr: f32) -> bool
     e > thr
 }
 
+// The edge of a run is refined once, when the run is long enough: a glitch is not refined.
 fn refine_due(min_steps: u32, a: At, ring: &[f32; 32], high: f32, on: bool, s: Env) -> Env
     ensures { λ r. ⌜ r ≡ refineDueOf «min_steps» a (now (ring .entry)) high on s ⌝ }
 {
     let waits = s.ref_pending == 1;
     if waits {
-        let long = s.run.run_len >= types::refine_at(min_steps);
+        let long = s.run.run_len >= shared::refine_at(min_steps);
         if long {
             let t = ook::refine(ring, min_steps, high, a.noise, on, a.lead_at, a.idx, s);
             let mut n = s;
@@ -103,13 +111,14 @@ fn refine_due(min_steps: u32, a: At, ring: &[f32; 32], high: f32, on: bool, s: E
     s
 }
 
+// Only samples over the upper threshold move the signal level: those of an edge would pull it down.
 fn high_of(on: bool, e: f32, upper: f32, high: f32) -> f32
     ensures { λ r. ⌜ r ≡ highOf on e upper high ⌝ }
 {
     if on {
         let above = e > upper;
         if above {
-            return arith::flush_denormal(high + 0.015625 * (e - high));
+            return arith::flush_denormal(high + HIGH_RATIO * (e - high));
         }
         return high;
     }
@@ -128,16 +137,17 @@ fn pac_of(on: bool, pac: C32, d: C32) -> C32
     pac
 }
 
+// The level, the run, its refinement, the signal level and the pulse's sum, in the Rust's order.
 pub fn see(p: Settings, a: At, ring: &[f32; 32], high: f32, e_prev: f32, s: Env, pac: C32) -> Seen
     ensures { λ r. ⌜ r ≡ seeOf p a (now (ring .entry)) high «e_prev» s pac ⌝ }
 {
     let t = arith::midpoint(a.noise, high);
-    let h = t * 0.125;
+    let h = t * HYSTERESIS;
     let level = s.run.level;
     let thr = threshold(level, t, h);
     let on = on_of(level, a.e, thr);
     let r = s.run;
-    let same = types::bit(on) == r.level;
+    let same = shared::bit(on) == r.level;
     let short = r.confirmed == 0;
     let began = run::begins(same, short);
     let c = Crossing {
@@ -256,6 +266,7 @@ fn confirm(
     }
 }
 
+// A run that has lasted min_steps counts from this sample on.
 pub fn act(p: Settings, s: Seen, t: Train, out: OutCore, ook: &mut [u32]) -> ActedCore
     ensures { λ r. ⌜ (wholeActed r, now (ook .exit)) ≡ actOf p s t (wholeOut out) (now (ook .entry)) ⌝ }
 {

@@ -9,9 +9,8 @@ ghost use lib.Ieee.{binary64, toBits};
 ghost use Rattle.fit.specs.Slots.{timeOf, slotBefore, lastRise, upTo, turned};
 ghost use Rattle.fit.specs.Fit.{symbolsOf, kAfter, fitStep, sumsOf, lineWith, lineOf, fitOf, runAfter, checkStep, checkOf, secondOf, Known, gridFitOf};
 
-// The largest distance of a transition from the grid of the symbol clock of a frame, and of the length of a run from its
-// whole number of symbols, as fractions of the symbol. (The slicer delays the two kinds of transition in opposite
-// directions, so a run is off by up to twice as much as a transition.)
+// How far a transition may lie from its place on the symbol clock, and a run's length from its number of symbols, in symbols.
+// Rising and falling transitions come late by different amounts, and a run has one of each: hence more for a run.
 const GRID_TOL: f64 = 0.25;
 
 const RUN_TOL: f64 = 0.4;
@@ -60,7 +59,7 @@ pub fn last_rise(slots: &[u32]) -> usize
 
 // ---- the fit of a line
 
-// The symbols of a run of d steps for the symbol t steps long (at least 1).
+// How many symbols of t steps a run of d steps stands for, to the nearest and at least one.
 pub fn symbols(d: f64, t: f64) -> f64
     ensures { λ r. ⌜ r ≡ symbolsOf d t ⌝ }
 {
@@ -258,8 +257,8 @@ fn check_turn(c: Check, before: u32, v: u32, a: f64, t: f64) -> Check
     c
 }
 
-// The grid a + k t where every transition is near its grid point and every run near its whole number of symbols. It ends
-// at the first that is not: the answer is known then.
+// The grid a + k t, if all transitions and all runs keep within the two limits. The first that does not ends the loop: the answer is known
+// then.
 fn grid_check(slots: &[u32], last: usize, a: f64, t: f64) -> Grid
     requires { ⌜ last ≤ length (now slots) ⌝ }
     ensures { λ r. ⌜ r ≡ checkOf (upTo last (now (slots .entry))) a t ⌝ }
@@ -315,9 +314,9 @@ fn same(t: f64, u: f64) -> bool
     ieee::bits_of_f64(t) == ieee::bits_of_f64(u)
 }
 
-// The least-squares grid of the transitions for the symbol length guess: every run between two transitions is a whole
-// number of symbols, rounded with guess, then once more with the fitted symbol. Where the first fit has the symbol of
-// the mean's first fit, the second is the mean's too, and its grid is known.
+// The grid by least squares: the guess tells how many symbols each run has, a line through the transitions gives a better symbol, and with
+// that one the runs are counted and fitted again. Where the first fit has the symbol of the mean's first fit, the second is the mean's
+// too, and its grid is known.
 pub fn grid_fit(slots: &[u32], last: usize, mean: Fitted, guess: f64) -> Grid
     requires { ⌜ Known (now slots) last mean ⌝ }
     ensures { λ r. ⌜ r ≡ gridFitOf (upTo last (now (slots .entry))) guess ⌝ }

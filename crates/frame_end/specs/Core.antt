@@ -1,7 +1,7 @@
 -- The structs of the core that hold a frame, with the candidates and the record that a caller sees: whole ones.
 use mathlib.Core.List.{List}
 use lib.Ieee.{Float}
-use Rattle.types.specs.Core.{wholeOut}
+use Rattle.shared.specs.Core.{wholeOut}
 use Rattle.fsk.specs.Core.{wholeFrame}
 use Rattle.frame_end.specs.Done.{bodyOf}
 use Rattle.frame_end.specs.declared.Framed.{Framed}

@@ -9,7 +9,7 @@ use lib.Ieee.{Float, binary64, add, sub, le, ofBits, ofInt}
 use Rattle.arith.specs.Leaves.{stepOf}
 use Rattle.ook.specs.Train.{withPairs, withEnd, emptyTrainOf, endTrainOf}
 use Rattle.ook.specs.declared.Train.{Train}
-use Rattle.types.specs.declared.Out.{Out}
+use Rattle.shared.specs.declared.Out.{Out}
 use Rattle.ook.specs.declared.Ended.{Ended}
 use Rattle.frame_end.specs.declared.Kept.{Kept}
 

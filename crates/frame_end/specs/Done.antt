@@ -5,11 +5,11 @@ use mathlib.Core.List.{List}
 use lib.Dec.{eqb}
 use lib.Ieee.{Float}
 use Rattle.arith.specs.declared.C32.{C32}
-use Rattle.types.specs.Counts.{satAddOf}
+use Rattle.shared.specs.Counts.{satAddOf}
 use Rattle.ook.specs.declared.Train.{Train}
-use Rattle.types.specs.declared.Out.{Out}
+use Rattle.shared.specs.declared.Out.{Out}
 use Rattle.ook.specs.declared.Ended.{Ended}
-use Rattle.types.specs.declared.Settings.{Settings}
+use Rattle.shared.specs.declared.Settings.{Settings}
 use Rattle.fsk.specs.declared.Frame.{Frame}
 use Rattle.frame_end.specs.End.{endFrameOf}
 use Rattle.frame_end.specs.Cut.{cutTrainOf}

@@ -8,11 +8,11 @@ use lib.Ieee.{Float, binary32, sub, le}
 use Rattle.arith.specs.Leaves.{midpointOf, stepOf}
 use Rattle.arith.specs.declared.C32.{C32}
 use Rattle.grid.specs.Widths.{fskWidthsOf}
-use Rattle.types.specs.Counts.{inc, bit}
-use Rattle.types.specs.declared.Out.{Out}
-use Rattle.types.specs.declared.Settings.{Settings}
-use Rattle.types.specs.declared.Carrier.{Carrier}
-use Rattle.types.specs.declared.Carrier.the-variants.{Angle, Vector}
+use Rattle.shared.specs.Counts.{inc, bit}
+use Rattle.shared.specs.declared.Out.{Out}
+use Rattle.shared.specs.declared.Settings.{Settings}
+use Rattle.shared.specs.declared.Carrier.{Carrier}
+use Rattle.shared.specs.declared.Carrier.the-variants.{Angle, Vector}
 use Rattle.fsk.specs.Makers.{withPairs, withDone}
 use Rattle.fsk.specs.Commit.{putEndOf, fskCommitOf}
 use Rattle.fsk.specs.declared.Committed.{Committed}

@@ -5,7 +5,7 @@ ghost use lib.ListN.{getD};
 ghost use Rattle.frame_end.specs.End.{isSplitOf, enoughRunsOf, isFrameOf, lastRunOf, closePairOf, widthsInOf, carrierOf, outOf, endFrameOf};
 ghost use Rattle.frame_end.specs.Cut.{gapAtOf, keepNextOf, keepBeforeOf, startKeptOf, cutTrainOf};
 ghost use Rattle.frame_end.specs.Done.{frameDoneOf};
-ghost use Rattle.types.specs.Core.{carrierIn, wholeOut};
+ghost use Rattle.shared.specs.Core.{carrierIn, wholeOut};
 ghost use Rattle.ook.specs.Core.{wholeEnded};
 ghost use Rattle.fsk.specs.Core.{wholeFrame};
 ghost use Rattle.frame_end.specs.Core.{wholeFramed, wholeBody};
@@ -18,10 +18,10 @@ use fsk::FrameCore;
 use fsk::Runs;
 use ook::EndedCore;
 use ook::Train;
-use types::Flat;
-use types::Out;
-use types::OutCore;
-use types::Settings;
+use shared::Flat;
+use shared::Out;
+use shared::OutCore;
+use shared::Settings;
 
 // Whether a presence was a frame, the frame, and the record of frames.
 pub struct Framed {
@@ -74,7 +74,7 @@ fn is_split(phase: u32, hi: f32, lo: f32, least: f32) -> bool
 fn enough_runs(runs: u32, has: u32) -> bool
     ensures { λ r. ⌜ r ≡ enoughRunsOf runs has ⌝ }
 {
-    let n = std::num::wrapping_add_u32(types::inc(runs), has);
+    let n = std::num::wrapping_add_u32(shared::inc(runs), has);
     n >= 4
 }
 
@@ -117,7 +117,7 @@ fn close_pair(c: Committed, fsk: &mut [u32]) -> Committed
     let waits = c.fsk_open == 1;
     if waits {
         fsk::put_end(fsk, 2 * (c.fsk_n as usize) + 1, c.f_origin, c.f_last);
-        let n = types::inc(c.fsk_n);
+        let n = shared::inc(c.fsk_n);
         let mut d = c;
         d.fsk_n = n;
         d.fsk_open = 0;
@@ -141,9 +141,9 @@ fn carrier_of(phase: u32, hi: f32, lo: f32, pac: C32) -> Flat
     let after = phase == 1;
     if after {
         let m = arith::midpoint(hi, lo);
-        return types::angle(m);
+        return shared::angle(m);
     }
-    types::vector(pac.re, pac.im)
+    shared::vector(pac.re, pac.im)
 }
 
 fn out_of(start: f64, end: f64, c: Committed, high: f32, carrier: Flat) -> OutCore
@@ -151,7 +151,7 @@ fn out_of(start: f64, end: f64, c: Committed, high: f32, carrier: Flat) -> OutCo
 {
     let i = arith::step_of(start);
     let e = arith::step_of(end);
-    let cut = types::bit(c.fsk_full == 1);
+    let cut = shared::bit(c.fsk_full == 1);
     OutCore {
         index: i,
         end: e,
@@ -305,7 +305,7 @@ pub fn frame_done(
     n.out_fsk = fo;
     let yes = f.is_fsk == 1;
     if yes {
-        let k = types::sat_add(b.frames, 1);
+        let k = shared::sat_add(b.frames, 1);
         n.frames = k;
         let auto = p.mode == 2;
         if auto {

@@ -7,7 +7,7 @@ use lib.Dec.{ltb, leb, eqb}
 use lib.Ieee.{Float, nan, binary32, binary64, add, sub, mul, div, lt, le, ofBits}
 use Rattle.ieee.specs.Constants.{zero32, one32}
 use Rattle.arith.specs.Leaves.{midpointOf, edgeOf, crossOf, absOf}
-use Rattle.types.specs.Counts.{bit, zeroC32}
+use Rattle.shared.specs.Counts.{bit, zeroC32}
 use Rattle.run.specs.Run.{runOf, startRunOf}
 use Rattle.fsk.specs.Commit.{fskCommitOf}
 use Rattle.fsk.specs.Makers.{committedOf, runsOf, ranOf, ranBy, levelsOf, meanOf, candOf, earlyOf, frameOf, withRan}

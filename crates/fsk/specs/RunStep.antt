@@ -4,7 +4,7 @@ use mathlib.Core.Bool.{Bool, false, cond, not}
 use mathlib.Core.List.{List}
 use lib.Dec.{eqb}
 use lib.Ieee.{Float}
-use Rattle.types.specs.Counts.{bit}
+use Rattle.shared.specs.Counts.{bit}
 use Rattle.run.specs.Run.{withConfirmed, movedOf, dueOf}
 use Rattle.run.specs.Run as run
 use Rattle.fsk.specs.Commit.{fskCommitOf}

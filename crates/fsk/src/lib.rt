@@ -124,7 +124,7 @@ fn count_run(c: Committed, a: f64) -> Committed
     ensures { λ r. ⌜ r ≡ countRunOf c a ⌝ }
 {
     let o = origin_of(c.fsk_runs, a, c.f_origin);
-    let n = types::inc(c.fsk_runs);
+    let n = shared::inc(c.fsk_runs);
     let mut d = c;
     d.f_origin = o;
     d.fsk_runs = n;
@@ -136,7 +136,7 @@ pub fn put_end(fsk: &mut [u32], i: usize, origin: f64, t: f64)
     ensures { λ _. ⌜ now (fsk .exit) ≡ putEndOf (now (fsk .entry)) i origin t ⌝ }
 {
     let v = arith::run_fix(t - origin);
-    types::put(fsk, i, v.0);
+    shared::put(fsk, i, v.0);
 }
 
 fn upper_run(max: u32, c: Committed, b: f64, fsk: &mut [u32]) -> Committed
@@ -160,7 +160,7 @@ fn close_pair(c: Committed, b: f64, fsk: &mut [u32]) -> Committed
     ensures { λ r. ⌜ (r, now (fsk .exit)) ≡ closePairOf c b (now (fsk .entry)) ⌝ }
 {
     put_end(fsk, 2 * (c.fsk_n as usize) + 1, c.f_origin, b);
-    let n = types::inc(c.fsk_n);
+    let n = shared::inc(c.fsk_n);
     let mut d = c;
     d.fsk_n = n;
     d.fsk_open = 0;
@@ -274,7 +274,7 @@ pub fn fsk_run_step(
 ) -> Ran
     ensures { λ s. ⌜ (s, now (fsk .exit)) ≡ fskRunStepOf max «fsk_min» r done upper (edgeAt c) (now (fsk .entry)) ⌝ }
 {
-    let level = types::bit(upper);
+    let level = shared::bit(upper);
     let same = level == r.run.level;
     if same {
         let q = lengthen(r);
@@ -344,15 +344,18 @@ pub fn sat_sub32(x: u32, y: u32) -> u32
     0
 }
 
+// Half the width of the slicer's hysteresis, as a part of the distance of the levels: as much of the swing as the envelope's.
+const FSK_HYSTERESIS: f32 = 0.0625;
+
 // The threshold between two levels, for a run at the upper or at the lower one.
 pub fn slice_thr(upper: bool, hi: f32, lo: f32) -> f32
     ensures { λ r. ⌜ r ≡ sliceThrOf upper hi lo ⌝ }
 {
     let mid = arith::midpoint(hi, lo);
     if upper {
-        return mid - (hi - lo) * 0.0625;
+        return mid - (hi - lo) * FSK_HYSTERESIS;
     }
-    mid + (hi - lo) * 0.0625
+    mid + (hi - lo) * FSK_HYSTERESIS
 }
 
 fn past(first_upper: bool, f: f32, thr: f32) -> bool
@@ -421,7 +424,7 @@ fn turn_at(first_upper: bool, thr: f32, c: CandCore, f: f32, idx: u64, cs: &[f32
     let second = sat_sub32(c.fsk_cand, j);
     let before = before_of(cs, c.cand_before, j);
     let at = cand_at(cs, j, f);
-    let sample = types::sat_sub(std::num::wrapping_add_u64(idx, 1), second as u64);
+    let sample = shared::sat_sub(std::num::wrapping_add_u64(idx, 1), second as u64);
     let tc = arith::edge(sample, arith::cross(before, at, thr));
     Turn { tc, second }
 }
@@ -450,6 +453,11 @@ fn other_level(first_upper: bool, f_early: f32, hi: f32, lo: f32) -> f32
     1.0 - (f_early - lo) / (hi - lo)
 }
 
+// How near the other level a short first run lies, as a part of the distance of the levels, and its least steps.
+const EARLY_TOL: f32 = 0.3;
+
+const EARLY_MIN: f64 = 2.0;
+
 // Whether a short first run before the last restart is the first run of the frame.
 fn is_early(e: Early, first_upper: bool, hi: f32, lo: f32, from: f64) -> bool
     ensures { λ r. ⌜ r ≡ isEarlyOf e «first_upper» hi lo from ⌝ }
@@ -457,9 +465,9 @@ fn is_early(e: Early, first_upper: bool, hi: f32, lo: f32, from: f64) -> bool
     let some = e.early == 1;
     if some {
         let other = arith::abs(other_level(first_upper, e.f_early, hi, lo));
-        let near = other <= 0.3;
+        let near = other <= EARLY_TOL;
         if near {
-            return e.t_early - from >= 2.0;
+            return e.t_early - from >= EARLY_MIN;
         }
         return false;
     }
@@ -498,7 +506,7 @@ fn second_run(
 ) -> Runs
     ensures { λ r. ⌜ r ≡ secondRunOf «first_upper» run t from confirmed «has_prev» ⌝ }
 {
-    let level = types::bit(!first_upper);
+    let level = shared::bit(!first_upper);
     let prev = sat_sub32(run, t.second);
     Runs {
         run: Run {

@@ -6,8 +6,8 @@ use lib.Dec.{ltb, eqb}
 use lib.Ieee.{Float}
 use Rattle.arith.specs.Leaves.{edgeOf, crossOf}
 use Rattle.arith.specs.declared.C32.{C32}
-use Rattle.types.specs.Params.{fskMinOf}
-use Rattle.types.specs.declared.Settings.{Settings}
+use Rattle.shared.specs.Params.{fskMinOf}
+use Rattle.shared.specs.declared.Settings.{Settings}
 use Rattle.fsk.specs.Makers.{meanOf, withFirst, withRan}
 use Rattle.fsk.specs.RunStep.{lengthenOf, fskRunStepOf}
 use Rattle.fsk.specs.Resolve.{sliceThrOf, fskResolveOf}

@@ -8,7 +8,7 @@ use lib.IntN.{pos}
 use lib.Ieee.{Float, nan, binary32, add, sub, div, lt, ofInt}
 use Rattle.ieee.specs.Constants.{zero32}
 use Rattle.arith.specs.Leaves.{midpointOf, edgeOf, crossOf, absOf}
-use Rattle.types.specs.Counts.{inc}
+use Rattle.shared.specs.Counts.{inc}
 use Rattle.fsk.specs.Makers.{meanOf, candOf, earlyOf}
 use Rattle.fsk.specs.declared.Mean.{Mean}
 use Rattle.fsk.specs.declared.Cand.{Cand}

@@ -15,7 +15,13 @@ use fsk::Levels;
 use fsk::Mean;
 use fsk::Tone;
 use run::Crossing;
-use types::Settings;
+use shared::Settings;
+
+// The least part of the signal level that the gain goes by, so that a fading sample is not blown up.
+const AGC_FLOOR: f32 = 0.25;
+
+// The step of a level towards its samples.
+const FSK_RATIO: f32 = 0.0625;
 
 fn low_pass(m: f32, a: f32, g: f32, d: f32) -> f32
     ensures { λ r. ⌜ r ≡ lowPassOf m a g d ⌝ }
@@ -26,7 +32,7 @@ fn low_pass(m: f32, a: f32, g: f32, d: f32) -> f32
 fn tone_of(a: f32, high: f32, d: C32, e: f32, t: Tone) -> Tone
     ensures { λ r. ⌜ r ≡ toneOf a high d e t ⌝ }
 {
-    let g = arith::a_gain(arith::max(e, 0.25 * high));
+    let g = arith::a_gain(arith::max(e, AGC_FLOOR * high));
     let re = low_pass(t.fm.re, a, g, d.re);
     let im = low_pass(t.fm.im, a, g, d.im);
     let f = arith::atan2_fast(im, re);
@@ -48,13 +54,13 @@ fn follow(upper: bool, l: Levels, f: f32) -> Levels
 {
     if upper {
         return Levels {
-            f_hi: l.f_hi + (f - l.f_hi) * 0.0625,
+            f_hi: l.f_hi + (f - l.f_hi) * FSK_RATIO,
             f_lo: l.f_lo,
         };
     }
     Levels {
         f_hi: l.f_hi,
-        f_lo: l.f_lo + (f - l.f_lo) * 0.0625,
+        f_lo: l.f_lo + (f - l.f_lo) * FSK_RATIO,
     }
 }
 
@@ -88,7 +94,7 @@ fn at_most_16(n: u32) -> u32
 fn average(m: Mean, f: f32) -> Mean
     ensures { λ r. ⌜ r ≡ averageOf m f ⌝ }
 {
-    let k = types::inc(m.fsk_cnt);
+    let k = shared::inc(m.fsk_cnt);
     let n = arith::u32_to_f32(at_most_16(k));
     Mean {
         f_ref: m.f_ref + (f - m.f_ref) / n,
@@ -143,7 +149,7 @@ fn push_cand(c: CandCore, f_ref: f32, f: f32, fp: f32, cs: &mut [f32; 8]) -> Can
     let n = start_of(c.fsk_cand, side, last);
     let before = before_if(n, fp, c.cand_before);
     store(cs, n as usize, f);
-    let k = types::inc(n);
+    let k = shared::inc(n);
     CandCore {
         cand_before: before,
         fsk_cand: k,
@@ -153,7 +159,7 @@ fn push_cand(c: CandCore, f_ref: f32, f: f32, fp: f32, cs: &mut [f32; 8]) -> Can
 fn restart_at(before: f32, at: f32, thr: f32, cand: u32, idx: u64) -> f64
     ensures { λ r. ⌜ r ≡ restartAtOf before at thr cand idx ⌝ }
 {
-    let first = types::sat_sub(std::num::wrapping_add_u64(idx, 1), cand as u64);
+    let first = shared::sat_sub(std::num::wrapping_add_u64(idx, 1), cand as u64);
     arith::edge(first, arith::cross(before, at, thr))
 }
 
@@ -203,7 +209,7 @@ fn seek_frame(fr: FrameCore, t: Tone, mean: Mean, c: CandCore, e: Early) -> Fram
     n
 }
 
-// Too few samples before the candidates to know the first level: the mean starts over.
+// The mean had too few samples to stand for a level: it begins anew with the candidates.
 fn restart(fr: FrameCore, t: Tone, mean: Mean, c: CandCore, idx: u64, cs: &[f32; 8]) -> FrameCore
     ensures { λ r. ⌜ ((old : List Float) → wholeFrame (now (cs .entry)) r ≡ restartOf (wholeFrame old fr) t mean (wholeCand (now (cs .entry)) c) idx) ⌝ }
 {
@@ -312,7 +318,7 @@ pub fn fsk_sample(
 ) -> FrameCore
     ensures { λ r. ⌜ (wholeFrame (now (cs .exit)) r, now (fsk .exit)) ≡ fskSampleOf p (wholeFrame (now (cs .entry)) fr) high d e idx (now (fsk .entry)) ⌝ }
 {
-    let m = types::fsk_min(p.min_steps);
+    let m = shared::fsk_min(p.min_steps);
     let t0 = fr.tone;
     let t = tone_of(p.alpha, high, d, e, t0);
     let first = fr.fsk_phase == 0;

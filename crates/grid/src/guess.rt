@@ -12,10 +12,10 @@ use fit::Fitted;
 use fit::Grid;
 use fit::Prev;
 
-// The fewest transitions of a frame for its symbol grid: with fewer, a grid fits almost any runs.
+// A grid is looked for from this many transitions on: a few can lie on a grid by chance.
 const GRID_MIN: usize = 5;
 
-// The runs of one symbol whose lengths are tried as the symbol of the grid, besides their mean.
+// How many runs of one symbol are tried as guesses of their own, after their mean.
 const GRID_CAND: usize = 8;
 
 // ---- how many transitions there are, and the shortest run between two
@@ -247,8 +247,7 @@ fn try_turn(slots: &[u32], last: usize, from: Guesses, s: Tries, before: u32, v:
     s
 }
 
-// The grid of the smallest cost from the guesses: the mean of the runs of one symbol and each of the first GRID_CAND of
-// them.
+// The best grid that a guess leads to: first the mean of the one-symbol runs is tried, then up to GRID_CAND of these runs, one by one.
 fn search(slots: &[u32], last: usize, shortest: f64, m: Mean) -> Grid
     requires { ⌜ last ≤ length (now slots) ⌝ }
     ensures { λ r. ⌜ r ≡ searchOf (upTo last (now (slots .entry))) shortest m ⌝ }

@@ -14,7 +14,7 @@ mod guess;
 
 // ---- the measured times
 
-// The measured times: widths of the rounded times after the start.
+// Without a grid each end is rounded as it was measured, and a width is the difference of two.
 fn measured(slots: &mut [u32])
     ensures { λ _. ⌜ now (slots .exit) ≡ measuredOf zero64 (now (slots .entry)) ⌝ }
 {
@@ -60,8 +60,8 @@ fn end_of(slots: &[u32]) -> f64
     fit::time_of(arith::Fix64(v))
 }
 
-// The start and the end of the frame, whose envelope edges are less precise, lie a whole number of symbols, at least one, from the
-// transitions next to them.
+// The frame's own two ends come from the envelope, which tells them less well than the tone does: each is put a whole number of
+// symbols, one or more, from the nearest transition.
 fn clock_of(slots: &[u32], last: usize, a: f64, t: f64, n_tr: usize) -> Clock
     requires { ⌜ last ≤ length (now slots) ⌝ }
     ensures { λ r. ⌜ r ≡ clockOf a t «n_tr» (upTo last (now (slots .entry))) (endOf (now (slots .entry))) ⌝ }
@@ -116,7 +116,7 @@ fn place_at(c: Clock, p: Place, v: u32) -> Place
     }
 }
 
-// The boundaries in order after the start: the transitions on the grid, the end.
+// Every end, one after another, takes its place on the grid, and the frame's end its own.
 fn on_grid(slots: &mut [u32], c: Clock)
     ensures { λ _. ⌜ now (slots .exit) ≡ onGridOf c atStart (now (slots .entry)) ⌝ }
 {

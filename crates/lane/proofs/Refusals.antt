@@ -5,11 +5,11 @@ use mathlib.Core.Path.{_≡_, refl, sym}
 use native.Mathlib.Omega.{arith}
 use borrow.Author.Tests.{eqb-true, eqb-false, eq-eqb, ne-eqb}
 use lib.Dec.{leb, eqb}
-use Rattle.types.specs.declared.Settings.{Settings}
+use Rattle.shared.specs.declared.Settings.{Settings}
 use Rattle.refusals.specs.Domain.{settingsOk, unsetOk, indexOk}
 use Rattle.refusals.specs.Serial.{serialOk}
 use Rattle.refusals.specs.State.{burstOk, leadOk, candOk}
-use Rattle.types.proofs.Tests.{both-true, six-true}
+use Rattle.shared.proofs.Tests.{both-true, six-true}
 use Rattle.lane.specs.declared.Lane.{Lane}
 use Rattle.lane.specs.Refusals.{openedOk, laneOk, followsOf, Passes}
 

@@ -5,7 +5,7 @@ use lib.ListN.{set, replicate}
 use lib.Ieee.{Float}
 use Rattle.ieee.specs.Constants.{zero32}
 use Rattle.arith.specs.declared.C32.{C32}
-use Rattle.types.specs.Counts.{zeroC32}
+use Rattle.shared.specs.Counts.{zeroC32}
 use Rattle.burst.specs.declared.Burst.{Burst}
 use Rattle.burst.specs.declared.Lead.{Lead}
 use Rattle.lane.specs.declared.History.{History}

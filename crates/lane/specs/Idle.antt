@@ -2,14 +2,14 @@
 use Prim.Native.Nat.{ℕ}
 use lib.ListN.{replicate}
 use Rattle.ieee.specs.Constants.{zero32, zero64}
-use Rattle.types.specs.Counts.{zeroC32}
+use Rattle.shared.specs.Counts.{zeroC32}
 use Rattle.ook.specs.Train.{zeroSteps}
-use Rattle.types.specs.declared.Settings.{Settings}
-use Rattle.types.specs.declared.Out.{Out}
+use Rattle.shared.specs.declared.Settings.{Settings}
+use Rattle.shared.specs.declared.Out.{Out}
 use Rattle.run.specs.declared.Run.{Run}
 use Rattle.ook.specs.declared.Env.{Env}
 use Rattle.ook.specs.declared.Train.{Train}
-use Rattle.types.specs.declared.Carrier.the-variants.{Angle}
+use Rattle.shared.specs.declared.Carrier.the-variants.{Angle}
 use Rattle.fsk.specs.declared.Committed.{Committed}
 use Rattle.fsk.specs.declared.Frame.{Frame}
 use Rattle.fsk.specs.declared.Runs.{Runs}

@@ -3,7 +3,7 @@ use Prim.Native.Nat.{ℕ, _+_}
 use mathlib.Core.Bool.{Bool, true, cond, not, _&&_}
 use mathlib.Core.Path.{_≡_}
 use lib.Dec.{leb, eqb}
-use Rattle.types.specs.declared.Settings.{Settings}
+use Rattle.shared.specs.declared.Settings.{Settings}
 use Rattle.refusals.specs.Domain.{settingsOk, unsetOk, factorOk, envelopeOk, sampleOk, indexOk, roomOk}
 use Rattle.refusals.specs.Serial.{serialOk, serialLeft}
 use Rattle.refusals.specs.State.{burstOk, leadOk, candOk}

@@ -6,7 +6,7 @@ ghost use Prim.Native.Nat.{ℕ, _≤_};
 ghost use Rattle.lane.specs.Refusals.{openedOk, laneOk, historyOk, beginFloatsOk, stepFloatsOk, followsOf, openRefusal, beginRefusal, closeRefusal};
 ghost use Rattle.lane.specs.Idle.{noOut, noRun, noRuns, noneDone, noFrame, noEnv, noTrain, noPres, noBurst, noLead, idleLane};
 ghost use Rattle.lane.specs.Begin.{ringBeforeOf, historyOf, ringOf, beginLeadOf, clearedOf, leadLane};
-ghost use Rattle.types.specs.Core.{wholeOut, numbered};
+ghost use Rattle.shared.specs.Core.{wholeOut, numbered};
 ghost use mathlib.Core.List.{List};
 ghost use Rattle.burst.specs.Makers.{withSerials};
 ghost use Rattle.lane.specs.Close.{idleWith, endBurstOf};
@@ -29,10 +29,10 @@ use ook::Env;
 use ook::Train;
 use presence::Pres;
 use run::Run;
-use types::Carrier;
-use types::Out;
-use types::OutCore;
-use types::Settings;
+use shared::Carrier;
+use shared::Out;
+use shared::OutCore;
+use shared::Settings;
 
 // The seven envelopes before begin's, nearest first.
 pub struct History {
@@ -526,7 +526,7 @@ pub fn begin(l: Lane, b: BeginArgs, ook: &[u32], fsk: &[u32]) -> Answer
 pub fn no_core_out() -> OutCore
     ensures { λ r. ⌜ wholeOut r ≡ noOut ⌝ }
 {
-    let carrier = types::angle(0.0);
+    let carrier = shared::angle(0.0);
     OutCore {
         index: 0,
         end: 0,
@@ -548,7 +548,7 @@ fn end_burst(b: Burst, serial: u64, ook: &mut [u32]) -> Burst
     let e = ook::end_train(t, b.high, none, ook);
     let train = e.train;
     let o = e.out;
-    let out = types::whole_out(o, serial);
+    let out = shared::whole_out(o, serial);
     let mut n = clear_records(b, serial);
     n.train = train;
     n.out_ook = out;

@@ -8,9 +8,9 @@ use lib.ListN.{length, length-append}
 use lib.Dec.{T, eqb, ltb, leb}
 use lib.Ieee.{Float}
 use borrow.Author.Tests.{ltb-true, ltb-false, leb-true}
-use Rattle.types.specs.declared.Out.{Out}
-use Rattle.types.specs.declared.Carrier.{Carrier}
-use Rattle.types.specs.declared.Carrier.the-variants.{Angle, Vector}
+use Rattle.shared.specs.declared.Out.{Out}
+use Rattle.shared.specs.declared.Carrier.{Carrier}
+use Rattle.shared.specs.declared.Carrier.the-variants.{Angle, Vector}
 use Rattle.lane.specs.declared.Reply.{Reply}
 use Rattle.lane.specs.declared.Reply.the-variants.{Refused, Stay, Idle, IdleAt}
 use Rattle.lines.specs.Line.{hex8, number, float, carrier, widths, trainHead, trainTail, trainLine, recordLine, idleLine, carrierLine, refusedLine, callText, maxSlots, trainRoom, callRoom, largerOf, hasRoom}

@@ -5,10 +5,10 @@ ghost use Prim.Native.Nat.{ℕ, _+_, _*_, _≤_, _<_};
 ghost use lib.ListN.{length};
 ghost use Rattle.lines.specs.Line.{decimal, number, float, kind, carrier, widths, spanOf, trainHead, trainTail, trainLine, recordLine, idleLine, carrierLine, refusedLine, callText, trainRoom, largerOf, hasRoom, writtenCall, Put, Spelled};
 ghost use Rattle.lines.specs.Line.{glyph as Line·glyph};
-ghost use Rattle.types.specs.declared.Carrier.the-variants as Carrier;
+ghost use Rattle.shared.specs.declared.Carrier.the-variants as Carrier;
 use lane::Reply;
-use types::Carrier;
-use types::Out;
+use shared::Carrier;
+use shared::Out;
 
 // The place after the lines, or that there was no room and nothing was written.
 pub enum Written {

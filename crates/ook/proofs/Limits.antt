@@ -12,14 +12,14 @@ use Rattle.arith.specs.declared.Steps.{Steps}
 use Rattle.arith.specs.Leaves.{stepOf}
 use Rattle.ook.specs.declared.Env.{Env}
 use Rattle.ook.specs.declared.Train.{Train}
-use Rattle.types.specs.declared.Out.{Out}
-use Rattle.types.specs.declared.Settings.{Settings}
+use Rattle.shared.specs.declared.Out.{Out}
+use Rattle.shared.specs.declared.Settings.{Settings}
 use Rattle.ook.specs.declared.Pushed.{Pushed}
-use Rattle.types.specs.declared.Next.{Next}
-use Rattle.types.specs.declared.Next.the-variants.{Idle}
+use Rattle.shared.specs.declared.Next.{Next}
+use Rattle.shared.specs.declared.Next.the-variants.{Idle}
 use Rattle.ook.specs.declared.Done.{Done}
-use Rattle.types.proofs.Counts.{inc-exact}
-use Rattle.types.specs.Counts.{bit}
+use Rattle.shared.proofs.Counts.{inc-exact}
+use Rattle.shared.specs.Counts.{bit}
 use Rattle.run.specs.Run.{movedOf}
 use Rattle.run.specs.Limits.{RunWithin}
 use Rattle.run.specs.declared.Run.{Run}
@@ -27,7 +27,7 @@ use Rattle.run.proofs.Limits.{moved-within, start-run-within}
 use Rattle.ook.specs.Run.{advanceOf, beginEnvOf}
 use Rattle.ook.specs.Train.{withStarted, withEnd, withLongest, longerOf, zeroSteps, stayBy, endBy, pushPulseOf, pushedBy, closeGapOf, emptyTrainOf, finishOf, endTrainOf, pulseDoneOf}
 use Rattle.ook.specs.Limits.{EnvWithin, TrainWithin, OutWithin, DoneWithin}
-use Rattle.types.proofs.Cases.{either, by-test, bit-flag}
+use Rattle.shared.proofs.Cases.{either, by-test, bit-flag}
 
 -- the run
 

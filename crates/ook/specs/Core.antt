@@ -4,7 +4,7 @@ use Rattle.ook.specs.declared.Ended.{Ended}
 use Rattle.ook.specs.declared.EndedCore.{EndedCore}
 use Rattle.ook.specs.declared.Done.{Done}
 use Rattle.ook.specs.declared.DoneCore.{DoneCore}
-use Rattle.types.specs.Core.{wholeOut}
+use Rattle.shared.specs.Core.{wholeOut}
 
 -- the same of a train's end, and of a stage that may end it
 abbrev pub wholeEnded : EndedCore → Ended

@@ -5,7 +5,7 @@ use Rattle.domain.specs.Limits.{maxBound, maxSerial}
 use Rattle.run.specs.Limits.{RunWithin}
 use Rattle.ook.specs.declared.Env.{Env}
 use Rattle.ook.specs.declared.Train.{Train}
-use Rattle.types.specs.declared.Out.{Out}
+use Rattle.shared.specs.declared.Out.{Out}
 use Rattle.ook.specs.declared.Done.{Done}
 
 pub record EnvWithin (s : Env) : Type 0 where

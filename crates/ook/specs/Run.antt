@@ -3,7 +3,7 @@ use Prim.Native.Nat.{ℕ}
 use mathlib.Core.Bool.{Bool, cond, not}
 use lib.Ieee.{Float}
 use Rattle.arith.specs.declared.C32.{C32}
-use Rattle.types.specs.Counts.{bit, zeroC32}
+use Rattle.shared.specs.Counts.{bit, zeroC32}
 use Rattle.run.specs.Run.{movedOf, startRunOf}
 use Rattle.run.specs.declared.Run.{Run}
 use Rattle.ook.specs.declared.Env.{Env}

@@ -11,16 +11,16 @@ use Rattle.arith.specs.declared.C32.{C32}
 use Rattle.arith.specs.declared.Steps.{Steps}
 use Rattle.arith.specs.Leaves.{stepOf}
 use Rattle.ieee.specs.Constants.{zero64}
-use Rattle.types.specs.Counts.{inc, bit, zeroC32}
+use Rattle.shared.specs.Counts.{inc, bit, zeroC32}
 use Rattle.ook.specs.declared.Train.{Train}
-use Rattle.types.specs.declared.Out.{Out}
+use Rattle.shared.specs.declared.Out.{Out}
 use Rattle.ook.specs.declared.Pushed.{Pushed}
 use Rattle.ook.specs.declared.Ended.{Ended}
 use Rattle.ook.specs.declared.Done.{Done}
-use Rattle.types.specs.declared.Settings.{Settings}
-use Rattle.types.specs.declared.Next.{Next}
-use Rattle.types.specs.declared.Next.the-variants.{Stay, Idle}
-use Rattle.types.specs.declared.Carrier.the-variants.{Vector}
+use Rattle.shared.specs.declared.Settings.{Settings}
+use Rattle.shared.specs.declared.Next.{Next}
+use Rattle.shared.specs.declared.Next.the-variants.{Stay, Idle}
+use Rattle.shared.specs.declared.Carrier.the-variants.{Vector}
 
 -- the makers: a train from its fields, and with some of its fields changed
 abbrev pub trainOf : ℕ → ℕ → ℕ → ℕ → ℕ → Steps → ℕ → C32 → Float → ℕ → Train

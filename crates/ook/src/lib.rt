@@ -3,7 +3,7 @@
 ghost use mathlib.Core.Path.{_≡_};
 ghost use Prim.Native.Nat.{_+_, _*_, _-_, _<_, min, max};
 ghost use Rattle.run.specs.Run.{edgeAt};
-ghost use Rattle.types.specs.Core.{wholeOut};
+ghost use Rattle.shared.specs.Core.{wholeOut};
 ghost use Rattle.ook.specs.Core.{wholeEnded, wholeDone};
 ghost use Rattle.ook.specs.Run.{advanceOf, zeroIf, pacRunOf, beginEnvOf};
 ghost use Rattle.ook.specs.Refine.{refineLevelOf, refineLoOf, excessOf, bestAt, splitAt, bestSplitOf, refineInOf, refineOf};
@@ -12,10 +12,10 @@ use arith::C32;
 use arith::Steps;
 use run::Crossing;
 use run::Run;
-use types::Next;
-use types::Out;
-use types::OutCore;
-use types::Settings;
+use shared::Next;
+use shared::Out;
+use shared::OutCore;
+use shared::Settings;
 
 // ---- what the run and the train are
 
@@ -87,7 +87,7 @@ pub fn advance(same: bool, short: bool, env: Env, on: bool, c: Crossing) -> Env
         return n;
     }
     if short {
-        let q = run::rejoin(r, types::bit(on));
+        let q = run::rejoin(r, shared::bit(on));
         let mut n = env;
         n.run = q;
         n.c_run = env.c_prev;
@@ -95,7 +95,7 @@ pub fn advance(same: bool, short: bool, env: Env, on: bool, c: Crossing) -> Env
         return n;
     }
     let tc = run::edge_at(c);
-    let q = run::begin_run(r, types::bit(on), tc);
+    let q = run::begin_run(r, shared::bit(on), tc);
     Env {
         run: q,
         c_run: tc,
@@ -143,10 +143,14 @@ pub fn begin_env(t: f64, env: Env) -> Env
 
 // ---- the refinement of an edge
 
+// The noise's part in the level of half the signal: 3/4 of its power, which is 4/pi of the square of its mean envelope.
+const NOISE_POWER: f32 = 0.95492965;
+
+// Half the signal's amplitude over the noise: the midpoint of an edge, which the noise does not move towards the plateau.
 pub fn refine_level(high: f32, noise: f32) -> f32
     ensures { λ r. ⌜ r ≡ refineLevelOf high noise ⌝ }
 {
-    root::sqrt(0.25 * high * high + 0.95492965 * noise * noise)
+    root::sqrt(0.25 * high * high + NOISE_POWER * noise * noise)
 }
 
 fn min_of(x: u64, y: u64) -> u64
@@ -167,16 +171,18 @@ fn max_of(x: u64, y: u64) -> u64
     x
 }
 
+// Where the search starts: a few samples before the crossing and after the edge before, in the burst, and in the ring.
 pub fn refine_lo(min_steps: u32, ref_idx: u64, lead_at: u64, idx: u64) -> u64
     ensures { λ r. ⌜ r ≡ refineLoOf «min_steps» «ref_idx» «lead_at» idx ⌝ }
 {
-    let back = min_of(6, types::sat_sub(min_steps as u64, 1));
+    let back = min_of(6, shared::sat_sub(min_steps as u64, 1));
     max_of(
-        max_of(types::sat_sub(ref_idx, back), types::sat_sub(lead_at, 7)),
-        types::sat_sub(idx, 31),
+        max_of(shared::sat_sub(ref_idx, back), shared::sat_sub(lead_at, 7)),
+        shared::sat_sub(idx, 31),
     )
 }
 
+// What a sample adds to the sum of those after the edge: how far it is on their side of the level.
 fn excess(on: bool, m: f32, t: f32) -> f32
     ensures { λ r. ⌜ r ≡ excessOf on m t ⌝ }
 {
@@ -206,6 +212,7 @@ fn split_at(best: f32, sum: f32, j: u64, split: u64) -> u64
     split
 }
 
+// The split that gives the samples after it the largest sum: the change point of a step at the level.
 fn best_split(ring: &[f32; 32], t: f32, on: bool, lo: u64, idx: u64) -> u64
     ensures { λ r. ⌜ r ≡ bestSplitOf (now (ring .entry)) t on lo idx ⌝ }
 {
@@ -223,6 +230,7 @@ fn best_split(ring: &[f32; 32], t: f32, on: bool, lo: u64, idx: u64) -> u64
     split
 }
 
+// The crossing at the split; an empty window leaves the edge as it was.
 fn refine_in(ring: &[f32; 32], t: f32, on: bool, lo: u64, idx: u64, t_run: f64) -> f64
     ensures { λ r. ⌜ r ≡ refineInOf (now (ring .entry)) t on lo idx «t_run» ⌝ }
 {
@@ -232,10 +240,11 @@ fn refine_in(ring: &[f32; 32], t: f32, on: bool, lo: u64, idx: u64, t_run: f64) 
     }
     let s = best_split(ring, t, on, lo, idx);
     let i = (s % 32) as usize;
-    let k = (types::sat_sub(s, 1) % 32) as usize;
+    let k = (shared::sat_sub(s, 1) % 32) as usize;
     arith::edge(s, arith::cross(ring[k], ring[i], t))
 }
 
+// The edge found again in the envelopes around it, since the low-pass delays the crossing.
 pub fn refine(
     ring: &[f32; 32],
     min_steps: u32,
@@ -255,6 +264,7 @@ pub fn refine(
 
 // ---- the train
 
+// A full train takes no pulse and is marked; else the pulse goes into its slot and waits for its gap.
 pub fn push_pulse(max_pulses: u32, t: Train, pac: C32, len: Steps, ook: &mut [u32]) -> Pushed
     ensures { λ r. ⌜ (r, now (ook .exit)) ≡ pushPulseOf «max_pulses» t pac len (now (ook .entry)) ⌝ }
 {
@@ -267,7 +277,7 @@ pub fn push_pulse(max_pulses: u32, t: Train, pac: C32, len: Steps, ook: &mut [u3
             train: n,
         };
     }
-    types::put(ook, 2 * (t.ook_n as usize), len.0);
+    shared::put(ook, 2 * (t.ook_n as usize), len.0);
     let acc = C32 {
         re: t.acc.re + pac.re,
         im: t.acc.im + pac.im,
@@ -281,13 +291,14 @@ pub fn push_pulse(max_pulses: u32, t: Train, pac: C32, len: Steps, ook: &mut [u3
     }
 }
 
+// The gap of the pulse that waits: the pair is whole.
 pub fn close_gap(t: Train, gap: Steps, ook: &mut [u32]) -> Train
     ensures { λ r. ⌜ (r, now (ook .exit)) ≡ closeGapOf t gap (now (ook .entry)) ⌝ }
 {
     let waits = t.open == 1;
     if waits {
-        types::put(ook, 2 * (t.ook_n as usize) + 1, gap.0);
-        let k = types::inc(t.ook_n);
+        shared::put(ook, 2 * (t.ook_n as usize) + 1, gap.0);
+        let k = shared::inc(t.ook_n);
         let mut n = t;
         n.ook_n = k;
         n.open = 0;
@@ -296,6 +307,7 @@ pub fn close_gap(t: Train, gap: Steps, ook: &mut [u32]) -> Train
     t
 }
 
+// No pulses; start and pulse_end stay, as in the Rust.
 pub fn empty_train(t: Train) -> Train
     ensures { λ r. ⌜ r ≡ emptyTrainOf t ⌝ }
 {
@@ -313,14 +325,15 @@ pub fn empty_train(t: Train) -> Train
     }
 }
 
+// Pairs make a record, and the train is empty then.
 fn finish(t: Train, high: f32, out: OutCore) -> EndedCore
     ensures { λ r. ⌜ wholeEnded r ≡ finishOf t high (wholeOut out) ⌝ }
 {
     let empty = empty_train(t);
     let some = t.ook_n > 0;
     if some {
-        let cut = types::bit(t.truncated == 1);
-        let carrier = types::vector(t.acc.re, t.acc.im);
+        let cut = shared::bit(t.truncated == 1);
+        let carrier = shared::vector(t.acc.re, t.acc.im);
         let o = OutCore {
             index: t.start,
             end: t.pulse_end,
@@ -339,6 +352,7 @@ fn finish(t: Train, high: f32, out: OutCore) -> EndedCore
     EndedCore { train: empty, out }
 }
 
+// The train ends: a pulse that waits gets the gap 0.
 pub fn end_train(t: Train, high: f32, out: OutCore, ook: &mut [u32]) -> EndedCore
     ensures { λ r. ⌜ (wholeEnded r, now (ook .exit)) ≡ endTrainOf t high (wholeOut out) (now (ook .entry)) ⌝ }
 {
@@ -379,6 +393,7 @@ fn after_push(q: Pushed, high: f32, out: OutCore, ook: &mut [u32]) -> DoneCore
     }
 }
 
+// A pulse is final. In FSK mode it is not kept: frames alone are asked for there.
 pub fn pulse_done(
     p: Settings,
     t: Train,
@@ -409,6 +424,7 @@ pub fn pulse_done(
     after_push(q, high, out, ook)
 }
 
+// A gap so much longer than the longest pulse ends the train.
 pub fn gap_ratio_exceeded(gap_ratio: f32, longest: Steps, n: u32) -> bool
     ensures { λ r. ⌜ r ≡ gapRatioExceededOf «gap_ratio» longest n ⌝ }
 {

@@ -2,7 +2,7 @@
 use Prim.Native.Nat.{ℕ}
 use mathlib.Core.Bool.{Bool, cond}
 use lib.Ieee.{Float, binary32, mul, ofBits}
-use Rattle.types.specs.Counts.{satAddOf}
+use Rattle.shared.specs.Counts.{satAddOf}
 use Rattle.run.specs.Run.{withLength, movedOf}
 use Rattle.run.specs.declared.Run.{Run}
 use Rattle.fsk.specs.Makers.{withRuns}

@@ -7,14 +7,14 @@ use lib.IntN.{pos}
 use lib.Ieee.{Float, binary64, add, sub, le, ofBits, ofInt}
 use Rattle.ieee.specs.Constants.{zero64, one64}
 use Rattle.arith.specs.Leaves.{edgeOf, crossOf}
-use Rattle.types.specs.Counts.{bit}
+use Rattle.shared.specs.Counts.{bit}
 use Rattle.run.specs.Run.{withConfirmed, withStart, dueOf}
 use Rattle.run.specs.declared.Run.{Run}
 use Rattle.ook.specs.Train.{endTrainOf}
 use Rattle.ook.specs.declared.Ended.{Ended}
-use Rattle.types.specs.declared.Settings.{Settings}
-use Rattle.types.specs.declared.Next.{Next}
-use Rattle.types.specs.declared.Next.the-variants.{Stay, IdleAt}
+use Rattle.shared.specs.declared.Settings.{Settings}
+use Rattle.shared.specs.declared.Next.{Next}
+use Rattle.shared.specs.declared.Next.the-variants.{Stay, IdleAt}
 use Rattle.fsk.specs.Makers.{withFull, withRuns, withDone}
 use Rattle.fsk.specs.Makers as frames
 use Rattle.fsk.specs.declared.Frame.{Frame}

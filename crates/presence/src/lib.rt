@@ -16,8 +16,8 @@ use fsk::Frame;
 use fsk::FrameCore;
 use run::Crossing;
 use run::Run;
-use types::Next;
-use types::Settings;
+use shared::Next;
+use shared::Settings;
 
 // The run of the presence, which is high while the envelope is above the trigger, and the trigger as a factor of the noise.
 pub struct Pres {
@@ -66,6 +66,7 @@ pub struct PresentCore {
     pub body: BodyCore,
 }
 
+// The trigger, an eighth (HYSTERESIS) below where the carrier is present and an eighth above where it is not.
 fn pres_thr(up: bool, noise: f32, factor: f32) -> f32
     ensures { λ r. ⌜ r ≡ presThrOf up noise factor ⌝ }
 {
@@ -75,6 +76,7 @@ fn pres_thr(up: bool, noise: f32, factor: f32) -> f32
     noise * factor * 1.125
 }
 
+// The run of the presence after a sample of this level.
 fn move_pres(same: bool, short: bool, s: Pres, level: u32, c: Crossing) -> Pres
     ensures { λ r. ⌜ r ≡ movePresOf same short s level (edgeAt c) ⌝ }
 {
@@ -97,11 +99,11 @@ fn move_pres(same: bool, short: bool, s: Pres, level: u32, c: Crossing) -> Pres
     q
 }
 
-// A short absence inside a frame: its samples extend the frequency run.
+// The carrier was away only for a glitch: the frequency run goes on through those samples.
 fn extend(fr: FrameCore, n: u32) -> FrameCore
     ensures { λ r. ⌜ ((cs : List Float) → wholeFrame cs r ≡ extendOf (wholeFrame cs fr) n) ⌝ }
 {
-    let k = types::sat_add(fr.runs.run.run_len, n);
+    let k = shared::sat_add(fr.runs.run.run_len, n);
     let mut q = fr;
     q.runs.run.run_len = k;
     q
@@ -159,7 +161,7 @@ fn advance(
     let up = r.level == 1;
     let thr = pres_thr(up, a.noise, s.p_factor);
     let on = fsk_sample::upper_of(up, a.e, thr);
-    let level = types::bit(on);
+    let level = shared::bit(on);
     let c = Crossing {
         idx: a.idx,
         before: a.ep,
@@ -201,17 +203,20 @@ fn ends_of(due: bool, on: bool, prev: u32, min_steps: u32) -> bool
     false
 }
 
+// How many steps inside a frame an edge of the envelope may lie to replace the presence's.
+const EDGE_WINDOW: f64 = 4.0;
+
 fn in_window(x: f64) -> bool
     ensures { λ r. ⌜ r ≡ inWindowOf x ⌝ }
 {
     let low = 0.0 <= x;
     if low {
-        return x <= 4.0;
+        return x <= EDGE_WINDOW;
     }
     false
 }
 
-// The midpoint edge of the envelope just before is the better end.
+// Where the envelope fell right before, its edge tells the frame's end better than presence does.
 fn end_of(level: u32, c_run: f64, end: f64) -> f64
     ensures { λ r. ⌜ r ≡ endOf level «c_run» end ⌝ }
 {
@@ -351,7 +356,7 @@ pub struct SnappedCore {
     pub frame: FrameCore,
 }
 
-// `begin_run` of the envelope, at a rise: its edge is the better start of a frame that the presence began just before.
+// `begin_run` of the envelope, at a rise: a frame that presence has only just begun starts at the envelope's edge instead.
 pub fn snap(s: Pres, fr: FrameCore, tc: f64) -> SnappedCore
     ensures { λ r. ⌜ ((cs : List Float) → wholeSnapped cs r ≡ snapOf s (wholeFrame cs fr) tc) ⌝ }
 {

@@ -6,8 +6,8 @@ use Prim.Native.Nat.{ℕ, _*_, _≤_}
 use lib.Dec.{leb, eqb}
 use borrow.Author.Tests.{leb-true, eqb-false, not-true}
 use lib.ListN.{length}
-use Rattle.types.specs.declared.Settings.{Settings}
-use Rattle.types.proofs.Tests.{both-true}
+use Rattle.shared.specs.declared.Settings.{Settings}
+use Rattle.shared.proofs.Tests.{both-true}
 use Rattle.refusals.proofs.Domain.{InDomain, settings-tell}
 use Rattle.refusals.specs.Domain.{indexOk, roomOk}
 use Rattle.refusals.proofs.Order.{none-failed}

@@ -10,9 +10,9 @@ use borrow.Author.Tests.{leb-true, leb-false, le-leb}
 use lib.ListN.{length, take}
 use lib.Seq.{take-all, length-take-le}
 use lib.Ieee.{Float, nan}
-use Rattle.types.specs.declared.Settings.{Settings}
-use Rattle.types.specs.declared.Out.{Out}
-use Rattle.types.specs.Counts.{bit}
+use Rattle.shared.specs.declared.Settings.{Settings}
+use Rattle.shared.specs.declared.Out.{Out}
+use Rattle.shared.specs.Counts.{bit}
 use Rattle.refusals.proofs.Domain.{InDomain}
 use Rattle.lane.specs.Part.{front, namedOf}
 use Rattle.pulses.specs.Runs.{Sample, Pulse, pulses}

@@ -9,10 +9,10 @@ use borrow.Author.Tests.{eq-eqb}
 use lib.Ieee.{Float}
 use lib.ListN.{length}
 use Rattle.arith.specs.Leaves.{leadLenOf}
-use Rattle.types.specs.declared.Settings.{Settings}
-use Rattle.types.specs.declared.Next.{Next}
-use Rattle.types.specs.Answers.{isStayOf}
-use Rattle.types.specs.Counts.{bit}
+use Rattle.shared.specs.declared.Settings.{Settings}
+use Rattle.shared.specs.declared.Next.{Next}
+use Rattle.shared.specs.Answers.{isStayOf}
+use Rattle.shared.specs.Counts.{bit}
 use Rattle.run.specs.Run.{startRunOf}
 use Rattle.ook.specs.Run.{beginEnvOf}
 use Rattle.ook.specs.Train.{emptyTrainOf}

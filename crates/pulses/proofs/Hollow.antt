@@ -4,7 +4,7 @@ use mathlib.Core.Path.{_≡_, refl}
 use mathlib.Core.Bool.{Bool, true, not, _&&_}
 use mathlib.Core.List.{List, [], _∷_, _++_, map}
 use borrow.Author.Tests.{not-true}
-use Rattle.types.proofs.Tests.{both-true}
+use Rattle.shared.proofs.Tests.{both-true}
 use Rattle.lane.specs.declared.Reply.{Reply}
 use Rattle.pulses.specs.Yardstick.{Call}
 use Rattle.pulses.specs.Demand.{Program}

@@ -13,14 +13,14 @@ use Rattle.arith.specs.declared.C32.{C32}
 use Rattle.arith.specs.Leaves.{stepOf}
 use Rattle.ook.specs.declared.Env.{Env}
 use Rattle.ook.specs.declared.Train.{Train}
-use Rattle.types.specs.declared.Out.{Out}
+use Rattle.shared.specs.declared.Out.{Out}
 use Rattle.ook.specs.declared.Done.{Done}
-use Rattle.types.specs.declared.Settings.{Settings}
-use Rattle.types.specs.declared.Next.{Next}
-use Rattle.types.specs.declared.Next.the-variants.{Stay, Idle, IdleAt}
-use Rattle.types.specs.Answers.{isStayOf}
-use Rattle.types.specs.Counts.{bit}
-use Rattle.types.specs.Params.{refineAtOf}
+use Rattle.shared.specs.declared.Settings.{Settings}
+use Rattle.shared.specs.declared.Next.{Next}
+use Rattle.shared.specs.declared.Next.the-variants.{Stay, Idle, IdleAt}
+use Rattle.shared.specs.Answers.{isStayOf}
+use Rattle.shared.specs.Counts.{bit}
+use Rattle.shared.specs.Params.{refineAtOf}
 use Rattle.ook.specs.Refine.{refineOf}
 use Rattle.ook.specs.Train.{withStarted, withFirst, withBound, closeGapOf, pulseDoneOf, endTrainOf, stayBy, endBy}
 use Rattle.refusals.proofs.Domain.{InDomain}

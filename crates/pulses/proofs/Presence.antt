@@ -11,9 +11,9 @@ use Rattle.arith.specs.declared.C32.{C32}
 use Rattle.ieee.specs.Constants.{one64}
 use Rattle.ook.specs.declared.Env.{Env}
 use Rattle.ook.specs.declared.Done.{Done}
-use Rattle.types.specs.declared.Settings.{Settings}
-use Rattle.types.specs.declared.Next.the-variants.{Stay, IdleAt}
-use Rattle.types.specs.Counts.{satAddOf}
+use Rattle.shared.specs.declared.Settings.{Settings}
+use Rattle.shared.specs.declared.Next.the-variants.{Stay, IdleAt}
+use Rattle.shared.specs.Counts.{satAddOf}
 use Rattle.refusals.proofs.Domain.{InDomain}
 use Rattle.frame_end.specs.End.{isSplitOf, enoughRunsOf, isFrameOf, lastRunOf, framedBy, closeBy, endFrameOf}
 use Rattle.frame_end.specs.Done.{withFrame, withFramed, cutBody, frameDoneOf}

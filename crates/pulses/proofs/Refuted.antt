@@ -9,9 +9,9 @@ use lib.Dec.{ltb, eqb}
 use borrow.Author.Tests.{eqb-true, eqb-false, eq-eqb}
 use lib.ListN.{length, take}
 use lib.Ieee.{Float}
-use Rattle.types.specs.declared.Settings.{Settings}
-use Rattle.types.specs.Counts.{bit}
-use Rattle.types.proofs.Cases.{by-test}
+use Rattle.shared.specs.declared.Settings.{Settings}
+use Rattle.shared.specs.Counts.{bit}
+use Rattle.shared.proofs.Cases.{by-test}
 use Rattle.pulses.specs.Runs.{Pulse, edges}
 use Rattle.pulses.specs.Yardstick.{Call, Given}
 use Rattle.pulses.specs.Demand.{Program, Place, slotsBetween, Gives, settingsAt, pulsesAt, Holds, Each, NoneYet, Demand3}

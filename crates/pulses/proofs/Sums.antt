@@ -5,7 +5,7 @@ use mathlib.Core.List.{List, [], _∷_}
 use Prim.Native.Nat.{ℕ}
 use lib.Ieee.{Float}
 use Rattle.arith.specs.Carry.{roundedOf}
-use Rattle.types.specs.declared.Settings.{Settings}
+use Rattle.shared.specs.declared.Settings.{Settings}
 use Rattle.slots.specs.Slots.{slotsOf}
 use Rattle.slots.specs.Sum.{sum}
 use Rattle.slots.proofs.Sum.{adds-up, all-edges}

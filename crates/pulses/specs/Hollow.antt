@@ -6,9 +6,9 @@ use Prim.Native.Nat.{ℕ, _+_, _-_, _*_, max}
 use lib.Dec.{leb, eqb}
 use lib.ListN.{set}
 use Rattle.ieee.specs.Constants.{zero32}
-use Rattle.types.specs.declared.Settings.{Settings}
-use Rattle.types.specs.declared.Out.{Out}
-use Rattle.types.specs.Counts.{bit}
+use Rattle.shared.specs.declared.Settings.{Settings}
+use Rattle.shared.specs.declared.Out.{Out}
+use Rattle.shared.specs.Counts.{bit}
 use Rattle.lane.specs.Idle.{noOut}
 use Rattle.lane.specs.Serial.{stampOf}
 use Rattle.lane.specs.declared.Lane.{Lane}

@@ -5,7 +5,7 @@ use lib.ListN.{length, replicate}
 use lib.Ieee.{Float, binary32, neg, ofBits}
 use Rattle.arith.specs.declared.C32.{C32}
 use Rattle.ieee.specs.Constants.{zero32, one32}
-use Rattle.types.specs.declared.Settings.{Settings}
+use Rattle.shared.specs.declared.Settings.{Settings}
 use Rattle.lane.specs.declared.History.{History}
 use Rattle.lane.specs.declared.StepArgs.{StepArgs}
 use Rattle.pulses.specs.Yardstick.{as-left, Call, opening, begin, step, close}

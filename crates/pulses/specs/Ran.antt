@@ -5,7 +5,7 @@ use Rattle.arith.specs.Angle.{atan2Of}
 use Rattle.arith.specs.Carry.{widthBy, carriedAt, boundOf}
 use Rattle.ieee.specs.Rounding.{roundOf, narrowOf}
 use Rattle.root.specs.Root.{sqrtOf, exactOf, roundExact, wholeRoot}
-use Rattle.types.specs.Counts.{satAddOf, inc}
+use Rattle.shared.specs.Counts.{satAddOf, inc}
 use Rattle.run.specs.Run.{edgeAt, beginsOf, lengthenOf, rejoinOf, beginRunOf, movedOf, dueOf, startRunOf}
 use Rattle.ook.specs.Run.{advanceOf, pacRunOf, beginEnvOf}
 use Rattle.ook.specs.Refine.{refineLevelOf, refineLoOf, excessOf, splitFrom, refineInOf, refineOf}

@@ -8,9 +8,9 @@ use lib.IntN.{pos}
 use lib.ListN.{length, getD}
 use lib.Ieee.{Float, nan, binary64, ofInt}
 use Rattle.arith.specs.Leaves.{leadLenOf}
-use Rattle.types.specs.declared.Settings.{Settings}
-use Rattle.types.specs.declared.Out.{Out}
-use Rattle.types.specs.Answers.{isStayOf}
+use Rattle.shared.specs.declared.Settings.{Settings}
+use Rattle.shared.specs.declared.Out.{Out}
+use Rattle.shared.specs.Answers.{isStayOf}
 use Rattle.envelope.specs.declared.At.{At}
 use Rattle.envelope.specs.declared.Seen.{Seen}
 use Rattle.envelope.specs.See.{seeOf}

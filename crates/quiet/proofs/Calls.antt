@@ -9,11 +9,11 @@ use lib.Ieee.{Float}
 use lib.ListN.{length, length-append}
 use borrow.Author.Tests.{ltb-true, ltb-false, eqb-true}
 use Rattle.arith.specs.Leaves.{leadLenOf}
-use Rattle.types.specs.declared.Settings.{Settings}
-use Rattle.types.specs.declared.Next.{Next}
-use Rattle.types.specs.declared.Next.the-variants as next
-use Rattle.types.specs.Counts.{inc}
-use Rattle.types.proofs.Counts.{inc-exact}
+use Rattle.shared.specs.declared.Settings.{Settings}
+use Rattle.shared.specs.declared.Next.{Next}
+use Rattle.shared.specs.declared.Next.the-variants as next
+use Rattle.shared.specs.Counts.{inc}
+use Rattle.shared.proofs.Counts.{inc-exact}
 use Rattle.refusals.proofs.Domain.{InDomain}
 use Rattle.burst.specs.declared.Lead.{Lead}
 use Rattle.burst.specs.declared.Burst.{Burst}

@@ -10,22 +10,19 @@ use lib.ListN.{length}
 use borrow.Author.Tests.{leb-true, leb-false}
 use Rattle.ook.specs.declared.Env.{Env}
 use Rattle.run.specs.declared.Run.{Run}
-use Rattle.types.specs.declared.Settings.{Settings}
-use Rattle.types.specs.declared.Next.{Next}
-use Rattle.types.specs.declared.Next.the-variants.{Stay, Idle, IdleAt}
-use Rattle.types.specs.Answers.{isStayOf}
-use Rattle.types.specs.Counts.{bit}
-use Rattle.types.specs.Params.{refineAtOf}
-use Rattle.types.proofs.Cases.{either}
+use Rattle.shared.specs.declared.Settings.{Settings}
+use Rattle.shared.specs.declared.Next.{Next}
+use Rattle.shared.specs.declared.Next.the-variants.{Stay, Idle, IdleAt}
+use Rattle.shared.specs.Answers.{isStayOf}
+use Rattle.shared.specs.Counts.{bit}
+use Rattle.shared.specs.Params.{refineAtOf}
+use Rattle.shared.proofs.Cases.{either}
 use Rattle.ook.specs.Run.{beginEnvOf}
 use Rattle.refusals.proofs.Domain.{InDomain}
 use Rattle.fsk.specs.declared.Frame.{Frame}
 use Rattle.presence.specs.declared.Pres.{Pres}
 use Rattle.presence.specs.declared.Snapped.{Snapped}
-use Rattle.fsk.specs.Makers.{withRuns}
-use Rattle.fsk.specs.Makers as frame
-use Rattle.run.specs.Run.{withStart, startRunOf}
-use Rattle.presence.specs.Move.{withRun}
+use Rattle.run.specs.Run.{startRunOf}
 use Rattle.presence.specs.Presence.{nearStartOf, snapOf}
 use Rattle.envelope.specs.declared.At.{At}
 use Rattle.envelope.specs.declared.Seen.{Seen}
@@ -67,13 +64,9 @@ start-calm w high t e b more = record { away = refl; surely = refl; unframed = r
 refine-run : (m : ℕ) (a : At) (ring : List Float) (high : Float) (on : Bool) (v : Env) → let r : Run = refineDueOf m a ring high on v .run in
     (r .level ≡ v .run .level) × (r .confirmed ≡ v .run .confirmed) × (r .«run_len» ≡ v .run .«run_len»)
 unfolding refineDueOf
-refine-run m a ring high on v = go (eqb (v .«ref_pending») 1) (leb (refineAtOf m) (v .run .«run_len»))
-  where
-    go : (b c : Bool) → let r : Run = cond b (cond c (withRefined (refineOf ring m high (a .noise) on (a .«lead_at») (a .idx) v) v) v) v .run in
-        (r .level ≡ v .run .level) × (r .confirmed ≡ v .run .confirmed) × (r .«run_len» ≡ v .run .«run_len»)
-    go true true = (refl, refl, refl)
-    go true false = (refl, refl, refl)
-    go false c = (refl, refl, refl)
+refine-run m a ring high on v =
+    let same : Env → Type 0 = λ (u : Env). (u .run .level ≡ v .run .level) × (u .run .confirmed ≡ v .run .confirmed) × (u .run .«run_len» ≡ v .run .«run_len») in
+    either same (eqb (v .«ref_pending») 1) (either same (leb (refineAtOf m) (v .run .«run_len»)) (refl, refl, refl) (refl, refl, refl)) (refl, refl, refl)
 
 long-as : {n : ℕ} {v w : Run} → (w .level ≡ v .level) × (w .confirmed ≡ v .confirmed) × (w .«run_len» ≡ v .«run_len») → Long n v → Long n w
 long-as q L = record { flag = rw (q .1) (L .flag); low = λ e. rw (q .2) (L .low (sym (q .0) ∙ e)); high = λ e. L .high (λ z. e (q .0 ∙ z)) }
@@ -81,12 +74,9 @@ long-as q L = record { flag = rw (q .1) (L .flag); low = λ e. rw (q .2) (L .low
 -- an envelope's edge moves the start of presence, and no more of it
 snap-level : (began on : Bool) (t : Float) (s : Pres) (f : Frame) → (snapIfOf began on t s f .pres .run .level ≡ s .run .level) × (snapIfOf began on t s f .pres .run .confirmed ≡ s .run .confirmed)
 unfolding snapIfOf snapOf
-snap-level true true t s f = go (nearStartOf (s .run .level) (f .«fsk_phase») (f .done .«fsk_runs») (sub binary64 t (s .run .«t_run»)))
-  where
-    go : (b : Bool) → let n : Snapped = cond b (record { pres = withRun (withStart t (s .run)) s; frame = withRuns (frame.withRun (withStart t (f .runs .run)) (f .runs)) f }) (record { pres = s; frame = f }) in
-        (n .pres .run .level ≡ s .run .level) × (n .pres .run .confirmed ≡ s .run .confirmed)
-    go true = (refl, refl)
-    go false = (refl, refl)
+snap-level true true t s f =
+    either (λ (n : Snapped). (n .pres .run .level ≡ s .run .level) × (n .pres .run .confirmed ≡ s .run .confirmed))
+    (nearStartOf (s .run .level) (f .«fsk_phase») (f .done .«fsk_runs») (sub binary64 t (s .run .«t_run»))) (refl, refl) (refl, refl)
 snap-level true false t s f = (refl, refl)
 snap-level false on t s f = (refl, refl)
 

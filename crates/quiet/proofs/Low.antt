@@ -11,11 +11,11 @@ use Rattle.ook.specs.declared.Env.{Env}
 use Rattle.run.specs.declared.Run.{Run}
 use Rattle.ook.specs.declared.Train.{Train}
 use Rattle.ook.specs.declared.Done.{Done}
-use Rattle.types.proofs.Cases.{either}
-use Rattle.types.specs.declared.Out.{Out}
-use Rattle.types.specs.declared.Settings.{Settings}
-use Rattle.types.specs.declared.Next.the-variants.{Idle}
-use Rattle.types.specs.Counts.{satAddOf}
+use Rattle.shared.proofs.Cases.{either}
+use Rattle.shared.specs.declared.Out.{Out}
+use Rattle.shared.specs.declared.Settings.{Settings}
+use Rattle.shared.specs.declared.Next.the-variants.{Idle}
+use Rattle.shared.specs.Counts.{satAddOf}
 use Rattle.run.specs.Run.{lengthenOf, rejoinOf, beginRunOf, movedOf, dueOf}
 use Rattle.ook.specs.Run.{advanceOf}
 use Rattle.domain.specs.Limits.{maxSteps}

@@ -3,8 +3,8 @@ use mathlib.Core.Path.{_≡_, refl, sym, subst}
 use mathlib.Core.Bool.{Bool, true}
 use mathlib.Core.List.{List, [], _∷_}
 use Prim.Native.Nat.{ℕ}
-use Rattle.types.specs.declared.Settings.{Settings}
-use Rattle.types.proofs.Tests.{both-true}
+use Rattle.shared.specs.declared.Settings.{Settings}
+use Rattle.shared.proofs.Tests.{both-true}
 use Rattle.refusals.proofs.Domain.{InDomain}
 use Rattle.lane.specs.declared.StepArgs.{StepArgs}
 use Rattle.lane.specs.Idle.{idleLane}

@@ -2,7 +2,7 @@
 use mathlib.Core.Path.{_≡_}
 use mathlib.Core.List.{List, [], _∷_, _++_, map}
 use Prim.Native.Nat.{ℕ, _+_}
-use Rattle.types.specs.declared.Settings.{Settings}
+use Rattle.shared.specs.declared.Settings.{Settings}
 use Rattle.lane.specs.declared.Reply.the-variants.{Stay}
 use Rattle.pulses.specs.Yardstick.{Call, opening, Yardstick, unused}
 use Rattle.pulses.specs.Demand.{Program}

@@ -7,10 +7,10 @@ use native.Mathlib.Omega.{arith}
 use lib.Dec.{eqb}
 use lib.Ieee.{Float}
 use Rattle.domain.specs.Limits.{maxSteps}
-use Rattle.types.specs.Answers.{isStayOf}
-use Rattle.types.specs.Params.{fskMinOf}
-use Rattle.types.proofs.Cases.{either, by-test}
-use Rattle.types.specs.declared.Settings.{Settings}
+use Rattle.shared.specs.Answers.{isStayOf}
+use Rattle.shared.specs.Params.{fskMinOf}
+use Rattle.shared.proofs.Cases.{either, by-test}
+use Rattle.shared.specs.declared.Settings.{Settings}
 use Rattle.fsk.specs.declared.Frame.{Frame}
 use Rattle.presence.specs.Presence.{presenceOf}
 use Rattle.presence.specs.declared.Pres.{Pres}

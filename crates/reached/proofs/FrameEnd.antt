@@ -7,15 +7,15 @@ use lib.Dec.{eqb}
 use lib.Ieee.{Float, le, sub, binary64, ofBits}
 use borrow.Author.Tests.{eqb-true, eqb-false}
 use Rattle.arith.specs.declared.C32.{C32}
-use Rattle.types.proofs.Cases.{either, by-test, bit-flag}
+use Rattle.shared.proofs.Cases.{either, by-test, bit-flag}
 use Rattle.ook.proofs.Limits.{empty-within, end-train-within}
 use Rattle.ook.specs.Limits.{TrainWithin, OutWithin}
 use Rattle.ook.specs.Train.{withPairs, withEnd, endTrainOf}
 use Rattle.ook.specs.declared.Train.{Train}
-use Rattle.types.specs.declared.Out.{Out}
+use Rattle.shared.specs.declared.Out.{Out}
 use Rattle.ook.specs.declared.Ended.{Ended}
-use Rattle.types.specs.declared.Settings.{Settings}
-use Rattle.types.specs.declared.Carrier.{Carrier}
+use Rattle.shared.specs.declared.Settings.{Settings}
+use Rattle.shared.specs.declared.Carrier.{Carrier}
 use Rattle.fsk.specs.declared.Committed.{Committed}
 use Rattle.fsk.specs.declared.Runs.{Runs}
 use Rattle.fsk.specs.declared.Frame.{Frame}

@@ -7,8 +7,8 @@ use lib.Dec.{leb, eqb}
 use lib.Ieee.{Float, lt}
 use borrow.Author.Tests.{leb-false, eqb-false}
 use Rattle.arith.specs.Leaves.{fskWidthOf}
-use Rattle.types.specs.Counts.{inc, bit}
-use Rattle.types.proofs.Cases.{either, by-test, bit-flag}
+use Rattle.shared.specs.Counts.{inc, bit}
+use Rattle.shared.proofs.Cases.{either, by-test, bit-flag}
 use Rattle.fsk.specs.Commit.{countRunOf, upperRunOf, lowerRunOf, fskCommitOf}
 use Rattle.fsk.specs.RunStep.{lengthenOf, confirmOf, confirmDueOf, moveRunsOf, fskRunStepOf}
 use Rattle.run.specs.Run.{dueOf, startRunOf}

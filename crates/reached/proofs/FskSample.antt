@@ -8,9 +8,9 @@ use lib.Ieee.{Float}
 use borrow.Author.Tests.{ltb-true}
 use Rattle.arith.specs.declared.C32.{C32}
 use Rattle.arith.specs.Leaves.{edgeOf, crossOf}
-use Rattle.types.specs.Params.{fskMinOf}
-use Rattle.types.proofs.Cases.{either, by-test}
-use Rattle.types.specs.declared.Settings.{Settings}
+use Rattle.shared.specs.Params.{fskMinOf}
+use Rattle.shared.proofs.Cases.{either, by-test}
+use Rattle.shared.specs.declared.Settings.{Settings}
 use Rattle.fsk.specs.Makers.{meanOf}
 use Rattle.fsk.specs.Resolve.{sliceThrOf}
 use Rattle.fsk.specs.declared.Mean.{Mean}

@@ -9,16 +9,16 @@ use lib.Dec.{ltb, eqb}
 use lib.Ieee.{Float}
 use borrow.Author.Tests.{le-leb, lt-ltb, eqb-true}
 use Rattle.domain.specs.Limits.{maxCount, maxBound, maxSerial}
-use Rattle.types.specs.Core.{numbered}
-use Rattle.types.specs.Params.{fskMinOf}
+use Rattle.shared.specs.Core.{numbered}
+use Rattle.shared.specs.Params.{fskMinOf}
 use Rattle.run.specs.Limits.{RunWithin}
 use Rattle.run.specs.declared.Run.{Run}
 use Rattle.ook.specs.Limits.{EnvWithin, TrainWithin, OutWithin}
 use Rattle.ook.proofs.Limits.{end-train-within}
 use Rattle.ook.specs.declared.Env.{Env}
 use Rattle.ook.specs.declared.Train.{Train}
-use Rattle.types.specs.declared.Out.{Out}
-use Rattle.types.specs.declared.Settings.{Settings}
+use Rattle.shared.specs.declared.Out.{Out}
+use Rattle.shared.specs.declared.Settings.{Settings}
 use Rattle.fsk.specs.declared.Frame.{Frame}
 use Rattle.presence.specs.declared.Pres.{Pres}
 use Rattle.burst.specs.Makers.{withSerials}

@@ -10,14 +10,14 @@ use lib.IntN.{pos}
 use lib.Ieee.{Float, lt, add, sub, binary64, ofInt}
 use Rattle.arith.specs.declared.C32.{C32}
 use Rattle.ieee.specs.Constants.{one64}
-use Rattle.types.specs.Counts.{bit}
-use Rattle.types.specs.Answers.{isStayOf}
-use Rattle.types.specs.Params.{fskMinOf}
-use Rattle.types.proofs.Cases.{either, by-test}
+use Rattle.shared.specs.Counts.{bit}
+use Rattle.shared.specs.Answers.{isStayOf}
+use Rattle.shared.specs.Params.{fskMinOf}
+use Rattle.shared.proofs.Cases.{either, by-test}
 use Rattle.ook.proofs.Limits.{empty-within, begin-env-within}
 use Rattle.ook.specs.Limits.{EnvWithin, TrainWithin, OutWithin}
-use Rattle.types.specs.declared.Settings.{Settings}
-use Rattle.types.specs.declared.Out.{Out}
+use Rattle.shared.specs.declared.Settings.{Settings}
+use Rattle.shared.specs.declared.Out.{Out}
 use Rattle.fsk.specs.RunStep.{lengthenOf, confirmOf, confirmDueOf, moveRunsOf, fskRunStepOf}
 use Rattle.run.specs.Run.{dueOf}
 use Rattle.run.specs.declared.Run.{Run}

@@ -12,10 +12,10 @@ use borrow.Author.Tests.{eqb-true, eqb-false, ltb-false}
 use Rattle.domain.specs.Limits.{maxSteps}
 use Rattle.ieee.specs.Constants.{one64}
 use Rattle.arith.specs.Leaves.{edgeOf, crossOf}
-use Rattle.types.specs.Counts.{satAddOf}
-use Rattle.types.specs.Params.{fskMinOf}
-use Rattle.types.proofs.Cases.{by-test}
-use Rattle.types.specs.declared.Settings.{Settings}
+use Rattle.shared.specs.Counts.{satAddOf}
+use Rattle.shared.specs.Params.{fskMinOf}
+use Rattle.shared.proofs.Cases.{by-test}
+use Rattle.shared.specs.declared.Settings.{Settings}
 use Rattle.run.specs.Run.{withStart, lengthenOf, rejoinOf, beginRunOf, movedOf, dueOf}
 use Rattle.run.specs.declared.Run.{Run}
 use Rattle.fsk.specs.Makers.{withRuns}
@@ -34,7 +34,7 @@ use Rattle.reached.specs.Limits.{mostRuns, FrameWithin, Running, PresWit
 use Rattle.reached.proofs.Fsk.{begin-frame-within}
 use Rattle.reached.proofs.FskSample.{fsk-min-above, sample-within}
 use Rattle.reached.proofs.FrameEnd.{DoneWithin, frame-done-within}
-use Rattle.types.specs.Answers.{isStayOf}
+use Rattle.shared.specs.Answers.{isStayOf}
 
 -- larger bounds hold too
 frame-up : {max least k m k′ m′ : ℕ} {fr : Frame} → k ≤ k′ → m ≤ m′ → FrameWithin max least k m fr → FrameWithin max least k′ m′ fr

@@ -12,11 +12,11 @@ use lib.Ieee.{Float, nan, binary64, ofInt, ofBits, toBits}
 use borrow.Author.Tests.{leb-true, le-leb, lt-ltb, ltb-true, eqb-true, eqb-false, not-true}
 use Rattle.domain.specs.Limits.{maxIndex, spentSerial, maxSerial}
 use Rattle.arith.specs.Leaves.{leadLenOf}
-use Rattle.types.specs.declared.Settings.{Settings}
-use Rattle.types.proofs.Cases.{either, by-test}
-use Rattle.types.specs.Answers.{isStayOf}
-use Rattle.types.specs.declared.Next.{Next}
-use Rattle.types.specs.declared.Next.the-variants as next
+use Rattle.shared.specs.declared.Settings.{Settings}
+use Rattle.shared.proofs.Cases.{either, by-test}
+use Rattle.shared.specs.Answers.{isStayOf}
+use Rattle.shared.specs.declared.Next.{Next}
+use Rattle.shared.specs.declared.Next.the-variants as next
 use Rattle.burst.specs.Makers.{withSerials}
 use Rattle.burst.specs.declared.Burst.{Burst}
 use Rattle.burst.specs.declared.Lead.{Lead}
@@ -27,7 +27,7 @@ use Rattle.refusals.specs.Domain.{settingsOk, unsetOk, indexOk, roomOk}
 use Rattle.refusals.specs.State.{burstOk, frameOk, leadOk, candOk}
 use Rattle.refusals.specs.Order.{firstFailed}
 use Rattle.refusals.proofs.Order.{passed, AllPassed, none-failed}
-use Rattle.types.proofs.Tests.{both-true}
+use Rattle.shared.proofs.Tests.{both-true}
 use Rattle.reached.specs.Limits.{BurstWithin, UnderWay}
 use Rattle.reached.proofs.Burst.{SampledWithin, sample-within, replay-within, begin-burst-within}
 use Rattle.reached.proofs.Kept.{burst-ok, cand-ok, none-within, cleared-within, cleared-runs, factor-within, ended-within, serials-within}

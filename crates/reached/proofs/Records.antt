@@ -12,13 +12,13 @@ use lib.Ieee.{Float, nan, binary64, ofInt}
 use borrow.Author.Tests.{leb-true, eqb-true, not-true}
 use Rattle.domain.specs.Limits.{maxSlots, maxCount, maxBound}
 use Rattle.arith.specs.Leaves.{leadLenOf}
-use Rattle.types.proofs.Tests.{both-true, six-true}
-use Rattle.types.proofs.Cases.{either, by-test}
+use Rattle.shared.proofs.Tests.{both-true, six-true}
+use Rattle.shared.proofs.Cases.{either, by-test}
 use Rattle.ook.specs.Limits.{EnvWithin, TrainWithin}
 use Rattle.ook.specs.declared.Env.{Env}
 use Rattle.ook.specs.declared.Train.{Train}
-use Rattle.types.specs.declared.Out.{Out}
-use Rattle.types.specs.declared.Settings.{Settings}
+use Rattle.shared.specs.declared.Out.{Out}
+use Rattle.shared.specs.declared.Settings.{Settings}
 use Rattle.fsk.specs.declared.Committed.{Committed}
 use Rattle.fsk.specs.declared.Frame.{Frame}
 use Rattle.burst.specs.declared.Burst.{Burst}

@@ -1,5 +1,5 @@
 -- An accepted call raises the serial by 1, whatever the lane, and puts it in both records; a refused one leaves the lane. So along a list the
--- serials count up. Assumes nothing.
+-- serials count up.
 use Prim.Native.Nat.{ℕ, zero, suc, _+_, _<_}
 use mathlib.Core.Bool.{Bool, true, false, cond, not}
 use mathlib.Core.Path.{_≡_, refl, sym, ap, _∙_, subst}
@@ -7,8 +7,8 @@ use mathlib.Core.List.{List, [], _∷_, _++_}
 use native.Mathlib.Nat.{not-suc-le-zero}
 use native.Mathlib.Omega.{arith}
 use lib.Dec.{eqb}
-use Rattle.types.specs.declared.Next.{Next}
-use Rattle.types.specs.declared.Next.the-variants as next
+use Rattle.shared.specs.declared.Next.{Next}
+use Rattle.shared.specs.declared.Next.the-variants as next
 use lib.ListN.{length, getD}
 use Rattle.lane.specs.declared.Answer.{Answer}
 use Rattle.lane.specs.declared.Lane.{Lane}
@@ -17,7 +17,7 @@ use Rattle.lane.specs.Advance.{advanceOf, fillOf, settleOf}
 use Rattle.lane.specs.Answers.{replyNumberOf, replyOf}
 use Rattle.lane.specs.Begin.{leadLane}
 use Rattle.lane.specs.Idle.{idleLane}
-use Rattle.types.proofs.Cases.{either}
+use Rattle.shared.proofs.Cases.{either}
 use Rattle.lane.proofs.PartLaws.{part-named}
 use Rattle.lane.specs.Refusals.{openRefusal, beginRefusal, stepRefusal, closeRefusal}
 use Rattle.lane.specs.Serial.{stampOf, stamped, stampedWith}

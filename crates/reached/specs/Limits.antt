@@ -8,8 +8,8 @@ use Rattle.fsk.specs.declared.Committed.{Committed}
 use Rattle.fsk.specs.declared.Runs.{Runs}
 use Rattle.fsk.specs.declared.Frame.{Frame}
 use Rattle.presence.specs.declared.Pres.{Pres}
-use Rattle.types.specs.Params.{fskMinOf}
-use Rattle.types.specs.declared.Settings.{Settings}
+use Rattle.shared.specs.Params.{fskMinOf}
+use Rattle.shared.specs.declared.Settings.{Settings}
 use Rattle.burst.specs.declared.Burst.{Burst}
 use Rattle.ook.specs.Limits.{EnvWithin, TrainWithin, OutWithin}
 

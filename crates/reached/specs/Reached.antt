@@ -5,7 +5,7 @@ use mathlib.Core.Path.{_≡_}
 use mathlib.Core.List.{List}
 use Rattle.domain.specs.Limits.{maxIndex, spentSerial}
 use Rattle.arith.specs.Leaves.{leadLenOf}
-use Rattle.types.specs.declared.Settings.{Settings}
+use Rattle.shared.specs.declared.Settings.{Settings}
 use Rattle.refusals.specs.Domain.{settingsOk}
 use Rattle.reached.specs.Limits.{BurstWithin, UnderWay}
 use Rattle.lane.specs.declared.BeginArgs.{BeginArgs}

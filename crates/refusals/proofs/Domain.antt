@@ -6,8 +6,8 @@ use lib.Dec.{leb}
 use borrow.Author.Tests.{leb-true}
 use Rattle.domain.specs.Limits.{maxPulses, maxSteps}
 use Rattle.ieee.specs.Constants.{zero32, one32}
-use Rattle.types.specs.declared.Settings.{Settings}
-use Rattle.types.proofs.Tests.{both-true, six-true}
+use Rattle.shared.specs.declared.Settings.{Settings}
+use Rattle.shared.proofs.Tests.{both-true, six-true}
 use Rattle.refusals.specs.Domain.{within, between, million32, settingsOk}
 
 -- the ranges of the whole numbers, one by one

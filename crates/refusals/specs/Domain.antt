@@ -7,7 +7,7 @@ use lib.Ieee.{Float, binary32, le, neg, ofBits, toBits}
 use Rattle.domain.specs.Limits.{maxPulses, maxSteps, maxIndex}
 use Rattle.ieee.specs.Constants.{zero32, one32}
 use Rattle.arith.specs.declared.C32.{C32}
-use Rattle.types.specs.declared.Settings.{Settings}
+use Rattle.shared.specs.declared.Settings.{Settings}
 
 abbrev pub within : ℕ → ℕ → ℕ → Bool
 within lo hi n = leb lo n && leb n hi

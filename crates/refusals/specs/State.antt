@@ -5,11 +5,11 @@ use mathlib.Core.Bool.{Bool, not, _&&_, _||_}
 use lib.Dec.{leb, ltb, eqb}
 use Rattle.domain.specs.Limits.{maxIndex, maxCount, maxBound}
 use Rattle.arith.specs.Leaves.{leadLenOf}
-use Rattle.types.specs.Params.{fskMinOf}
+use Rattle.shared.specs.Params.{fskMinOf}
 use Rattle.run.specs.declared.Run.{Run}
 use Rattle.ook.specs.declared.Env.{Env}
 use Rattle.ook.specs.declared.Train.{Train}
-use Rattle.types.specs.declared.Out.{Out}
+use Rattle.shared.specs.declared.Out.{Out}
 use Rattle.fsk.specs.declared.Runs.{Runs}
 use Rattle.fsk.specs.declared.Committed.{Committed}
 use Rattle.fsk.specs.declared.Frame.{Frame}

@@ -16,8 +16,8 @@ use ook::Env;
 use ook::Train;
 use presence::Pres;
 use run::Run;
-use types::Out;
-use types::Settings;
+use shared::Out;
+use shared::Settings;
 
 fn within_range(lo: u32, hi: u32, n: u32) -> bool
     ensures { λ r. ⌜ r ≡ within lo hi n ⌝ }
@@ -217,7 +217,7 @@ pub fn lead_ok(phase: u32, min_steps: u32, l: Lead) -> bool
 pub fn cand_ok(phase: u32, min_steps: u32, f: Frame) -> bool
     ensures { λ r. ⌜ r ≡ candOk phase «min_steps» f ⌝ }
 {
-    (phase != 2) | (f.fsk_phase != 0) | (f.cand.fsk_cand < types::fsk_min(min_steps))
+    (phase != 2) | (f.fsk_phase != 0) | (f.cand.fsk_cand < shared::fsk_min(min_steps))
 }
 
 // k where a check fails, and else what the later checks give.

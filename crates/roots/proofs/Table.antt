@@ -1,4 +1,4 @@
--- What the program prints is the table in the code: its entries are what `table::first_digits` gives, by that function's contract. Assumes nothing.
+-- What the program prints is the table in the code: its entries are what `table::first_digits` gives, by that function's contract.
 use mathlib.Core.Path.{_≡_, refl, ap, _∙_}
 use mathlib.Core.List.{List, _++_}
 use Prim.Native.Nat.{ℕ, zero, suc, _+_, _≤_, _<_}

@@ -3,7 +3,7 @@ use Prim.Native.Nat.{ℕ, _≤_}
 use mathlib.Core.Bool.{Bool}
 use native.Mathlib.Omega.{arith}
 use lib.Ieee.{Float}
-use Rattle.types.proofs.Cases.{either}
+use Rattle.shared.proofs.Cases.{either}
 use Rattle.run.specs.declared.Run.{Run}
 use Rattle.run.specs.Run.{withConfirmed, lengthenOf, rejoinOf, beginRunOf, movedOf, startRunOf}
 use Rattle.run.specs.Limits.{RunWithin}

@@ -4,7 +4,7 @@ use mathlib.Core.Bool.{Bool, false, cond, not}
 use lib.Dec.{leb, eqb}
 use lib.Ieee.{Float}
 use Rattle.arith.specs.Leaves.{edgeOf, crossOf}
-use Rattle.types.specs.Counts.{satAddOf}
+use Rattle.shared.specs.Counts.{satAddOf}
 use Rattle.run.specs.declared.Run.{Run}
 use Rattle.run.specs.declared.Crossing.{Crossing}
 

@@ -49,7 +49,7 @@ pub fn begins(same: bool, short: bool) -> bool
 pub fn lengthen(r: Run) -> Run
     ensures { λ s. ⌜ s ≡ lengthenOf r ⌝ }
 {
-    let n = types::sat_add(r.run_len, 1);
+    let n = shared::sat_add(r.run_len, 1);
     let mut q = r;
     q.run_len = n;
     q
@@ -59,7 +59,7 @@ pub fn lengthen(r: Run) -> Run
 pub fn rejoin(r: Run, level: u32) -> Run
     ensures { λ s. ⌜ s ≡ rejoinOf r level ⌝ }
 {
-    let n = types::sat_add(types::sat_add(r.prev_len, r.run_len), 1);
+    let n = shared::sat_add(shared::sat_add(r.prev_len, r.run_len), 1);
     let mut q = r;
     q.level = level;
     q.run_len = n;

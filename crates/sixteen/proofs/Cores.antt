@@ -7,7 +7,7 @@ use native.Mathlib.Omega.{arith}
 use lib.ListN.{length, drop}
 use lib.Dec.{eqb, ltb}
 use borrow.Author.Tests.{eqb-true, lt-ltb}
-use Rattle.types.proofs.Tests.{both-true}
+use Rattle.shared.proofs.Tests.{both-true}
 use Rattle.lane.specs.declared.Lane.{Lane}
 use Rattle.lane.specs.declared.Reply.{Reply}
 use Rattle.lane.specs.declared.StepArgs.{StepArgs}

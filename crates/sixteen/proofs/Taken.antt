@@ -9,7 +9,7 @@ use lib.ListN.{length, take, drop, length-drop}
 use lib.Seq.{sets, drop-append-le}
 use lib.Dec.{eqb, ltb, leb}
 use borrow.Author.Tests.{ltb-true, ltb-false, not-true}
-use Rattle.types.proofs.Tests.{both-true, clash}
+use Rattle.shared.proofs.Tests.{both-true, clash}
 use Rattle.lane.specs.declared.Lane.{Lane}
 use Rattle.lane.specs.declared.Answer.{Answer}
 use Rattle.lane.specs.declared.Reply.{Reply}

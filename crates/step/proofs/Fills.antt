@@ -1,4 +1,4 @@
--- A loop that fills an array of n places with the elements of a list t, place by place: a turn, and its end. Assumes nothing.
+-- A loop that fills an array of n places with the elements of a list t, place by place: a turn, and its end.
 use Prim.Native.Nat.{ℕ, _+_, _<_, _≤_}
 use mathlib.Core.Path.{_≡_, refl, ap, sym, _∙_}
 use mathlib.Core.List.{List, [], _∷_, _++_}

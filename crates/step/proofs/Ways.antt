@@ -1,6 +1,6 @@
 -- A step of core and arrays is a step of the lane that they stand for, by the ways that it goes: refused; a sample of the lead-in that does not
 -- fill it; one that does; a sample of the burst. Each law takes what the code has there, as its calls ensure it, and the definition
--- with the same tests gives the answer. Assumes nothing.
+-- with the same tests gives the answer.
 use Prim.Native.Nat.{ℕ, zero, suc, _+_}
 use mathlib.Core.Bool.{Bool, true, false}
 use mathlib.Core.Path.{_≡_, refl, ap, sym, _∙_}
@@ -12,7 +12,7 @@ use lib.IntN.{pos}
 use lib.Ieee.{Float, nan, binary64, ofInt}
 use Rattle.arith.specs.Leaves.{leadLenOf}
 use Rattle.arith.specs.declared.C32.{C32}
-use Rattle.types.specs.declared.Settings.{Settings}
+use Rattle.shared.specs.declared.Settings.{Settings}
 use Rattle.envelope.specs.declared.At.{At}
 use Rattle.burst.specs.Lead.{leadAddOf, leadAtOf, largestOf, beginBurstOf, onward, replayFrom, replayOf, leadFullOf, staying}
 use Rattle.burst.specs.Sample.{sampleOf}

@@ -1,4 +1,4 @@
--- The samples of a lead-in from their real and imaginary parts: a place stored, read, and their number. Assumes nothing.
+-- The samples of a lead-in from their real and imaginary parts: a place stored, read, and their number.
 use Prim.Native.Nat.{ℕ, zero, suc}
 use mathlib.Core.Path.{_≡_, refl, ap}
 use mathlib.Core.List.{List, [], _∷_}

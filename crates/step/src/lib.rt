@@ -8,7 +8,7 @@ ghost use Rattle.lane.specs.Refusals.{stepRefusalBy};
 ghost use Rattle.lane.specs.Begin.{ringOf, clearedOf};
 ghost use Rattle.step.specs.Core.{zipOf, realsOf, imaginariesOf, leadIn, joinedOf, atCall};
 ghost use Rattle.fsk.specs.Core.{wholeFrame};
-ghost use Rattle.types.specs.Core.{wholeOut};
+ghost use Rattle.shared.specs.Core.{wholeOut};
 ghost use mathlib.Core.List.{List};
 ghost use lib.Ieee.{Float, binary64, ofInt, nan};
 ghost use lib.IntN.{pos};
@@ -34,9 +34,9 @@ use lane::Answer;
 use lane::Lane;
 use lane::Reply;
 use lane::StepArgs;
-use types::Next;
-use types::OutCore;
-use types::Settings;
+use shared::Next;
+use shared::OutCore;
+use shared::Settings;
 
 // ---- refusals
 
@@ -136,8 +136,8 @@ fn core_burst(b: Burst) -> BurstCore
     let o = b.out_ook;
     let g = b.out_fsk;
     let frame = core_frame(f);
-    let out_ook = types::core_out(o);
-    let out_fsk = types::core_out(g);
+    let out_ook = shared::core_out(o);
+    let out_fsk = shared::core_out(g);
     BurstCore {
         high: b.high,
         e_prev: b.e_prev,
@@ -277,8 +277,8 @@ fn whole_burst(b: BurstCore, cs: [f32; 8], serial: u64) -> Burst
     let o = b.out_ook;
     let g = b.out_fsk;
     let frame = whole_frame(f, cs);
-    let out_ook = types::whole_out(o, serial);
-    let out_fsk = types::whole_out(g, serial);
+    let out_ook = shared::whole_out(o, serial);
+    let out_fsk = shared::whole_out(g, serial);
     Burst {
         high: b.high,
         e_prev: b.e_prev,
@@ -362,9 +362,9 @@ fn lead_add(
         es[i] = e;
         re[i + 1] = x.re;
         im[i + 1] = x.im;
-        return types::inc(n);
+        return shared::inc(n);
     }
-    types::inc(n)
+    shared::inc(n)
 }
 
 // What a sample of the burst reads.

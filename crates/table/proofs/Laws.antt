@@ -1,4 +1,4 @@
--- The entry of i is the one number that the rule allows. Assumes nothing.
+-- The entry of i is the one number that the rule allows.
 use mathlib.Core.Path.{_≡_, refl, sym, subst}
 use mathlib.Core.Bool.{Bool, true, false, not, _&&_, cond}
 use Prim.Native.Nat.{ℕ, zero, suc, _+_, _*_, _≤_, _<_}

@@ -1,4 +1,4 @@
--- The test that passes at the words is the rule at every entry: one law, by induction over the bytes of a word. Assumes nothing.
+-- The test that passes at the words is the rule at every entry: one law, by induction over the bytes of a word.
 use mathlib.Core.Path.{_≡_, sym, ap, _∙_, subst}
 use mathlib.Core.Bool.{Bool, true, false, _&&_, cond}
 use Prim.Native.Nat.{ℕ, zero, suc, _+_, _*_, _/_, _%_, _^_, _≤_, _<_}

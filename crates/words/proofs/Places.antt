@@ -2,7 +2,7 @@
 use Prim.Native.Nat.{ℕ, suc, _+_, _*_, _/_, _%_, _-_}
 use mathlib.Core.Bool.{Bool, true, false, cond, _&&_}
 use mathlib.Core.List.{List}
-use mathlib.Core.Path.{_≡_, refl, sym}
+use mathlib.Core.Path.{_≡_, refl, sym, _∙_}
 use native.Mathlib.Omega.{arith}
 use lib.ListN.{getD, set}
 use lib.Dec.{eqb}
@@ -38,6 +38,10 @@ in-fours b n = go (eqb (b % 4) 0) (eqb (b / 4) n) refl refl
     go true true ex ey = sym (eq-eqb b (4 * n) (omega (arith, eqb-true (b % 4) 0 ex, eqb-true (b / 4) n ey)))
     go true false ex ey = sym (ne-eqb b (4 * n) (λ e. eqb-false (b / 4) n ey (omega arith)))
     go false y ex ey = sym (ne-eqb b (4 * n) (λ e. eqb-false (b % 4) 0 ex (omega arith)))
+
+-- what the test of the lengths tells
+pub as-many : {a b : ℕ} {t : Bool} → t ≡ eqb a b → t ≡ true → a ≡ b
+as-many {a} {b} e h = eqb-true a b (sym e ∙ h)
 
 -- what a test chooses between two lists
 pub chosen : (a b : List ℕ) {t u : Bool} {x : List ℕ} → t ≡ u → t ≡ true → x ≡ a → x ≡ cond u a b

@@ -7,7 +7,7 @@ use Rattle.fit.specs.Slots.{transitionsOf, fold}
 use Rattle.fit.specs.Fit.{symbolsOf, kAfter, fitStep, sumsOf, lineWith, lineOf, fitOf, runNear, runAfter, checkStep, answerOf, checkOf, checkLine, secondOf, gridFitOf}
 use Rattle.grid.specs.Guess.{shorterOf, runsStep, runsOf, runTo, addedOf, meanStep, meanOf, betterOf, triedOf, tryStep, searchOf, gridOf}
 use Rattle.grid.specs.Widths.{measuredOf, endOf, clockOf, placeOf, onGridOf, widthsOn, fskWidthsOf}
-use Rattle.types.specs.Counts.{satAddOf}
+use Rattle.shared.specs.Counts.{satAddOf}
 use Rattle.run.specs.Run.{edgeAt, lengthenOf, rejoinOf, beginRunOf, movedOf, beginsOf, dueOf, startRunOf}
 use Rattle.ook.specs.Run.{advanceOf, beginEnvOf}
 use Rattle.ook.specs.Train.{pushPulseOf, closeGapOf, emptyTrainOf, endTrainOf, pulseDoneOf, gapRatioExceededOf}

@@ -9,7 +9,7 @@ use Rattle.ieee.specs.Rounding.{roundOf, narrowOf}
 use Rattle.root.specs.Root.{wholeRoot, roundExact, exactOf, sqrtOf}
 use Rattle.arith.specs.Leaves.{absOf, midpointOf, flushOf, crossOf, nearestIn}
 use Rattle.arith.specs.Carry.{widthBy, carriedAt, boundOf}
-use Rattle.types.specs.Counts.{satAddOf, inc}
+use Rattle.shared.specs.Counts.{satAddOf, inc}
 use Rattle.ook.specs.Refine.{refineLevelOf, refineLoOf, excessOf, splitFrom, refineInOf, refineOf}
 use Rattle.run.specs.Run.{beginsOf, lengthenOf, rejoinOf, beginRunOf, movedOf, dueOf, startRunOf}
 use Rattle.ook.specs.Run.{advanceOf as advanceRunOf, zeroIf, pacRunOf, beginEnvOf}

@@ -12,10 +12,10 @@ use lib.Ieee.{Float, nan, binary32, binary64, ofBits, toBits, ofInt}
 use Rattle.ieee.specs.Constants.{zero32, one32, zero64}
 use Rattle.arith.specs.Leaves.{stepOf, gainOf}
 use Rattle.grid.specs.Widths.{fskWidthsOf}
-use Rattle.types.specs.Counts.{bit, zeroC32}
-use Rattle.types.specs.declared.Out.{Out}
-use Rattle.types.specs.declared.Settings.{Settings}
-use Rattle.types.specs.declared.Carrier.the-variants.{Angle}
+use Rattle.shared.specs.Counts.{bit, zeroC32}
+use Rattle.shared.specs.declared.Out.{Out}
+use Rattle.shared.specs.declared.Settings.{Settings}
+use Rattle.shared.specs.declared.Carrier.the-variants.{Angle}
 use Rattle.run.specs.Run.{runOf, rejoinOf}
 use Rattle.ook.specs.Run.{envOf}
 use Rattle.ook.specs.Train.{withFirst, withBound, withPairs, zeroSteps, pushPulseOf, endTrainOf}

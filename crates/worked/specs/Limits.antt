@@ -6,11 +6,11 @@ use mathlib.Core.List.{List, [], _∷_, _++_, map}
 use lib.ListN.{getD, set, replicate}
 use lib.Ieee.{Float, binary32, le, ofBits, toBits}
 use Rattle.ieee.specs.Constants.{zero32, zero64}
-use Rattle.types.specs.Counts.{zeroC32}
+use Rattle.shared.specs.Counts.{zeroC32}
 use Rattle.run.specs.declared.Run.{Run}
 use Rattle.ook.specs.Train.{zeroSteps}
-use Rattle.types.specs.declared.Out.{Out}
-use Rattle.types.specs.declared.Carrier.the-variants.{Angle}
+use Rattle.shared.specs.declared.Out.{Out}
+use Rattle.shared.specs.declared.Carrier.the-variants.{Angle}
 use Rattle.refusals.specs.Domain.{settingsOk, unsetOk}
 use Rattle.refusals.specs.State.{frameOk, burstOk, leadOk, candOk}
 use Rattle.lane.specs.declared.Lane.{Lane}

@@ -6,11 +6,11 @@ use mathlib.Core.List.{List, [], _∷_, map}
 use lib.ListN.{replicate}
 use lib.Ieee.{neg, le, ofBits, toBits}
 use Rattle.ieee.specs.Constants.{zero32}
-use Rattle.types.specs.Counts.{zeroC32, inc}
-use Rattle.types.specs.Core.{numbered}
-use Rattle.types.specs.declared.Out.{Out}
-use Rattle.types.specs.declared.Settings.{Settings}
-use Rattle.types.specs.declared.Carrier.the-variants.{Angle}
+use Rattle.shared.specs.Counts.{zeroC32, inc}
+use Rattle.shared.specs.Core.{numbered}
+use Rattle.shared.specs.declared.Out.{Out}
+use Rattle.shared.specs.declared.Settings.{Settings}
+use Rattle.shared.specs.declared.Carrier.the-variants.{Angle}
 use Rattle.burst.specs.Lead.{leadAddOf}
 use Rattle.refusals.specs.Domain.{settingsOk, unsetOk}
 use Rattle.refusals.specs.Order.{firstFailed}

@@ -1,4 +1,4 @@
--- `antennas::feed` meets its contract: the block is of the bytes that are there, and what it leaves is moved to the front.
+-- The block is of the bytes that are there, and what it leaves is moved to the front.
 use Prim.Native.Nat.{ℕ}
 use mathlib.Core.Path.{refl, ap, _∙_}
 use native.Mathlib.Omega.{arith}

@@ -1,4 +1,4 @@
--- `antennas::pass` meets its contract: it feeds what was left and what came.
+-- It feeds what was left and what came.
 use native.Mathlib.Omega.{arith}
 use lib.ListN.{length-take}
 use Rattle.input.proofs.Passes.{passes}

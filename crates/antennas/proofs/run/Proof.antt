@@ -1,4 +1,4 @@
--- `antennas::run` meets its contract: before each pass the blocks so far are those of the bytes that were read.
+-- Before each pass the blocks so far are those of the bytes that were read.
 use mathlib.Core.Path.{_≡_, refl, sym, subst}
 use native.Mathlib.Omega.{arith}
 use lib.ListN.{length, replicate}

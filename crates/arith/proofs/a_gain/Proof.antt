@@ -17,10 +17,7 @@ pub a-gain-spec : {M : Type 1} → statement M
 unfolding gainOf
 a-gain-spec =
     tie.close
-    (tie.spec
-    (λ c. let e = c .before .args .e in above-plain flush (mul binary32 e e) (c .if1 .taken))
-    (search needs) (search needs)
-    (λ c. plain-bits-plus _ (omega arith))
-    (λ c. simp (c .before .if1 .taken))
+    (tie.spec (λ c. let e = c .before .args .e in above-plain flush (mul binary32 e e) (c .if1 .taken)) (search needs) (search needs)
+    (λ c. plain-bits-plus _ (omega arith)) (λ c. simp (c .before .if1 .taken))
     (λ c. let e = c .before .before .args .e in simp (c .before .if1 .taken, nothing (exponentOf (toBits binary32 (mul binary32 e e))) (c .if2 .left)))
     (λ c. simp (c .if1 .left)))

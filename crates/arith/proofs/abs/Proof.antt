@@ -8,8 +8,6 @@ use Rattle.arith.proofs.abs.Tie as tie
 pub abs-spec : {M : Type 1} → statement M
 abs-spec =
     tie.close
-    (tie.spec
-    (λ c. abs-nan _ (is-nan _ (c .if1 .taken)))
-    (λ c. no-nan _ (c .if1 .left))
+    (tie.spec (λ c. abs-nan _ (is-nan _ (c .if1 .taken))) (λ c. no-nan _ (c .if1 .left))
     (λ c. abs-plain binary32 _ (c .before .good .0 .1) (no-nan _ (c .if1 .left)))
     (λ c. abs-bits binary32 (c .before .args .x) (c .before .good .0 .1)))

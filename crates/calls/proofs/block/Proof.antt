@@ -1,4 +1,4 @@
--- `calls::block` meets its contract: each turn takes the commands from its place up to the first that prints, and keeps the block `Running`.
+-- Each turn takes the commands from its place up to the first that prints, and keeps the block `Running`.
 use Prim.Native.Nat.{ℕ, _-_, _≤_}
 use mathlib.Core.Path.{_≡_, refl, sym, ap, _∙_}
 use mathlib.Core.Bool.{false}

@@ -1,4 +1,3 @@
--- `calls::call_other` meets its contract: each command by what its call ensures.
 use Prim.Native.Nat.{ℕ}
 use mathlib.Core.Bool.{Bool, true, false}
 use mathlib.Core.Path.{_≡_, ap, sym, _∙_}

@@ -1,4 +1,4 @@
--- `calls::put_answer` meets its contract: a refused call prints no record, and the others their parts.
+-- A refused call prints no record, and the others their parts.
 use Rattle.calls.proofs.Laws.{answered}
 use borrow.Author.Needs.{needs}
 use Rattle.calls.proofs.put_answer.Statement.{statement}

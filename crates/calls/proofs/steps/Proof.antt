@@ -1,4 +1,4 @@
--- `calls::steps` meets its contract: core and arrays stand for the lane, and each turn of the loop is one step more (`Steps`). Where it stops
+-- Core and arrays stand for the lane, and each turn of the loop is one step more (`Steps`). Where it stops
 -- at a command that is no step, one step at least was taken.
 use Prim.Native.Nat.{ℕ, _-_, _≤_}
 use mathlib.Core.Path.{_≡_, refl, sym, ap, subst, _∙_}
@@ -12,7 +12,7 @@ use borrow.Author.Needs.{needs}
 use Rattle.commands.specs.Command.{decoded, isStepOf}
 use Rattle.lane.specs.declared.Lane.{Lane}
 use Rattle.lane.specs.declared.Reply.{Reply}
-use Rattle.types.proofs.Tests.{clash}
+use Rattle.shared.proofs.Tests.{clash}
 use Rattle.step.specs.Core.{joinedOf}
 use Rattle.reached.specs.Reached.{Sound}
 use Rattle.calls.specs.Turn.{State}

@@ -1,4 +1,4 @@
--- `commands::decode` meets its contract: bytes that are some are their first and those after it.
+-- Bytes that are some are their first and those after it.
 use Prim.Native.Nat.{ℕ, _≤_}
 use mathlib.Core.Path.{_≡_, refl, ap, _∙_}
 use mathlib.Core.List.{List, [], _∷_}

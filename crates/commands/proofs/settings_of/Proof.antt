@@ -7,18 +7,7 @@ returns : tie.Need-returns
 unfolding settingsOf
 returns c =
     let split = c .before .before .before .before .before .before .before in
-    simp (
-      ← split .before .before .before .f32-at .ensures,
-      ← split .before .before .f32-at2 .ensures,
-      ← split .before .f32-at3 .ensures,
-      ← split .f32-at4 .ensures,
-      ← c .before .before .before .before .before .wide .ensures .0,
-      ← c .before .before .before .before .u32-at .ensures,
-      ← c .before .before .before .u32-at2 .ensures,
-      ← c .before .before .u32-at3 .ensures,
-      ← c .before .u32-at4 .ensures,
-      ← c .u32-at5 .ensures,
-    )
+    simp (← split .before .before .before .f32-at .ensures, ← split .before .before .f32-at2 .ensures, ← split .before .f32-at3 .ensures, ← split .f32-at4 .ensures, ← c .before .before .before .before .before .wide .ensures .0, ← c .before .before .before .before .u32-at .ensures, ← c .before .before .before .u32-at2 .ensures, ← c .before .before .u32-at3 .ensures, ← c .before .u32-at4 .ensures, ← c .u32-at5 .ensures)
 
 pub settings-of-spec : {M : Type 1} → statement M
 settings-of-spec =

@@ -1,4 +1,4 @@
--- `commands::size_of` meets its contract: an opening's size is what `open_size` ensures.
+-- An opening's size is what `open_size` ensures.
 use mathlib.Core.Path.{_∙_}
 use borrow.Author.Needs.{needs}
 use Rattle.commands.proofs.size_of.Statement.{statement}

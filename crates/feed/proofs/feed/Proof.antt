@@ -1,4 +1,4 @@
--- `feed::feed` meets its contract: the block is of the bytes that are there, and what it leaves is moved to the front.
+-- The block is of the bytes that are there, and what it leaves is moved to the front.
 use mathlib.Core.Path.{refl, ap, _∙_}
 use Prim.Native.Nat.{ℕ}
 use native.Mathlib.Omega.{arith}

@@ -1,4 +1,4 @@
--- `feed::shift` meets its contract: the front holds what was moved so far, and the rest of the buffer is as it was.
+-- The front holds what was moved so far, and the rest of the buffer is as it was.
 use Rattle.feed.proofs.Laws.{moved, kept, part}
 use Prim.Native.Nat.{ℕ, _-_, _≤_}
 use mathlib.Core.Path.{_≡_, refl, sym, ap, _∙_}

@@ -1,4 +1,3 @@
--- `frame_end::enough_runs` meets its contract: the definition over what the calls ensure. Assumes nothing.
 use Rattle.frame_end.specs.End.{enoughRunsOf}
 use borrow.Author.Needs.{needs}
 use Rattle.frame_end.proofs.enough_runs.Statement.{statement}

@@ -1,4 +1,3 @@
--- `frame_end::frame_done` meets its contract: at each branch the definition gives what the calls ensure. Assumes nothing.
 use Prim.Native.Nat.{ℕ}
 use mathlib.Core.Bool.{true}
 use mathlib.Core.Path.{_≡_}
@@ -6,8 +5,8 @@ use mathlib.Core.List.{List}
 use lib.Dec.{eqb}
 use lib.Ieee.{Float}
 use Rattle.arith.specs.declared.C32.{C32}
-use Rattle.types.specs.Counts.{satAddOf}
-use Rattle.types.specs.declared.Settings.{Settings}
+use Rattle.shared.specs.Counts.{satAddOf}
+use Rattle.shared.specs.declared.Settings.{Settings}
 use Rattle.ook.specs.declared.Ended.{Ended}
 use Rattle.frame_end.specs.declared.Body.{Body}
 use Rattle.frame_end.specs.declared.Framed.{Framed}

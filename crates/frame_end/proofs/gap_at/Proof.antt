@@ -1,4 +1,3 @@
--- `frame_end::gap_at` meets its contract: at each branch the definition gives what the calls ensure. Assumes nothing.
 use Rattle.frame_end.specs.Cut.{gapAtOf}
 use borrow.Author.Needs.{needs}
 use Rattle.frame_end.proofs.gap_at.Statement.{statement}

@@ -1,4 +1,3 @@
--- `frame_end::get` meets its contract: by its tests. Assumes nothing.
 use lib.ListN.{List·getD-eq-default}
 use mathlib.Core.Path.{sym}
 use borrow.Author.Needs.{needs}

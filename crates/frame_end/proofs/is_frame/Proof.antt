@@ -1,4 +1,3 @@
--- `frame_end::is_frame` meets its contract: by its tests. Assumes nothing.
 use Rattle.frame_end.specs.End.{isFrameOf}
 use Rattle.frame_end.proofs.is_frame.Statement.{statement}
 use Rattle.frame_end.proofs.is_frame.Tie as tie

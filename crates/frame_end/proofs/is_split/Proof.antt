@@ -1,4 +1,3 @@
--- `frame_end::is_split` meets its contract: by its tests. Assumes nothing.
 use Rattle.frame_end.specs.End.{isSplitOf}
 use Rattle.frame_end.proofs.is_split.Statement.{statement}
 use Rattle.frame_end.proofs.is_split.Tie as tie

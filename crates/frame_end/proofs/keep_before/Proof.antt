@@ -1,4 +1,4 @@
--- `frame_end::keep_before` meets its contract: by its loop's law, what is left from here gives the whole. Assumes nothing.
+-- By its loop's law, what is left from here gives the whole.
 use Prim.Native.Nat.{_-_}
 use mathlib.Core.Path.{_≡_, sym, _∙_}
 use native.Mathlib.Numerals.{unary-clauses}

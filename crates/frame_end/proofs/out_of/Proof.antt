@@ -1,12 +1,11 @@
--- `frame_end::out_of` meets its contract: the definition over what the calls ensure. Assumes nothing.
 use Rattle.frame_end.specs.End.{outOf}
 use borrow.Author.Needs.{needs}
 use Rattle.frame_end.proofs.out_of.Statement.{statement}
 use Rattle.frame_end.proofs.out_of.Tie as tie
 
-returns : tie.Need-returns
-unfolding outOf
-returns c = simp (← c .before .before .before .step-of .ensures, ← c .before .before .step-of2 .ensures, ← c .bit .ensures)
-
 pub out-of-spec : {M : Type 1} → statement M
-out-of-spec = tie.close (tie.spec (search needs) (search needs) (search needs) returns)
+unfolding outOf
+out-of-spec =
+    tie.close
+    (tie.spec (search needs) (search needs) (search needs)
+    (λ c. simp (← c .before .before .before .step-of .ensures, ← c .before .before .step-of2 .ensures, ← c .bit .ensures)))

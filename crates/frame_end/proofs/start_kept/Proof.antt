@@ -1,4 +1,3 @@
--- `frame_end::start_kept` meets its contract: the definition over what the calls ensure. Assumes nothing.
 use Rattle.frame_end.specs.Cut.{startKeptOf}
 use borrow.Author.Needs.{needs}
 use Rattle.frame_end.proofs.start_kept.Statement.{statement}

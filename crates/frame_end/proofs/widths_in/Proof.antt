@@ -1,4 +1,3 @@
--- `frame_end::widths_in` meets its contract: at each branch the definition gives what the calls ensure. Assumes nothing.
 use lib.Seq.{length-take-le}
 use mathlib.Core.Path.{sym}
 use borrow.Author.Tests.{le-leb, lt-leb}

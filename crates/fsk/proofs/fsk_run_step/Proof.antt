@@ -19,17 +19,5 @@ returns-3 c = simp (← c .before .before .before .before .before .before .befor
 pub fsk-run-step-spec : {M : Type 1} → statement M
 fsk-run-step-spec =
     tie.close
-    (tie.spec
-    (search needs)
-    (search needs)
-    (search needs)
-    (search needs)
-    returns
-    (search needs)
-    (search needs)
-    returns-2
-    (search needs)
-    (search needs)
-    (search needs)
-    (search needs)
-    returns-3)
+    (tie.spec (search needs) (search needs) (search needs) (search needs) returns (search needs) (search needs) returns-2 (search needs)
+    (search needs) (search needs) (search needs) returns-3)

@@ -1,4 +1,3 @@
--- `fsk_sample::before_if` meets its contract: by its tests. Assumes nothing.
 use Rattle.fsk_sample.specs.Seek.{beforeIfOf}
 use Rattle.fsk_sample.proofs.before_if.Statement.{statement}
 use Rattle.fsk_sample.proofs.before_if.Tie as tie

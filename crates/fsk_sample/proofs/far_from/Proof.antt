@@ -1,4 +1,3 @@
--- `fsk_sample::far_from` meets its contract: the definition over what the calls ensure. Assumes nothing.
 use Rattle.fsk_sample.specs.Seek.{farFromOf}
 use borrow.Author.Needs.{needs}
 use Rattle.fsk_sample.proofs.far_from.Statement.{statement}

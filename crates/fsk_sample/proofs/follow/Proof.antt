@@ -1,4 +1,3 @@
--- `fsk_sample::follow` meets its contract: by its tests. Assumes nothing.
 use Rattle.fsk_sample.specs.Tone.{followOf}
 use Rattle.fsk_sample.proofs.follow.Statement.{statement}
 use Rattle.fsk_sample.proofs.follow.Tie as tie

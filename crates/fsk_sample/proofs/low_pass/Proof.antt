@@ -1,4 +1,3 @@
--- `fsk_sample::low_pass` meets its contract: the definition over what the calls ensure. Assumes nothing.
 use Rattle.fsk_sample.specs.Tone.{lowPassOf}
 use borrow.Author.Needs.{needs}
 use Rattle.fsk_sample.proofs.low_pass.Statement.{statement}

@@ -1,4 +1,3 @@
--- `fsk_sample::seek` meets its contract: at each branch the definition gives what the calls ensure. Assumes nothing.
 use Rattle.fsk_sample.specs.Sample.{seekOf}
 use borrow.Author.Needs.{needs}
 use Rattle.fsk_sample.proofs.seek.Statement.{statement}
@@ -8,12 +7,9 @@ returns : tie.Need-returns
 unfolding seekOf
 returns c = simp (← c .before .before .before .before .before .before .before .before .before .seed .ensures, ← c .before .before .before .before .before .before .before .before .far-from .ensures, c .before .before .before .before .before .before .before .if1 .taken, ← c .before .before .before .before .before .push-cand .ensures, ← c .before .before .away .ensures)
 
-returns-2 : tie.Need-returns-2
-unfolding seekOf
-returns-2 c = simp (← c .before .before .before .before .before .before .seed .ensures, ← c .before .before .before .before .before .far-from .ensures, c .before .before .before .before .if1 .left, ← c .before .before .before .average .ensures, ← c .before .before .clear .ensures, ← c .seek-frame .ensures)
-
 pub seek-spec : {M : Type 1} → statement M
+unfolding seekOf
 seek-spec =
     tie.close
-    (tie.spec (search needs) (search needs) (search needs) (search needs) (search needs) returns (search needs)
-    (search needs) (search needs) returns-2)
+    (tie.spec (search needs) (search needs) (search needs) (search needs) (search needs) returns (search needs) (search needs) (search needs)
+    (λ c. simp (← c .before .before .before .before .before .before .seed .ensures, ← c .before .before .before .before .before .far-from .ensures, c .before .before .before .before .if1 .left, ← c .before .before .before .average .ensures, ← c .before .before .clear .ensures, ← c .seek-frame .ensures)))

@@ -1,4 +1,3 @@
--- `fsk_sample::start_of` meets its contract: by its tests. Assumes nothing.
 use Rattle.fsk_sample.specs.Seek.{startOf}
 use Rattle.fsk_sample.proofs.start_of.Statement.{statement}
 use Rattle.fsk_sample.proofs.start_of.Tie as tie
@@ -7,9 +6,7 @@ pub start-of-spec : {M : Type 1} → statement M
 unfolding startOf
 start-of-spec =
     tie.close
-    (tie.spec
-    (λ c. simp (c .before .before .if1 .taken, c .before .if2 .taken, c .if3 .taken))
+    (tie.spec (λ c. simp (c .before .before .if1 .taken, c .before .if2 .taken, c .if3 .taken))
     (λ c. simp (c .before .before .if1 .taken, c .before .if2 .taken, c .if3 .left))
     (λ c. simp (c .before .before .if1 .taken, c .before .if2 .left, c .if4 .taken))
-    (λ c. simp (c .before .before .if1 .taken, c .before .if2 .left, c .if4 .left))
-    (λ c. simp (c .if1 .left)))
+    (λ c. simp (c .before .before .if1 .taken, c .before .if2 .left, c .if4 .left)) (λ c. simp (c .if1 .left)))

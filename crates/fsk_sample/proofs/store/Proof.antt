@@ -1,4 +1,3 @@
--- `fsk_sample::store` meets its contract: by its test. Assumes nothing.
 use borrow.Author.Needs.{needs}
 use borrow.Author.Tests.{lt-ltb, le-ltb}
 use Rattle.fsk_sample.specs.Seek.{storeOf}

@@ -1,4 +1,3 @@
--- `fsk_sample::upper_of` meets its contract: by its tests. Assumes nothing.
 use Rattle.fsk_sample.specs.Tone.{upperOf}
 use Rattle.fsk_sample.proofs.upper_of.Statement.{statement}
 use Rattle.fsk_sample.proofs.upper_of.Tie as tie

@@ -8,7 +8,4 @@ use Rattle.ieee.proofs.bits_of_f32.Tie as tie
 pub bits-of-f32-spec : {M : Type 1} → statement M
 bits-of-f32-spec =
     tie.close
-    (tie.spec
-    (λ c. no-nan _ (c .if1 .left))
-    (λ c. sym (ap (toBits binary32) (is-nan _ (c .if1 .taken)) ∙ nan-written32))
-    (search needs))
+    (tie.spec (λ c. no-nan _ (c .if1 .left)) (λ c. sym (ap (toBits binary32) (is-nan _ (c .if1 .taken)) ∙ nan-written32)) (search needs))

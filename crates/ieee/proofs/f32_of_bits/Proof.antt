@@ -10,7 +10,5 @@ use Rattle.ieee.proofs.f32_of_bits.Tie as tie
 pub f32-of-bits-spec : {M : Type 1} → statement M
 f32-of-bits-spec =
     tie.close
-    (tie.spec
-    (λ c. plain-read binary32 (c .before .args .n) (ltb-false _ _ (c .if1 .left)))
-    (λ c. zero-by-zero binary32 ∙ sym (nan-read binary32 (c .before .args .n) (ltb-true _ _ (c .if1 .taken))))
-    (search needs))
+    (tie.spec (λ c. plain-read binary32 (c .before .args .n) (ltb-false _ _ (c .if1 .left)))
+    (λ c. zero-by-zero binary32 ∙ sym (nan-read binary32 (c .before .args .n) (ltb-true _ _ (c .if1 .taken)))) (search needs))

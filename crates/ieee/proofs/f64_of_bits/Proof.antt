@@ -10,7 +10,5 @@ use Rattle.ieee.proofs.f64_of_bits.Tie as tie
 pub f64-of-bits-spec : {M : Type 1} → statement M
 f64-of-bits-spec =
     tie.close
-    (tie.spec
-    (λ c. plain-read binary64 (c .before .args .n) (ltb-false _ _ (c .if1 .left)))
-    (λ c. zero-by-zero binary64 ∙ sym (nan-read binary64 (c .before .args .n) (ltb-true _ _ (c .if1 .taken))))
-    (search needs))
+    (tie.spec (λ c. plain-read binary64 (c .before .args .n) (ltb-false _ _ (c .if1 .left)))
+    (λ c. zero-by-zero binary64 ∙ sym (nan-read binary64 (c .before .args .n) (ltb-true _ _ (c .if1 .taken)))) (search needs))

@@ -1,4 +1,4 @@
--- `input::fill` meets its contract: a read leaves the bytes before its place.
+-- A read leaves the bytes before its place.
 use native.Mathlib.Omega.{arith}
 use Rattle.input.proofs.Laws.{front}
 use borrow.Author.Needs.{needs}

@@ -1,4 +1,3 @@
--- `lane::begin` meets its contract: at each branch the definition gives what the calls ensure. Assumes nothing.
 use Prim.Native.Nat.{ℕ, _<_}
 use mathlib.Core.Bool.{true, not}
 use mathlib.Core.Path.{_≡_, sym, _∙_}

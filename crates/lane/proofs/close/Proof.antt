@@ -1,4 +1,4 @@
--- `lane::close` meets its contract: refused, in lead or in a burst, the definition with the same tests gives the answer. Assumes nothing.
+-- Refused, in lead or in a burst, the definition with the same tests gives the answer.
 use Prim.Native.Nat.{ℕ, _+_, _≤_}
 use mathlib.Core.Bool.{true, false, not}
 use mathlib.Core.Path.{_≡_, ap, sym, _∙_}

@@ -1,14 +1,14 @@
--- `lane::end_burst` meets its contract: the train ends from a cleared record, and its record takes that one's place. Assumes nothing.
+-- The train ends from a cleared record, and its record takes that one's place.
 use Prim.Native.Nat.{ℕ}
 use mathlib.Core.Path.{_≡_, ap, _∙_}
 use mathlib.Core.List.{List}
-use Rattle.types.specs.Core.{wholeOut, numbered}
+use Rattle.shared.specs.Core.{wholeOut, numbered}
 use Rattle.ook.specs.Core.{wholeEnded}
 use Rattle.ook.specs.Train.{endTrainOf}
 use Rattle.ook.specs.declared.Ended.{Ended}
 use Rattle.ook.specs.declared.EndedCore.{EndedCore}
-use Rattle.types.specs.declared.Out.{Out}
-use Rattle.types.specs.declared.OutCore.{OutCore}
+use Rattle.shared.specs.declared.Out.{Out}
+use Rattle.shared.specs.declared.OutCore.{OutCore}
 use Rattle.burst.specs.Makers.{withTrain, withSerials}
 use Rattle.burst.specs.declared.Burst.{Burst}
 use Rattle.lane.specs.Begin.{clearedOf}

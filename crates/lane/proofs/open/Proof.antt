@@ -1,4 +1,3 @@
--- `lane::open` meets its contract: at each branch the definition gives what the calls ensure. Assumes nothing.
 use Prim.Native.Nat.{ℕ, _<_}
 use mathlib.Core.Bool.{true}
 use mathlib.Core.Path.{_≡_, sym, _∙_}
@@ -6,7 +5,7 @@ use native.Mathlib.Omega.{arith}
 use borrow.Author.Tests.{eqb-true, ltb-true}
 use lib.Dec.{lit<, eqb}
 use Rattle.domain.specs.Limits.{spentSerial}
-use Rattle.types.specs.declared.Settings.{Settings}
+use Rattle.shared.specs.declared.Settings.{Settings}
 use Rattle.refusals.specs.Domain.{settingsOk}
 use Rattle.refusals.proofs.Order.{passed}
 use Rattle.lane.specs.declared.Lane.{Lane}

@@ -1,4 +1,4 @@
--- `lent::step_by_lending` meets its contract: the walk over any types (`Lending.antt`), at a lane's. Both buffers are given up to `step_lent` for good. Assumes nothing.
+-- The walk over any types (`Lending.antt`), at a lane's. Both buffers are given up to `step_lent` for good.
 use mathlib.Core.Path.{_≡_, refl}
 use Prim.Native.Nat.{ℕ, zero}
 use mathlib.Core.List.{[], _∷_, List}

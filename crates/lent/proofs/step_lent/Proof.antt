@@ -1,4 +1,4 @@
--- `lent::step_lent` meets its contract: the walk over any types (`Entry.antt`), at a lane's. Both buffers are given up to `step` for good. Assumes nothing.
+-- The walk over any types (`Entry.antt`), at a lane's. Both buffers are given up to `step` for good.
 use mathlib.Core.Path.{_≡_, refl}
 use Prim.Native.Nat.{ℕ}
 use mathlib.Core.List.{[], _∷_, List}

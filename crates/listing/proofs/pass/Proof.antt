@@ -1,4 +1,4 @@
--- `listing::pass` meets its contract: it feeds what was left and what came.
+-- It feeds what was left and what came.
 use native.Mathlib.Omega.{arith}
 use lib.ListN.{length-take}
 use Rattle.calls.specs.Stream.{machine}

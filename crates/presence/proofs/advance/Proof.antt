@@ -4,22 +4,9 @@ use borrow.Author.Needs.{needs}
 use Rattle.presence.proofs.advance.Statement.{statement}
 use Rattle.presence.proofs.advance.Tie as tie
 
-returns : tie.Need-returns
-unfolding advanceOf edgeAt
-returns c =
-    let h = c .before .before .before .before .before in
-    let k = h .before .before .before .before in
-    simp (← k .before .before .pres-thr .ensures, ← k .before .upper-of .ensures, ← k .bit .ensures, ← h .before .move-pres .ensures, ← h .move-frame .ensures, ← c .before .before .slice-if .ensures)
-
 pub advance-spec : {M : Type 1} → statement M
+unfolding advanceOf edgeAt
 advance-spec =
     tie.close
-    (tie.spec
-    (search needs)
-    (search needs)
-    (search needs)
-    (search needs)
-    (search needs)
-    (search needs)
-    (search needs)
-    returns)
+    (tie.spec (search needs) (search needs) (search needs) (search needs) (search needs) (search needs) (search needs)
+    (λ c. let h = c .before .before .before .before .before in let k = h .before .before .before .before in simp (← k .before .before .pres-thr .ensures, ← k .before .upper-of .ensures, ← k .bit .ensures, ← h .before .move-pres .ensures, ← h .move-frame .ensures, ← c .before .before .slice-if .ensures)))

@@ -1,10 +1,9 @@
--- `presence::presence` meets its contract: the definition over what the calls ensure. Assumes nothing.
 use Prim.Native.Nat.{ℕ}
 use mathlib.Core.Bool.{Bool}
 use mathlib.Core.Path.{_≡_}
 use mathlib.Core.List.{List}
 use native.Mathlib.Omega.{arith}
-use Rattle.types.specs.declared.Settings.{Settings}
+use Rattle.shared.specs.declared.Settings.{Settings}
 use Rattle.frame_end.specs.Done.{withFrame}
 use Rattle.frame_end.specs.declared.Body.{Body}
 use Rattle.run.specs.Run.{dueOf}

@@ -3,11 +3,9 @@ use borrow.Author.Needs.{needs}
 use Rattle.refusals.proofs.burst_ok.Statement.{statement}
 use Rattle.refusals.proofs.burst_ok.Tie as tie
 
-returns : tie.Need-returns
-unfolding burstOk
-returns c =
-    let first = c .before .before .before in
-    simp (← first .before .before .env-ok .ensures, ← first .before .train-ok .ensures, ← first .out-ok .ensures, ← c .before .before .pres-ok .ensures, ← c .before .frame-ok .ensures, ← c .out-ok2 .ensures)
-
 pub burst-ok-spec : {M : Type 1} → statement M
-burst-ok-spec = tie.close (tie.spec (search needs) (search needs) (search needs) (search needs) (search needs) (search needs) returns)
+unfolding burstOk
+burst-ok-spec =
+    tie.close
+    (tie.spec (search needs) (search needs) (search needs) (search needs) (search needs) (search needs)
+    (λ c. let first = c .before .before .before in simp (← first .before .before .env-ok .ensures, ← first .before .train-ok .ensures, ← first .out-ok .ensures, ← c .before .before .pres-ok .ensures, ← c .before .frame-ok .ensures, ← c .out-ok2 .ensures)))

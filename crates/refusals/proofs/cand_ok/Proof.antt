@@ -3,9 +3,6 @@ use borrow.Author.Needs.{needs}
 use Rattle.refusals.proofs.cand_ok.Statement.{statement}
 use Rattle.refusals.proofs.cand_ok.Tie as tie
 
-returns : tie.Need-returns
-unfolding candOk
-returns c = simp (← c .before .fsk-min .ensures)
-
 pub cand-ok-spec : {M : Type 1} → statement M
-cand-ok-spec = tie.close (tie.spec (search needs) returns)
+unfolding candOk
+cand-ok-spec = tie.close (tie.spec (search needs) (λ c. simp (← c .before .fsk-min .ensures)))

@@ -3,9 +3,6 @@ use borrow.Author.Needs.{needs}
 use Rattle.refusals.proofs.lead_ok.Statement.{statement}
 use Rattle.refusals.proofs.lead_ok.Tie as tie
 
-returns : tie.Need-returns
-unfolding leadOk
-returns c = simp (← c .before .lead-len .ensures)
-
 pub lead-ok-spec : {M : Type 1} → statement M
-lead-ok-spec = tie.close (tie.spec (search needs) returns)
+unfolding leadOk
+lead-ok-spec = tie.close (tie.spec (search needs) (λ c. simp (← c .before .lead-len .ensures)))

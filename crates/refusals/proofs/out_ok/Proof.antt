@@ -2,8 +2,5 @@ use borrow.Author.Needs.{needs}
 use Rattle.refusals.proofs.out_ok.Statement.{statement}
 use Rattle.refusals.proofs.out_ok.Tie as tie
 
-returns : tie.Need-returns
-returns c = simp (← c .serial-ok .ensures)
-
 pub out-ok-spec : {M : Type 1} → statement M
-out-ok-spec = tie.close (tie.spec (search needs) returns)
+out-ok-spec = tie.close (tie.spec (search needs) (λ c. simp (← c .serial-ok .ensures)))

@@ -15,18 +15,7 @@ add-h c = omega (arith, facts c .guess-most, div-le-self (c .before .args .n) (g
 pub whole-root-spec : {M : Type 1} → statement M
 whole-root-spec =
     tie.close
-    (tie.spec
-    (λ c κs. search needs)
-    (λ c. omega (arith, facts c .digits))
-    (λ c. omega (arith, facts c .digits))
-    (λ c. omega (arith, facts c .digits))
-    (λ c. search needs)
-    (λ c. search needs)
-    (λ c. omega (arith, facts c .guess-most))
-    (λ c. omega (arith, facts c .guess-most))
-    (λ c. omega (arith, facts c .guess-least))
-    add-h
-    (λ c. omega (arith, facts c .square-most))
-    (λ c. search needs)
-    (λ c. facts (c .before) .one-less (c .if1 .taken))
-    (λ c. facts (c .before) .as-it-is (c .if1 .left)))
+    (tie.spec (λ c κs. search needs) (λ c. omega (arith, facts c .digits)) (λ c. omega (arith, facts c .digits))
+    (λ c. omega (arith, facts c .digits)) (λ c. search needs) (λ c. search needs) (λ c. omega (arith, facts c .guess-most))
+    (λ c. omega (arith, facts c .guess-most)) (λ c. omega (arith, facts c .guess-least)) add-h (λ c. omega (arith, facts c .square-most))
+    (λ c. search needs) (λ c. facts (c .before) .one-less (c .if1 .taken)) (λ c. facts (c .before) .as-it-is (c .if1 .left)))

@@ -1,4 +1,4 @@
--- `sixteen::block` meets its contract: each turn takes the commands of one antenna from its place up to the first that prints, and keeps the
+-- Each turn takes the commands of one antenna from its place up to the first that prints, and keeps the
 -- block of all antennas' commands `Running`.
 use Prim.Native.Nat.{ℕ, _-_, _≤_}
 use mathlib.Core.Path.{_≡_, refl, sym, ap, _∙_}

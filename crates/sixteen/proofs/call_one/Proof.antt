@@ -1,4 +1,4 @@
--- `sixteen::call_one` meets its contract: the lane's own answer with refusal 12 in its place, or the refusal of an antenna that is not there.
+-- The lane's own answer with refusal 12 in its place, or the refusal of an antenna that is not there.
 use mathlib.Core.Path.{_∙_}
 use Rattle.among.proofs.Laws.{settled-call}
 use Rattle.sixteen.proofs.Taken.{no-step, one-here, one-none}

@@ -4,7 +4,7 @@ use native.Mathlib.Omega.{arith}
 use lib.ListN.{drop, length-drop}
 use lib.Dec.{ltb}
 use borrow.Author.Tests.{ltb-true}
-use Rattle.types.proofs.Tests.{both-true}
+use Rattle.shared.proofs.Tests.{both-true}
 use Rattle.addressed.specs.Addressed.{addressedSize}
 use Rattle.addressed.proofs.Laws.{size-fits}
 use Rattle.among.specs.Among.{antennas}

@@ -1,4 +1,4 @@
--- `sixteen::steps` meets its contract: core and arrays stand for the lane, and each turn of the loop is one step more of the same antenna
+-- Core and arrays stand for the lane, and each turn of the loop is one step more of the same antenna
 -- (`StepsFor`). Where it stops at another command, one step at least was taken.
 use Prim.Native.Nat.{ℕ, _-_, _≤_}
 use mathlib.Core.Path.{_≡_, refl, sym, ap, subst, _∙_}
@@ -16,7 +16,7 @@ use Rattle.step.specs.Core.{joinedOf}
 use Rattle.reached.specs.Reached.{Sound}
 use Rattle.commands.specs.Command.{isStepOf}
 use Rattle.calls.specs.Turn.{State}
-use Rattle.types.proofs.Tests.{clash}
+use Rattle.shared.proofs.Tests.{clash}
 use Rattle.calls.proofs.Silent.{none, steps-end}
 use Rattle.calls.proofs.Cores.{joined-back, sound-lead, sound-serial, met}
 use Rattle.addressed.specs.Addressed.{addressedOf, antennaOf}

@@ -1,11 +1,11 @@
--- `sixteen::turn` meets its contract: what the commands taken say, with their lines in the text, where it has room.
+-- What the commands taken say, with their lines in the text, where it has room.
 use Prim.Native.Nat.{ℕ}
 use mathlib.Core.Bool.{Bool, true, false}
 use mathlib.Core.Path.{_≡_, refl, sym, ap, _∙_}
 use native.Mathlib.Omega.{arith}
 use lib.ListN.{length}
 use borrow.Author.Tests.{not-true, not-false}
-use Rattle.types.proofs.Tests.{clash}
+use Rattle.shared.proofs.Tests.{clash}
 use Rattle.sixteen.specs.Spoken.{hasTaggedRoom}
 use Rattle.sixteen.proofs.Taken.{room-spoken, no-room-left, turn-told}
 use borrow.Author.Needs.{needs}

@@ -1,8 +1,7 @@
--- `step::core_burst` meets its contract: the definition over what the calls ensure. Assumes nothing.
 use mathlib.Core.Path.{_≡_, ap, _∙_}
-use Rattle.types.specs.Core.{wholeOut, numbered}
-use Rattle.types.specs.declared.Out.{Out}
-use Rattle.types.specs.declared.OutCore.{OutCore}
+use Rattle.shared.specs.Core.{wholeOut, numbered}
+use Rattle.shared.specs.declared.Out.{Out}
+use Rattle.shared.specs.declared.OutCore.{OutCore}
 use Rattle.fsk.specs.Core.{wholeFrame}
 use Rattle.fsk.specs.declared.Frame.{Frame}
 use Rattle.fsk.specs.declared.FrameCore.{FrameCore}

@@ -1,4 +1,3 @@
--- `step::core_of` meets its contract: the definition over what the calls ensure. Assumes nothing.
 use mathlib.Core.Path.{_≡_, ap, _∙_}
 use mathlib.Core.List.{List}
 use lib.Ieee.{Float}

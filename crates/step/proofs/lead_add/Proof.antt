@@ -1,4 +1,4 @@
--- `step::lead_add` meets its contract: a sample is put where its two parts are (`zip-set`), and past the end nothing is stored. Assumes nothing.
+-- A sample is put where its two parts are (`zip-set`), and past the end nothing is stored.
 use Prim.Native.Nat.{ℕ, _+_, _≤_}
 use mathlib.Core.Path.{_≡_, refl, sym, _∙_}
 use mathlib.Core.List.{List}
@@ -6,7 +6,7 @@ use native.Mathlib.Omega.{arith}
 use lib.Seq.{set-out}
 use lib.Ieee.{Float}
 use Rattle.arith.specs.declared.C32.{C32}
-use Rattle.types.specs.Counts.{inc}
+use Rattle.shared.specs.Counts.{inc}
 use Rattle.burst.specs.Lead.{leadAddOf}
 use lib.ListN.{set, length, length-set}
 use Rattle.step.specs.Core.{zipOf, leadIn}

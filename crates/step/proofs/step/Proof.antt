@@ -1,6 +1,6 @@
--- `step::step` meets its contract: where no refusal applies the lane is split into core and arrays, which join to it again, its records with
+-- Where no refusal applies the lane is split into core and arrays, which join to it again, its records with
 -- the lane's serial (`core_of`). `step_core` gives the step of the joined lane, and that is the lane's own, since an accepted step reads no
--- record (`reads-none`). Assumes nothing.
+-- record (`reads-none`).
 use Prim.Native.Nat.{ℕ, _≤_}
 use mathlib.Core.Bool.{Bool, true, false, not, _&&_}
 use mathlib.Core.Path.{_≡_, refl, ap, sym, subst, _∙_}

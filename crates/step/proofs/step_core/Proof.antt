@@ -1,6 +1,6 @@
--- `step::step_core` meets its contract. Where the ways of its branch for the lead meet, `came` tells which of three it was, with the arrays, the
+-- Where the ways of its branch for the lead meet, `came` tells which of three it was, with the arrays, the
 -- core and the number n of samples that are due: the lead-in is full (n is its length), it is not (0), or there is none (1). The test
--- n != 0 parts the second from the others, and each is a law of proofs/Ways. Assumes nothing.
+-- n != 0 parts the second from the others, and each is a law of proofs/Ways.
 use Prim.Native.Nat.{ℕ, _≤_}
 use mathlib.Core.Bool.{true, false, not}
 use mathlib.Core.Path.{_≡_, refl, ap, sym, _∙_}

@@ -1,9 +1,0 @@
--- `types::inc` meets its contract: what the wrapping sum ensures. Assumes nothing.
-use Rattle.types.specs.Counts.{inc}
-use borrow.Author.Needs.{needs}
-use Rattle.types.proofs.inc.Statement.{statement}
-use Rattle.types.proofs.inc.Tie as tie
-
-pub inc-spec : {M : Type 1} → statement M
-unfolding inc
-inc-spec = tie.close (tie.spec (search needs) (λ c. simp (← c .wrapping-add-u32 .ensures)))
