@@ -1,4 +1,4 @@
-//! The operations of IEEE 754-2019 in the arithmetic, exported by bit pattern in target/staticlib/libleaves.a: on vectors with
+//! The operations of IEEE 754-2019 in the arithmetic, exported by bit pattern in target/staticlib/libexports.a: on vectors with
 //! the standard's answers written out, then against Rust's own arithmetic.
 //!
 //!     ieee [--seed N] [--cases N]      cases for each function
@@ -7,23 +7,12 @@ use std::fmt::Debug;
 use std::process::ExitCode;
 
 mod bits;
+mod leaf;
 mod random;
 mod verdict;
 
 use bits::{NAN32, NAN64, Run, bits_of_f32, bits_of_f64, bits32, bits64, double, float, program, two_of_f32};
 use random::Random;
-
-unsafe extern "C" {
-    safe fn leaf_round(x: u64) -> u64;
-    safe fn leaf_narrow(x: u64) -> u32;
-    safe fn leaf_widen(x: u32) -> u64;
-    safe fn leaf_to_u32(x: u64) -> u32;
-    safe fn leaf_to_u64(x: u64) -> u64;
-    safe fn leaf_u32_to_f32(n: u32) -> u32;
-    safe fn leaf_u64_to_f64(n: u64) -> u64;
-    safe fn leaf_max(a: u32, b: u32) -> u32;
-    safe fn leaf_min(a: u32, b: u32) -> u32;
-}
 
 const INF64: u64 = 0x7ff0 << 48;
 const MINUS: u64 = 1 << 63;
@@ -98,23 +87,23 @@ fn vector<A: Debug, B: Debug + PartialEq>(name: &str, a: A, got: B, wanted: B) -
 
 fn vectors() -> Result<(), String> {
     for (x, wanted) in ROUND {
-        vector("round", x, leaf_round(x), wanted)?;
+        vector("round", x, leaf::round(x), wanted)?;
     }
     for (x, wanted) in NARROW {
-        vector("narrow", x, leaf_narrow(x), wanted)?;
+        vector("narrow", x, leaf::narrow(x), wanted)?;
     }
     for (x, wanted) in WIDEN {
-        vector("widen", x, leaf_widen(x), wanted)?;
+        vector("widen", x, leaf::widen(x), wanted)?;
     }
     for (x, wanted32, wanted64) in WHOLE {
-        vector("to_u32", x, leaf_to_u32(x), wanted32)?;
-        vector("to_u64", x, leaf_to_u64(x), wanted64)?;
+        vector("to_u32", x, leaf::to_u32(x), wanted32)?;
+        vector("to_u64", x, leaf::to_u64(x), wanted64)?;
     }
     // convertFromInt (5.4.1): 2^24 + 1 and 2^53 + 1 lie halfway, and the largest go up to a power of two.
-    vector("u32_to_f32", 0x0100_0001, leaf_u32_to_f32(0x0100_0001), 0x4b80_0000)?;
-    vector("u32_to_f32", u32::MAX, leaf_u32_to_f32(u32::MAX), 0x4f80_0000)?;
-    vector("u64_to_f64", (1u64 << 53) + 1, leaf_u64_to_f64((1 << 53) + 1), 0x4340_0000_0000_0000)?;
-    vector("u64_to_f64", u64::MAX, leaf_u64_to_f64(u64::MAX), 0x43f0_0000_0000_0000)
+    vector("u32_to_f32", 0x0100_0001, leaf::u32_to_f32(0x0100_0001), 0x4b80_0000)?;
+    vector("u32_to_f32", u32::MAX, leaf::u32_to_f32(u32::MAX), 0x4f80_0000)?;
+    vector("u64_to_f64", (1u64 << 53) + 1, leaf::u64_to_f64((1 << 53) + 1), 0x4340_0000_0000_0000)?;
+    vector("u64_to_f64", u64::MAX, leaf::u64_to_f64(u64::MAX), 0x43f0_0000_0000_0000)
 }
 
 /// `widen` with every sign and exponent's field, at both ends of the digits and between, against Rust's `as f64`.
@@ -122,7 +111,7 @@ fn every_exponent() -> Result<(), String> {
     for above in 0..1 << 9 {
         for digits in [0, 1, 2, 0x2a_aaaa, 0x3f_ffff, 0x40_0000, 0x40_0001, 0x7f_fffe, 0x7f_ffff] {
             let x = above << 23 | digits;
-            vector("widen", x, leaf_widen(x), bits64(float(x) as f64))?;
+            vector("widen", x, leaf::widen(x), bits64(float(x) as f64))?;
         }
     }
     Ok(())
@@ -136,25 +125,25 @@ fn either_zero(bits: u32) -> u32 {
 fn all(run: &mut Run) -> Result<(), String> {
     vectors()?;
     every_exponent()?;
-    run.compare("round", bits_of_f64, |x| leaf_round(x), |x| bits64(double(x).round()))?;
-    run.compare("narrow", bits_of_f64, |x| leaf_narrow(x), |x| bits32(double(x) as f32))?;
-    run.compare("widen", bits_of_f32, |x| leaf_widen(x), |x| bits64(float(x) as f64))?;
-    run.compare("to_u32", bits_of_f64, |x| leaf_to_u32(x), |x| double(x) as u32)?;
-    run.compare("to_u64", bits_of_f64, |x| leaf_to_u64(x), |x| double(x) as u64)?;
+    run.compare("round", bits_of_f64, leaf::round, |x| bits64(double(x).round()))?;
+    run.compare("narrow", bits_of_f64, leaf::narrow, |x| bits32(double(x) as f32))?;
+    run.compare("widen", bits_of_f32, leaf::widen, |x| bits64(float(x) as f64))?;
+    run.compare("to_u32", bits_of_f64, leaf::to_u32, |x| double(x) as u32)?;
+    run.compare("to_u64", bits_of_f64, leaf::to_u64, |x| double(x) as u64)?;
     let any32 = |r: &mut Random| r.u32() >> r.below(32);
     let any64 = |r: &mut Random| r.u64() >> r.below(64);
-    run.compare("u32_to_f32", any32, |n| leaf_u32_to_f32(n), |n| (n as f32).to_bits())?;
-    run.compare("u64_to_f64", any64, |n| leaf_u64_to_f64(n), |n| (n as f64).to_bits())?;
+    run.compare("u32_to_f32", any32, leaf::u32_to_f32, |n| (n as f32).to_bits())?;
+    run.compare("u64_to_f64", any64, leaf::u64_to_f64, |n| (n as f64).to_bits())?;
     run.compare(
         "max",
         two_of_f32,
-        |(a, b)| either_zero(leaf_max(a, b)),
+        |(a, b)| either_zero(leaf::max(a, b)),
         |(a, b)| either_zero(bits32(float(a).max(float(b)))),
     )?;
     run.compare(
         "min",
         two_of_f32,
-        |(a, b)| either_zero(leaf_min(a, b)),
+        |(a, b)| either_zero(leaf::min(a, b)),
         |(a, b)| either_zero(bits32(float(a).min(float(b)))),
     )
 }

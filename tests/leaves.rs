@@ -1,4 +1,4 @@
-//! Compares the arithmetic leaves, exported by bit pattern in target/staticlib/libleaves.a, with the published functions and
+//! Compares the arithmetic leaves, exported by bit pattern in target/staticlib/libexports.a, with the published functions and
 //! document 01's stand-ins.
 //!
 //!     leaves [--seed N] [--cases N]      cases for each function
@@ -6,6 +6,7 @@
 use std::process::ExitCode;
 
 mod bits;
+mod leaf;
 mod random;
 mod verdict;
 
@@ -57,21 +58,6 @@ mod published {
     }
 }
 
-unsafe extern "C" {
-    safe fn leaf_midpoint(a: u32, b: u32) -> u32;
-    safe fn leaf_flush(x: u32) -> u32;
-    safe fn leaf_cross(prev: u32, cur: u32, thr: u32) -> u64;
-    safe fn leaf_edge(idx: u64, frac: u64) -> u64;
-    safe fn leaf_whole(x: u64) -> u32;
-    safe fn leaf_step_of(t: u64) -> u64;
-    safe fn leaf_width(a: u64, b: u64) -> u32;
-    safe fn leaf_fsk_width(a: u64, b: u64) -> u32;
-    safe fn leaf_run_fix(t: u64) -> u32;
-    safe fn leaf_a_gain(e: u32) -> u32;
-    safe fn leaf_atan2_fast(y: u32, x: u32) -> u32;
-    safe fn leaf_lead_len(n: u32) -> u32;
-}
-
 /// Two times in steps, often near each other.
 fn two_times(r: &mut Random) -> (u64, u64) {
     if r.once_in(3) {
@@ -88,10 +74,10 @@ fn two_times(r: &mut Random) -> (u64, u64) {
 }
 
 fn of_f32(run: &mut Run) -> Result<(), String> {
-    run.compare("midpoint", two_of_f32, |(a, b)| leaf_midpoint(a, b), |(a, b)| published::midpoint(a, b))?;
-    run.compare("flush", bits_of_f32, |x| leaf_flush(x), published::flush)?;
-    run.compare("a_gain", bits_of_f32, |x| leaf_a_gain(x), published::a_gain_bits)?;
-    run.compare("atan2_fast", two_of_f32, |(y, x)| leaf_atan2_fast(y, x), |(y, x)| published::atan2_fast_bits(y, x))?;
+    run.compare("midpoint", two_of_f32, |(a, b)| leaf::midpoint(a, b), |(a, b)| published::midpoint(a, b))?;
+    run.compare("flush", bits_of_f32, leaf::flush, published::flush)?;
+    run.compare("a_gain", bits_of_f32, leaf::a_gain, published::a_gain_bits)?;
+    run.compare("atan2_fast", two_of_f32, |(y, x)| leaf::atan2_fast(y, x), |(y, x)| published::atan2_fast_bits(y, x))?;
     run.compare(
         "cross",
         |r| {
@@ -99,7 +85,7 @@ fn of_f32(run: &mut Run) -> Result<(), String> {
             let thr = if r.once_in(3) { bits_of_f32(r) } else { float(prev).midpoint(float(cur)).to_bits() };
             (prev, cur, thr)
         },
-        |(prev, cur, thr)| leaf_cross(prev, cur, thr),
+        |(prev, cur, thr)| leaf::cross(prev, cur, thr),
         |(prev, cur, thr)| published::cross_bits(prev, cur, thr),
     )
 }
@@ -108,18 +94,18 @@ fn of_times(run: &mut Run) -> Result<(), String> {
     run.compare(
         "edge",
         |r| (r.u64() >> r.below(64), if r.once_in(2) { r.unit().to_bits() } else { bits_of_f64(r) }),
-        |(idx, frac)| leaf_edge(idx, frac),
+        |(idx, frac)| leaf::edge(idx, frac),
         |(idx, frac)| published::edge_bits(idx, frac),
     )?;
-    run.compare("whole", bits_of_f64, |x| leaf_whole(x), published::whole_bits)?;
-    run.compare("step_of", bits_of_f64, |x| leaf_step_of(x), published::step_of_bits)?;
-    run.compare("width", two_times, |(a, b)| leaf_width(a, b), |(a, b)| published::width_bits(a, b))?;
-    run.compare("fsk_width", two_times, |(a, b)| leaf_fsk_width(a, b), |(a, b)| published::fsk_width_bits(a, b))?;
-    run.compare("run_fix", bits_of_f64, |x| leaf_run_fix(x), published::run_fix_bits)
+    run.compare("whole", bits_of_f64, leaf::whole, published::whole_bits)?;
+    run.compare("step_of", bits_of_f64, leaf::step_of, published::step_of_bits)?;
+    run.compare("width", two_times, |(a, b)| leaf::width(a, b), |(a, b)| published::width_bits(a, b))?;
+    run.compare("fsk_width", two_times, |(a, b)| leaf::fsk_width(a, b), |(a, b)| published::fsk_width_bits(a, b))?;
+    run.compare("run_fix", bits_of_f64, leaf::run_fix, published::run_fix_bits)
 }
 
 fn all(run: &mut Run) -> Result<(), String> {
-    run.compare("lead_len", |r| r.u32() >> r.below(32), |n| leaf_lead_len(n), published::lead_len_of)?;
+    run.compare("lead_len", |r| r.u32() >> r.below(32), leaf::lead_len, published::lead_len_of)?;
     of_f32(run)?;
     of_times(run)
 }

@@ -1,6 +1,5 @@
 -- Laws of the commands of sixteen antennas that a reader of a stream needs. With two bytes there the command is the one that its bytes are
 -- without the second, so each law is that of `listing`'s decoder; with one byte no command fits but one that no antenna would change.
--- Assumes nothing.
 use Prim.Native.Nat.{ℕ, suc, _+_, _<_, _≤_}
 use mathlib.Core.Bool.{Bool, true, false, cond}
 use mathlib.Core.Path.{_≡_, refl, ap, sym, _∙_}
@@ -12,9 +11,10 @@ use lib.Dec.{eqb, ltb}
 use borrow.Author.Tests.{le-ltb}
 use Rattle.commands.specs.declared.Command.{Command}
 use Rattle.commands.specs.declared.Command.the-variants.{End, Open, Begin, Step, Unknown, Short, Close}
-use Rattle.commands.specs.Command.{stepArgsOf, openingOf, decoded, sizeOf, isStepOf}
-use Rattle.commands.specs.Stream.{whole, decoded-more}
-use Rattle.commands.specs.Stream.{size-fits as fits, step-there as step-in, long-front as front}
+use Rattle.commands.specs.Command.{stepArgsOf, decoded, sizeOf, isStepOf}
+use Rattle.commands.specs.Stream.{whole}
+use Rattle.shared.proofs.Tests.{clash}
+use Rattle.commands.proofs.Stream.{decoded-more, isEnd, a-step, some-there as some-decoded, size-fits as fits, step-there as step-in, long-front as front}
 use Rattle.addressed.specs.Addressed.{withoutAntenna, addressedOf, antennaOf, addressedSize}
 
 -- ---- the layout
@@ -44,45 +44,19 @@ pub none-there : addressedOf [] ≡ End
 unfolding addressedOf decoded
 none-there = refl
 
--- whether the bytes end there
-abbrev isEnd : Command → Bool
-isEnd End = true
-isEnd (Open p carries) = false
-isEnd (Begin b) = false
-isEnd (Step s) = false
-isEnd Unknown = false
-isEnd Short = false
-isEnd Close = false
+-- without the antenna only 05 differs: what says the same of it and of bytes that are short says the same
+lone : {A : Type 0} (F : Command → A) → F Short ≡ F Close → (k : Command) → F (withoutAntenna k) ≡ F k
+lone F h End = refl
+lone F h (Open p carries) = refl
+lone F h (Begin b) = refl
+lone F h (Step s) = refl
+lone F h Unknown = refl
+lone F h Short = refl
+lone F h Close = h
 
-neither : (b : Bool) (x y : Command) → isEnd x ≡ false → isEnd y ≡ false → isEnd (cond b x y) ≡ false
-neither true x y h k = h
-neither false x y h k = k
-
-some-decoded : (b : ℕ) (o : List ℕ) → isEnd (decoded (b ∷ o)) ≡ false
-unfolding decoded openingOf
-some-decoded b o =
-    simp (le-ltb (suc (length o)) 1 (omega arith))
-    (neither (eqb b 1) _ _ (neither (ltb (length o) 37) _ _ refl refl)
-    (neither (eqb b 2) _ _ (neither (ltb (length o) 60) _ _ refl refl)
-    (neither (eqb b 3) _ _ (neither (ltb (length o) 24) _ _ refl refl)
-    (neither (eqb b 4) _ _ (neither (ltb (length o) 38) _ _ refl refl)
-    (neither (eqb b 5) _ _ refl refl)))))
-
-lone-end : (k : Command) → isEnd (withoutAntenna k) ≡ isEnd k
-lone-end End = refl
-lone-end (Open p carries) = refl
-lone-end (Begin b) = refl
-lone-end (Step s) = refl
-lone-end Unknown = refl
-lone-end Short = refl
-lone-end Close = refl
-
-never : (k : Command) → isEnd k ≡ false → k ≡ End → ⊥
-never k h e = let z : _≡_ {A = Bool} false true = sym h ∙ ap isEnd e in let q : _≡_ {A = ℕ} 0 1 = cc in omega arith
-
-pub some-there : (b : ℕ) (o : List ℕ) → addressedOf (b ∷ o) ≡ End → ⊥
-some-there b [] = never _ (ap isEnd (addressed-lone b) ∙ lone-end (decoded (b ∷ [])) ∙ some-decoded b [])
-some-there b (i ∷ o) = never _ (ap isEnd (addressed-by b i o) ∙ some-decoded b o)
+pub some-there : (b : ℕ) (o : List ℕ) → isEnd (addressedOf (b ∷ o)) ≡ false
+some-there b [] = ap isEnd (addressed-lone b) ∙ lone isEnd refl (decoded (b ∷ [])) ∙ some-decoded b []
+some-there b (i ∷ o) = ap isEnd (addressed-by b i o) ∙ some-decoded b o
 
 -- ---- a command that lies in the bytes takes no more of them than there are
 
@@ -124,22 +98,20 @@ size-small Close = omega arith
 
 -- one byte is whole only where no command begins with it
 lone-whole : (k : Command) → sizeOf k ≤ 1 → whole (withoutAntenna k) ≡ true → k ≡ Unknown
-lone-whole End h w = let z : _≡_ {A = Bool} false true = w in cc
+lone-whole End h w = clash (sym w)
 lone-whole (Open p true) h w = absurd (omega arith)
 lone-whole (Open p false) h w = absurd (omega arith)
 lone-whole (Begin b) h w = absurd (omega arith)
 lone-whole (Step s) h w = absurd (omega arith)
 lone-whole Unknown h w = refl
-lone-whole Short h w = let z : _≡_ {A = Bool} false true = w in cc
-lone-whole Close h w = let z : _≡_ {A = Bool} false true = w in cc
+lone-whole Short h w = clash (sym w)
+lone-whole Close h w = clash (sym w)
 
 unknown-lone : (b : ℕ) → whole (addressedOf (b ∷ [])) ≡ true → decoded (b ∷ []) ≡ Unknown
 unknown-lone b w = lone-whole (decoded (b ∷ [])) (fits (b ∷ [])) (sym (ap whole (addressed-lone b)) ∙ w)
 
 nothing-whole : whole (addressedOf []) ≡ true → ⊥
-nothing-whole w =
-    let z : _≡_ {A = Bool} false true = sym (ap whole none-there) ∙ w in
-    let q : _≡_ {A = ℕ} 0 1 = cc in omega arith
+nothing-whole w = clash (sym w ∙ ap whole none-there)
 
 pub addressed-more : (s t : List ℕ) → whole (addressedOf s) ≡ true → addressedOf (s ++ t) ≡ addressedOf s
 addressed-more [] t w = absurd (nothing-whole w)
@@ -157,33 +129,16 @@ antenna-more (b ∷ i ∷ o) t w n = refl
 
 -- ---- a step at the front of the bytes
 
-lone-step : (k : Command) → isStepOf (withoutAntenna k) ≡ isStepOf k
-lone-step End = refl
-lone-step (Open p carries) = refl
-lone-step (Begin b) = refl
-lone-step (Step s) = refl
-lone-step Unknown = refl
-lone-step Short = refl
-lone-step Close = refl
-
 -- a step has its operand bytes and its antenna's
 pub step-there : (s : List ℕ) → isStepOf (addressedOf s) ≡ true → 26 ≤ length s
-step-there [] e =
-    let z : _≡_ {A = Bool} false true = sym (ap isStepOf none-there) ∙ e in
-    absurd (let q : _≡_ {A = ℕ} 0 1 = cc in omega arith)
+step-there [] e = clash (sym e ∙ ap isStepOf none-there)
 step-there (b ∷ []) e =
-    absurd (omega (arith, step-in (b ∷ []) (sym (ap isStepOf (addressed-lone b) ∙ lone-step (decoded (b ∷ []))) ∙ e) .0))
+    absurd (omega (arith, step-in (b ∷ []) (sym (ap isStepOf (addressed-lone b) ∙ lone isStepOf refl (decoded (b ∷ []))) ∙ e) .0))
 step-there (b ∷ i ∷ o) e = omega (arith, step-in (b ∷ o) (sym (ap isStepOf (addressed-by b i o)) ∙ e) .0)
 
 -- so its size is 26
 pub step-size : (k : Command) → isStepOf k ≡ true → addressedSize k ≡ 26
-step-size End e = let z : _≡_ {A = Bool} false true = e in cc
-step-size (Open p carries) e = let z : _≡_ {A = Bool} false true = e in cc
-step-size (Begin b) e = let z : _≡_ {A = Bool} false true = e in cc
-step-size (Step s) e = refl
-step-size Unknown e = let z : _≡_ {A = Bool} false true = e in cc
-step-size Short e = let z : _≡_ {A = Bool} false true = e in cc
-step-size Close e = let z : _≡_ {A = Bool} false true = e in cc
+step-size k e = ap addressedSize (a-step k e .is)
 
 -- and its operands are those from place 2 on
 pub step-operands : (s : List ℕ) → isStepOf (addressedOf s) ≡ true → Step (stepArgsOf (drop 2 s)) ≡ addressedOf s

@@ -1,5 +1,5 @@
 -- A lane among others answers as alone but for refusal 12, which stands among the other checks as the definition has them (`settled`), and
--- the number of lanes out of idle is changed by one lane at a time. Assumes nothing.
+-- the number of lanes out of idle is changed by one lane at a time.
 use Prim.Native.Nat.{ℕ, zero, suc, _+_, _-_, _^_, _<_, _≤_}
 use mathlib.Core.Bool.{Bool, true, false, cond, not, _&&_}
 use mathlib.Core.Path.{_≡_, refl, sym, _∙_, ap, subst}
@@ -18,10 +18,11 @@ use Rattle.lane.specs.declared.Answer.{Answer}
 use Rattle.lane.specs.Refusals.{laneOk, beginFloatsOk, beginRefusal}
 use Rattle.lane.specs.Idle.{idleLane}
 use Rattle.lane.specs.Step.{newLane, refuse, begun, begunBy}
-use Rattle.reached.specs.Reached.{Sound, open-sound, begin-sound, step-sound, close-sound}
+use Rattle.reached.specs.Reached.{Sound}
 use Rattle.commands.specs.declared.Command.{Command}
 use Rattle.commands.specs.declared.Command.the-variants.{End, Open, Begin, Step, Unknown, Short, Close}
-use Rattle.turns.specs.Turn.{State, Called, called}
+use Rattle.calls.specs.Turn.{State, Called, called}
+use Rattle.calls.proofs.Silent.{call-sound}
 use Rattle.among.specs.Among.{places, beginRefusalAmong, begunAmong, calledAmong, outOf, outs}
 use Rattle.among.specs.Settled.{isBeginOf, lateOf, settledOf}
 
@@ -71,16 +72,6 @@ pub settled-call : (n : ℕ) (p : State) (k : Command) (a r : Answer) (ook fsk :
 settled-call n p k a r ook fsk e q = ap (λ (z : Answer). (z, ook, fsk)) q ∙ ap (λ (c : Called). (settledOf n k (p .0) (c .0), c .1, c .2)) e ∙ sym (settled n p k)
 
 -- ---- a sound lane stays sound
-
-call-sound : (p : State) (k : Command) → Sound (p .0) → Sound (called p k .0 .lane)
-unfolding called
-call-sound p End h = h
-call-sound p (Open s carries) h = open-sound s h
-call-sound p (Begin b) h = begin-sound b (p .1) (p .2) h
-call-sound p (Step s) h = step-sound s (p .1) (p .2) h
-call-sound p Unknown h = h
-call-sound p Short h = h
-call-sound p Close h = close-sound (p .1) (p .2) h
 
 settled-sound : (n : ℕ) (k : Command) (l : Lane) (a : Answer) → Sound l → Sound (a .lane) → Sound (settledOf n k l a .lane)
 unfolding settledOf

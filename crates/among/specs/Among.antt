@@ -2,6 +2,7 @@
 -- among others answers as it does alone, but for refusal 12 of begin.
 use Prim.Native.Nat.{ℕ, _+_, _-_}
 use mathlib.Core.Bool.{cond, not}
+use mathlib.Core.Path.{_≡_}
 use mathlib.Core.List.{List, [], _∷_}
 use lib.ListN.{length, set, getD}
 use lib.Dec.{eqb, ltb}
@@ -17,7 +18,7 @@ use Rattle.lane.specs.Refusals.{laneOk, beginFloatsOk}
 use Rattle.lane.specs.Step.{newLane, begunBy}
 use Rattle.commands.specs.declared.Command.{Command}
 use Rattle.commands.specs.declared.Command.the-variants.{End, Open, Begin, Step, Unknown, Short, Close}
-use Rattle.turns.specs.Turn.{State, Called, unchanged, called}
+use Rattle.calls.specs.Turn.{State, Called, unchanged, called}
 
 -- "Lanes are numbered 0 to 15", and four of them may be out of idle
 abbrev pub antennas : ℕ
@@ -58,6 +59,12 @@ calledAmong n p Close = called p Close
 -- the lanes, their OOK buffers and their FSK buffers: "Each lane has its own pair of buffers."
 abbrev pub Lanes : Type 0
 Lanes = List Lane × List (List ℕ) × List (List ℕ)
+
+-- "One receiver now serves sixteen lanes"
+pub record Sized (p : Lanes) : Type 0 where
+  pub lanes : length (p .0) ≡ antennas
+  pub ooks : length (p .1) ≡ antennas
+  pub fsks : length (p .2) ≡ antennas
 
 abbrev pub laneAt : Lanes → ℕ → State
 laneAt p i = (getD (p .0) i newLane, getD (p .1) i [], getD (p .2) i [])

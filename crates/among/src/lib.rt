@@ -3,7 +3,7 @@
 ghost use mathlib.Core.Path.{_≡_};
 ghost use mathlib.Core.List.{List};
 ghost use Prim.Native.Nat.{ℕ};
-ghost use Rattle.turns.specs.Turn.{Called};
+ghost use Rattle.calls.specs.Turn.{Called};
 ghost use Rattle.among.specs.Among.{calledAmong, outOf, outs, noAntenna};
 ghost use Rattle.among.specs.Settled.{isBeginOf, lateOf, settledOf};
 use commands::Command;
@@ -64,7 +64,7 @@ pub fn settle(l: Lane, a: Answer, k: Command, others: u32) -> Answer
 pub fn call(l: Lane, others: u32, k: Command, ook: &mut [u32], fsk: &mut [u32]) -> Answer
     ensures { λ r. ⌜ _≡_ {A = Called} (r, now (ook .exit), now (fsk .exit)) (calledAmong others (l, now (ook .entry), now (fsk .entry)) k) ⌝ }
 {
-    let a = turns::call(l, k, ook, fsk);
+    let a = calls::call(l, k, ook, fsk);
     settle(l, a, k, others)
 }
 

@@ -1,5 +1,5 @@
 -- A lane is as it would be alone: another antenna's call leaves it, one of its own that meets 12 leaves it too, and any other is the lone lane's. So
--- over a list what it hears is what the lane alone would answer. Assumes nothing.
+-- over a list what it hears is what the lane alone would answer.
 use Prim.Native.Nat.{ℕ, _<_}
 use mathlib.Core.Bool.{Bool, true, false, cond, not, _&&_}
 use mathlib.Core.Path.{_≡_, refl, sym, _∙_, ap, subst}
@@ -8,10 +8,10 @@ use lib.Dec.{eqb, ltb, leb}
 use borrow.Author.Tests.{eqb-true, eqb-false}
 use Rattle.lane.specs.declared.Reply.the-variants.{Refused}
 use Rattle.commands.specs.declared.Command.{Command}
-use Rattle.turns.specs.Turn.{State, Called, called, next, unchanged}
-use Rattle.among.specs.Among.{antennas, places, calledAmong, Lanes, laneAt, othersOut, noAntenna, answerTo, afterCall}
+use Rattle.calls.specs.Turn.{State, Called, called, next, unchanged}
+use Rattle.among.specs.Among.{antennas, places, calledAmong, Lanes, laneAt, othersOut, noAntenna, answerTo, afterCall, Sized}
 use Rattle.among.specs.Settled.{isBeginOf, lateOf}
-use Rattle.antenna_laws.specs.Calls.{Sent, afterAll, Sized, met12, keepIf, heard, commandsOf, answersOf, alone, aloneAfter}
+use Rattle.antenna_laws.specs.Calls.{Sent, afterAll, met12, keepIf, heard, commandsOf, answersOf, alone, aloneAfter}
 use Rattle.antenna_laws.specs.Theorems.{AsAlone, OthersKept, OnlyTheirNumber, OnlyLettingIn}
 use Rattle.antenna_laws.proofs.One.{meets, among-alone, among-twelve, among-met, answer-own, after-sized, after-lane, after-other}
 

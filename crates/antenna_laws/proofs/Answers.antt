@@ -1,19 +1,14 @@
--- What a lane alone answers: it refuses a call where the first check that fails has a number, and no check has the number 12. Assumes nothing.
+-- What a lane alone answers: it refuses a call where the first check that fails has a number, and no check has the number 12.
 use Prim.Native.Nat.{ℕ}
 use mathlib.Core.Bool.{Bool, true, false, cond, not, _&&_}
 use mathlib.Core.Path.{_≡_, refl}
 use mathlib.Core.List.{List}
 use native.Mathlib.Omega.{arith}
 use lib.ListN.{length}
-use lib.Dec.{eqb, ltb}
-use lib.Ieee.{Float}
-use Rattle.arith.specs.Leaves.{leadLenOf}
-use Rattle.ook.specs.declared.Next.{Next}
-use Rattle.ook.specs.declared.Next.the-variants as next
-use Rattle.ook.specs.declared.Settings.{Settings}
-use Rattle.burst.specs.declared.Lead.{Lead}
-use Rattle.burst.specs.Lead.{leadAddOf, leadFullOf}
-use Rattle.burst.specs.Sample.{sampleOf}
+use lib.Dec.{eqb}
+use Rattle.shared.specs.declared.Next.{Next}
+use Rattle.shared.specs.declared.Next.the-variants as next
+use Rattle.shared.specs.declared.Settings.{Settings}
 use Rattle.refusals.specs.Domain.{settingsOk, indexOk, roomOk}
 use Rattle.refusals.specs.Serial.{serialLeft}
 use Rattle.refusals.specs.Order.{check, firstFailed}
@@ -26,14 +21,15 @@ use Rattle.lane.specs.declared.Reply.the-variants.{Refused, Stay, Idle, IdleAt}
 use Rattle.lane.specs.Answers.{refusalNumberOf, replyOf}
 use Rattle.lane.specs.Refusals.{laneOk, beginFloatsOk, stepFloatsOk, followsOf, openRefusal, beginRefusal, stepRefusal, closeRefusal}
 use Rattle.lane.specs.Idle.{idleLane}
-use Rattle.lane.specs.Begin.{leadLane, ringOf, clearedOf}
-use Rattle.lane.specs.Advance.{settleOf, fillOf, atOf, replayStep, leadStep, burstStep, advanceOf}
-use Rattle.lane.specs.Close.{idleWith, endBurstOf, closeOf}
+use Rattle.lane.specs.Begin.{leadLane}
+use Rattle.lane.specs.Advance.{settleOf, fillOf, advanceOf}
+use Rattle.lane.specs.Close.{idleWith, closeOf}
 use Rattle.lane.specs.Serial.{stamped, stampedWith}
 use Rattle.lane.specs.Step.{refuse, stay, opened, begun, stepped, closed}
+use Rattle.reached.proofs.Accepted.{step-ways, close-ways}
 use Rattle.commands.specs.declared.Command.{Command}
 use Rattle.commands.specs.declared.Command.the-variants.{End, Open, Begin, Step, Unknown, Short, Close}
-use Rattle.turns.specs.Turn.{State, called, refusedOf}
+use Rattle.calls.specs.Turn.{State, called, refusedOf}
 
 -- ---- accepted calls are answered
 
@@ -44,27 +40,12 @@ next-answers next.Idle = refl
 next-answers (next.IdleAt e) = refl
 
 pub advance-answers : (l : Lane) (s : StepArgs) (ook fsk : List ℕ) → refusedOf (advanceOf l s ook fsk .0 .reply) ≡ false
-unfolding advanceOf leadStep burstStep settleOf fillOf replayStep
-advance-answers l s ook fsk = go (eqb (l .phase) 1) (ltb (ld .«lead_n») (leadLenOf (l .settings .«min_steps»)))
-  where
-    ring : List Float
-    ring = ringOf (l .ring) (s .index) (s .envelope)
-
-    ld : Lead
-    ld = leadAddOf (l .lead) (s .envelope) (s .x)
-
-    go : (d e : Bool) → refusedOf (cond d (cond e (fillOf l s ld ring, ook, fsk) (replayStep l s ld ring ook fsk)) (burstStep l s ring ook fsk) .0 .reply) ≡ false
-    go true true = refl
-    go true false = next-answers (leadFullOf (l .settings) (s .noise) ring ld (clearedOf (l .burst)) ook fsk .0 .next)
-    go false e = next-answers (sampleOf (l .settings) (atOf l s) ring (clearedOf (l .burst)) ook fsk .0 .next)
+unfolding fillOf settleOf
+advance-answers l s ook fsk = step-ways (λ (r : Answer × List ℕ × List ℕ). refusedOf (r .0 .reply) ≡ false) l s ook fsk (λ ld ring. refl) (λ ld ring r. next-answers (r .0 .next))
 
 pub close-answers : (l : Lane) (ook fsk : List ℕ) → refusedOf (closeOf l ook fsk .0 .reply) ≡ false
-unfolding closeOf idleWith
-close-answers l ook fsk = go (eqb (l .phase) 1)
-  where
-    go : (b : Bool) → refusedOf (cond {A = Answer × List ℕ × List ℕ} b (idleWith l (clearedOf (l .burst)), ook, fsk) (idleWith l (endBurstOf (l .burst) ook .0), endBurstOf (l .burst) ook .1, fsk) .0 .reply) ≡ false
-    go true = refl
-    go false = refl
+unfolding idleWith
+close-answers l ook fsk = close-ways (λ (r : Answer × List ℕ × List ℕ). refusedOf (r .0 .reply) ≡ false) l ook fsk (λ b o. refl)
 
 -- ---- a call is refused exactly where a check fails
 

@@ -1,6 +1,6 @@
 -- Demand 3 and R-9 of each antenna: the lone lane's commands are a list of demand 3's calls, and run along with the place of that list. The lane is
 -- the same at each call; the OOK buffer is the same while a burst is under way, and while none is, a step or a close is refused whatever it is
--- lent. Assumes nothing.
+-- lent.
 use Prim.Native.Nat.{ℕ}
 use mathlib.Core.Bool.{Bool, true, false, cond, not}
 use mathlib.Core.Path.{_≡_, refl, sym, _∙_, ap, subst}
@@ -8,7 +8,7 @@ use mathlib.Core.List.{List, [], _∷_, _++_}
 use lib.ListN.{length, getD-replicate}
 use lib.Dec.{eqb}
 use borrow.Author.Tests.{eqb-true, eqb-false, ne-eqb}
-use Rattle.ook.specs.declared.Settings.{Settings}
+use Rattle.shared.specs.declared.Settings.{Settings}
 use Rattle.lane.specs.declared.Lane.{Lane}
 use Rattle.lane.specs.declared.Answer.{Answer}
 use Rattle.lane.specs.declared.BeginArgs.{BeginArgs}
@@ -19,7 +19,7 @@ use Rattle.lane.specs.Serial.{stampOf}
 use Rattle.lane.specs.Step.{newLane, opened, begun, stepped, closed}
 use Rattle.commands.specs.declared.Command.{Command}
 use Rattle.commands.specs.declared.Command.the-variants.{End, Open, Begin, Step, Unknown, Short, Close}
-use Rattle.turns.specs.Turn.{State, Called, called, next, refusedOf}
+use Rattle.calls.specs.Turn.{State, Called, called, next, refusedOf}
 use Rattle.pulses.specs.Yardstick.{as-left, lent, Call, opening, begin, step, close, Given, fetched, Yardstick, unused, refusal, accepts, advanced, lentWell, handedOn}
 use Rattle.pulses.specs.Demand.{theLane, Place, returnedBy, start, after, Demand3}
 use Rattle.pulses.specs.Demand as demand

@@ -1,6 +1,6 @@
--- Every row of the examples holds: by computation from the definitions that the contracts cite. Assumes nothing.
+-- Every row of the examples holds: by computation from the definitions that the contracts cite.
 use mathlib.Core.Path.{refl}
-use Rattle.turns.specs.Turn.{called}
+use Rattle.calls.specs.Turn.{called}
 use Rattle.pulses.specs.Ran.{ran}
 use Rattle.among.specs.Among.{beginRefusalAmong, begunAmong, calledAmong, outOf, outs, answerTo, afterCall}
 use Rattle.antenna_laws.specs.Examples.{lastReply, shown, lows, table, Right}

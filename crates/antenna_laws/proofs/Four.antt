@@ -1,4 +1,4 @@
--- At most four lanes are out of idle: a call takes a place only by an accepted begin, and that finds fewer than four others out. Assumes nothing.
+-- At most four lanes are out of idle: a call takes a place only by an accepted begin, and that finds fewer than four others out.
 use Prim.Native.Nat.{ℕ, _+_, _<_, _≤_}
 use mathlib.Core.Bool.{Bool, true, false, cond, true≢false}
 use mathlib.Core.Path.{_≡_, refl, sym, _∙_, ap, subst}
@@ -8,7 +8,7 @@ use native.Mathlib.Omega.{arith}
 use lib.ListN.{length, set}
 use lib.Dec.{leb, eqb}
 use borrow.Author.Tests.{leb-false, eqb-true, eq-eqb, ne-eqb}
-use Rattle.ook.specs.declared.Settings.{Settings}
+use Rattle.shared.specs.declared.Settings.{Settings}
 use Rattle.lane.specs.declared.Lane.{Lane}
 use Rattle.lane.specs.declared.BeginArgs.{BeginArgs}
 use Rattle.lane.specs.declared.StepArgs.{StepArgs}
@@ -21,12 +21,12 @@ use Rattle.lane.specs.Serial.{stampOf, stamped, stampedWith}
 use Rattle.lane.specs.Step.{newLane, refuse, stay, opened, begun, stepped, closed}
 use Rattle.commands.specs.declared.Command.{Command}
 use Rattle.commands.specs.declared.Command.the-variants.{End, Open, Begin, Step, Unknown, Short, Close}
-use Rattle.turns.specs.Turn.{State, Called, called}
+use Rattle.calls.specs.Turn.{State, Called, called}
 use Rattle.pulses.proofs.Accepted.{step-tells, close-tells}
-use Rattle.among.specs.Among.{antennas, places, calledAmong, Lanes, laneAt, outOf, outs, othersOut, answerTo, afterCall}
+use Rattle.among.specs.Among.{antennas, places, calledAmong, Lanes, laneAt, outOf, outs, othersOut, answerTo, afterCall, Sized}
 use Rattle.among.specs.Settled.{lateOf}
 use Rattle.among.proofs.Laws.{out-one, outs-at, outs-set, outs-new}
-use Rattle.antenna_laws.specs.Calls.{Sent, Sized, newLanes, afterAll}
+use Rattle.antenna_laws.specs.Calls.{Sent, newLanes, afterAll}
 use Rattle.antenna_laws.specs.Theorems.{AtMostFour, FourStay, FourFromNew}
 use Rattle.antenna_laws.proofs.One.{among-alone, among-twelve, answer-own, after-own, after-none, after-sized, inside}
 

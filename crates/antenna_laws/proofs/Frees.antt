@@ -1,4 +1,4 @@
--- A lane that turns idle frees its place: one lane fewer is out of idle, so that the next call finds fewer than four others. Assumes nothing.
+-- A lane that turns idle frees its place: one lane fewer is out of idle, so that the next call finds fewer than four others.
 use Prim.Native.Nat.{ℕ, _+_, _<_}
 use mathlib.Core.Bool.{Bool, true, false, _&&_}
 use mathlib.Core.Path.{_≡_, refl, sym, _∙_, ap, subst}
@@ -9,7 +9,7 @@ use borrow.Author.Tests.{lt-leb}
 use Rattle.lane.specs.declared.Lane.{Lane}
 use Rattle.lane.specs.Step.{newLane}
 use Rattle.commands.specs.declared.Command.{Command}
-use Rattle.turns.specs.Turn.{State, called}
+use Rattle.calls.specs.Turn.{State, called}
 use Rattle.among.specs.Among.{places, calledAmong, Lanes, laneAt, outs, othersOut, answerTo, afterCall}
 use Rattle.among.specs.Settled.{isBeginOf, lateOf}
 use Rattle.among.proofs.Laws.{outs-set}

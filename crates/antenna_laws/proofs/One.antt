@@ -1,5 +1,5 @@
 -- One call of one antenna: since the lane alone never answers 12, among others the answer is 12 where `meets` says, with nothing changed, and the
--- lane's own elsewhere; and no other lane is changed. Assumes nothing.
+-- lane's own elsewhere; and no other lane is changed.
 use Prim.Native.Nat.{ℕ, _<_, _≤_}
 use mathlib.Core.Bool.{Bool, true, false, cond, _&&_, false≢true}
 use mathlib.Core.Path.{_≡_, refl, sym, _∙_, ap}
@@ -14,11 +14,11 @@ use Rattle.lane.specs.Answers.{refusalNumberOf}
 use Rattle.lane.specs.Step.{newLane, refuse}
 use Rattle.commands.specs.declared.Command.{Command}
 use Rattle.commands.specs.declared.Command.the-variants.{End, Open, Begin, Step, Unknown, Short, Close}
-use Rattle.turns.specs.Turn.{State, Called, called, next, unchanged}
-use Rattle.among.specs.Among.{antennas, places, calledAmong, Lanes, laneAt, putAt, othersOut, noAntenna, answerTo, afterCall}
+use Rattle.calls.specs.Turn.{State, Called, called, next, unchanged}
+use Rattle.among.specs.Among.{antennas, places, calledAmong, Lanes, laneAt, putAt, othersOut, noAntenna, answerTo, afterCall, Sized}
 use Rattle.among.specs.Settled.{isBeginOf, lateOf, settledOf}
 use Rattle.among.proofs.Laws.{settled}
-use Rattle.antenna_laws.specs.Calls.{Sized, met12}
+use Rattle.antenna_laws.specs.Calls.{met12}
 use Rattle.antenna_laws.proofs.Answers.{never-twelve}
 
 -- ---- among n others out of idle

@@ -1,4 +1,4 @@
--- 12 is given in its one case and in no other: the lane alone never gives it, and among others `meets` says where. Assumes nothing.
+-- 12 is given in its one case and in no other: the lane alone never gives it, and among others `meets` says where.
 use Prim.Native.Nat.{ℕ, zero, suc, _+_, _<_}
 use mathlib.Core.Bool.{Bool, true, false, cond, _&&_, false≢true}
 use mathlib.Core.Path.{_≡_, refl, sym, _∙_, ap}
@@ -9,7 +9,7 @@ use native.Mathlib.Nat.{not-suc-le-zero, le-of-suc-le-suc}
 use lib.ListN.{length, getD}
 use lib.Dec.{eqb, leb}
 use borrow.Author.Tests.{eqb-true, leb-true, le-leb}
-use Rattle.ook.specs.Tests.{both-true}
+use Rattle.shared.proofs.Tests.{both-true}
 use Rattle.lane.specs.declared.Lane.{Lane}
 use Rattle.lane.specs.declared.BeginArgs.{BeginArgs}
 use Rattle.lane.specs.declared.Reply.{Reply}
@@ -21,7 +21,7 @@ use Rattle.lane.specs.Serial.{stamped}
 use Rattle.lane.specs.Step.{newLane, refuse, stay, begun}
 use Rattle.commands.specs.declared.Command.{Command}
 use Rattle.commands.specs.declared.Command.the-variants.{End, Open, Begin, Step, Unknown, Short, Close}
-use Rattle.turns.specs.Turn.{State, Called, called, next, unchanged}
+use Rattle.calls.specs.Turn.{State, Called, called, next, unchanged}
 use Rattle.among.specs.Among.{antennas, places, Lanes, laneAt, putAt, outOf, outs, othersOut, noAntenna, answerTo}
 use Rattle.among.specs.Settled.{isBeginOf, lateOf}
 use Rattle.antenna_laws.specs.Calls.{others, met12}

@@ -1,16 +1,15 @@
 -- Lists of calls of sixteen antennas, what one of them hears, and the lane alone.
 use Prim.Native.Nat.{ℕ, zero, suc}
 use mathlib.Core.Bool.{Bool, true, false, not, _&&_}
-use mathlib.Core.Path.{_≡_}
 use mathlib.Core.List.{List, [], _∷_, map}
-use lib.ListN.{length, replicate}
+use lib.ListN.{replicate}
 use lib.Dec.{eqb}
 use Rattle.lane.specs.declared.Lane.{Lane}
 use Rattle.lane.specs.declared.Reply.{Reply}
 use Rattle.lane.specs.Answers.{refusalNumberOf}
 use Rattle.lane.specs.Step.{newLane}
 use Rattle.commands.specs.declared.Command.{Command}
-use Rattle.turns.specs.Turn.{State, Called, called, next}
+use Rattle.calls.specs.Turn.{State, Called, called, next}
 use Rattle.among.specs.Among.{antennas, Lanes, answerTo, afterCall}
 
 -- the number of an antenna, and a command for it
@@ -21,12 +20,6 @@ Sent = ℕ × Command
 unfoldable pub afterAll : Lanes → List Sent → Lanes
 afterAll p [] = p
 afterAll p (c ∷ cs) = afterAll (afterCall p (c .0) (c .1)) cs
-
--- "One receiver now serves sixteen lanes", and "Each lane has its own pair of buffers."
-pub record Sized (p : Lanes) : Type 0 where
-  pub lanes : length (p .0) ≡ antennas
-  pub ooks : length (p .1) ≡ antennas
-  pub fsks : length (p .2) ≡ antennas
 
 -- sixteen lanes that never had settings, with these buffers
 abbrev pub newLanes : List (List ℕ) → List (List ℕ) → Lanes

@@ -5,7 +5,7 @@ use mathlib.Core.Path.{_≡_}
 use mathlib.Core.List.{List, [], _∷_, _++_}
 use Rattle.commands.specs.declared.Command.{Command}
 use Rattle.commands.specs.declared.Command.the-variants.{End, Open, Begin, Step, Unknown, Short, Close}
-use Rattle.turns.specs.Turn.{State, Called, called, next, refusedOf}
+use Rattle.calls.specs.Turn.{State, Called, called, next, refusedOf}
 use Rattle.pulses.specs.Yardstick.{as-left, Call, opening, begin, step, close, Given, fetched, unused, handedOn}
 use Rattle.pulses.specs.Demand.{theLane, start, bursts, Each, NoneYet}
 use Rattle.pulses.specs.Demand as demand

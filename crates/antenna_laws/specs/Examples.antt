@@ -6,7 +6,7 @@ use mathlib.Core.List.{List, [], _∷_, _++_, map}
 use lib.ListN.{replicate}
 use lib.Ieee.{Float, binary32, ofBits}
 use Rattle.arith.specs.declared.C32.{C32}
-use Rattle.arith.specs.Leaves.{zero32, one32}
+use Rattle.ieee.specs.Constants.{zero32, one32}
 use Rattle.lane.specs.declared.BeginArgs.{BeginArgs}
 use Rattle.lane.specs.declared.History.{History}
 use Rattle.lane.specs.declared.Reply.{Reply}

@@ -8,10 +8,10 @@ use lib.ListN.{length}
 use Rattle.lane.specs.declared.Lane.{Lane}
 use Rattle.lane.specs.declared.Reply.the-variants.{Refused, Stay}
 use Rattle.commands.specs.declared.Command.{Command}
-use Rattle.turns.specs.Turn.{State, called, unchanged}
-use Rattle.among.specs.Among.{antennas, places, Lanes, laneAt, outs, othersOut, answerTo, afterCall}
+use Rattle.calls.specs.Turn.{State, called, unchanged}
+use Rattle.among.specs.Among.{antennas, places, Lanes, laneAt, outs, othersOut, answerTo, afterCall, Sized}
 use Rattle.among.specs.Settled.{isBeginOf}
-use Rattle.antenna_laws.specs.Calls.{Sent, afterAll, Sized, newLanes, others, heard, commandsOf, answersOf, alone, aloneAfter}
+use Rattle.antenna_laws.specs.Calls.{Sent, afterAll, newLanes, others, heard, commandsOf, answersOf, alone, aloneAfter}
 use Rattle.antenna_laws.specs.Demands.{Demands}
 
 -- ---- "from sixteen idle ones at most four are ever out of idle together"

@@ -5,11 +5,12 @@ ghost use Prim.Native.Nat.{_≤_};
 ghost use mathlib.Core.Path.{_≡_};
 ghost use lib.ListN.{length, take, replicate};
 ghost use Rattle.lane.specs.Step.{newLane};
-ghost use Rattle.among.specs.Among.{antennas};
+ghost use Rattle.among.specs.Among.{antennas, Sized};
 ghost use Rattle.stream.specs.Feeds.{Feeds};
 ghost use Rattle.sixteen.specs.Sixteen.{machine};
-ghost use Rattle.sixteen.specs.Spoken.{Sized, AllSound};
-ghost use Rattle.antennas.specs.Passes.{restOf, started, Passes, Runs};
+ghost use Rattle.sixteen.specs.Spoken.{AllSound};
+ghost use Rattle.input.specs.Passes.{Passes};
+ghost use Rattle.antennas.specs.Passes.{restOf, started, Ends};
 use lane::Lane;
 
 struct Fed {
@@ -38,7 +39,7 @@ fn feed(
     requires { ⌜ AllSound lanes × Sized (lanes, now ook, now fsk) ⌝ }
     ensures { λ r. ⌜ Feeds machine (lanes, now (ook .entry), now (fsk .entry)) (take end (now (buf .entry))) last (restOf r) (r .lanes, now (ook .exit), now (fsk .exit)) (now (buf .exit)) (now (text .exit)) × AllSound (r .lanes) × Sized (r .lanes, now (ook .exit), now (fsk .exit)) ⌝ }
 {
-    let n = turns::smaller(end, buf.len());
+    let n = calls::smaller(end, buf.len());
     let r = sixteen::block(lanes, &buf[..n], last, ook, fsk, text);
     let next = r.lanes;
     let left = feed::shift(buf, r.used, n);
@@ -89,7 +90,7 @@ fn pass(
     text: &mut [u8],
 ) -> Passed
     requires { ⌜ (p .fed .left ≤ length (now buf)) × AllSound (p .fed .lanes) × Sized (p .fed .lanes, now ook, now fsk) ⌝ }
-    ensures { λ r. ⌜ Passes p (now (buf .entry)) (now (ook .entry)) (now (fsk .entry)) r (now (buf .exit)) (now (ook .exit)) (now (fsk .exit)) (now (text .exit)) ⌝ }
+    ensures { λ r. ⌜ Passes machine (p .fed .lanes, now (ook .entry), now (fsk .entry)) (restOf (p .fed)) (p .last) (now (buf .entry)) (r .fed .lanes, now (ook .exit), now (fsk .exit)) (restOf (r .fed)) (r .last) (now (buf .exit)) (now (text .exit)) × AllSound (r .fed .lanes) × Sized (r .fed .lanes, now (ook .exit), now (fsk .exit)) ⌝ }
 {
     let q = p.fed;
     let lanes = q.lanes;
@@ -115,7 +116,7 @@ fn run(
     text: &mut [u8],
 ) -> bool
     requires { ⌜ Sized (replicate antennas newLane, now ook, now fsk) ⌝ }
-    ensures { λ r. ⌜ Runs (replicate antennas newLane, now (ook .entry), now (fsk .entry)) r (now (ook .exit)) (now (fsk .exit)) ⌝ }
+    ensures { λ r. ⌜ Ends (replicate antennas newLane, now (ook .entry), now (fsk .entry)) r (now (ook .exit)) (now (fsk .exit)) ⌝ }
 {
     let mut p = start();
     let mut passes = u64::MAX;

@@ -1,4 +1,4 @@
--- The magnitude by bit pattern: the same digits with the sign's left out. Assumes nothing.
+-- The magnitude by bit pattern: the same digits with the sign's left out.
 use mathlib.Core.Path.{_≡_, refl, sym, ap, _∙_, subst}
 use Prim.Native.Nat.{ℕ, zero, suc, _+_, _/_, _%_, _<_}
 use native.Mathlib.Omega.{arith}
@@ -7,6 +7,7 @@ use lib.Dec.{T, leb, eqb}
 use borrow.Author.Tests.{lt-leb}
 use lib.Ieee.{Float, nan, inf, fin, Format, binary32, binary64, prec, low, hid, ones, top, odd, fits, ofFields, ofBits, toBits, isNan, nanBits}
 use lib.Ieee.Bits.{ofBits-toBits, nanBits-is}
+use Rattle.ieee.proofs.Nan.{told}
 use Rattle.arith.specs.Leaves.{absOf}
 
 abs-odd : (d : ℕ) (s : Bool) (q k l : ℕ) → odd d false q k l ≡ absOf (odd d s q k l)
@@ -42,9 +43,9 @@ same-rest : (f : Format) (b : ℕ) → b % top f % top f ≡ b % top f
 same-rest binary32 b = omega arith
 same-rest binary64 b = omega arith
 
-pub abs-bits : (f : Format) (x : Float) → T (fits f x) → ofBits f (toBits f x % top f) ≡ absOf x
+bits-abs : (f : Format) (x : Float) → T (fits f x) → ofBits f (toBits f x % top f) ≡ absOf x
 unfolding ofBits
-abs-bits f x h =
+bits-abs f x h =
     let b = toBits f x in
     ap (λ (s : Bool). ofFields f s (b % top f % top f / hid f) (b % top f % hid f)) (lt-leb (top f) (b % top f) (below-top f b))
     ∙ ap (λ (n : ℕ). ofFields f false (n / hid f) (b % top f % hid f)) (same-rest f b)
@@ -53,9 +54,9 @@ abs-bits f x h =
     ∙ ap absOf (ofBits-toBits f x h)
 
 -- no number's pattern is a NaN's, with its sign or without
-pub abs-plain : (f : Format) (x : Float) → T (fits f x) → T (not (isNan x)) → T (not (nanBits f (toBits f x % top f)))
+plain-abs : (f : Format) (x : Float) → T (fits f x) → T (not (isNan x)) → T (not (nanBits f (toBits f x % top f)))
 unfolding isNan absOf
-abs-plain f x h n = subst (λ (b : Bool). T (not b)) (sym (nanBits-is f (toBits f x % top f) ∙ ap isNan (abs-bits f x h))) (go x n)
+plain-abs f x h n = subst (λ (b : Bool). T (not b)) (sym (nanBits-is f (toBits f x % top f) ∙ ap isNan (bits-abs f x h))) (go x n)
   where
     go : (y : Float) → T (not (isNan y)) → T (not (isNan (absOf y)))
     go nan m = m
@@ -65,3 +66,10 @@ abs-plain f x h n = subst (λ (b : Bool). T (not b)) (sym (nanBits-is f (toBits 
 pub abs-nan : (x : Float) → x ≡ nan → x ≡ absOf x
 unfolding absOf
 abs-nan x e = e ∙ sym (ap absOf e)
+
+-- the same of a value that its format holds, as owning it tells
+pub abs-bits : (f : Format) (x : Float) → fits f x ≡ true → ofBits f (toBits f x % top f) ≡ absOf x
+abs-bits f x g = bits-abs f x (told g)
+
+pub abs-plain : (f : Format) (x : Float) → fits f x ≡ true → T (not (isNan x)) → T (not (nanBits f (toBits f x % top f)))
+abs-plain f x g = plain-abs f x (told g)

@@ -1,7 +1,8 @@
 -- `atan2_fast` of band_pulse_detect.rs: a polynomial of the smaller magnitude over the larger, folded back by the octant. Each operation is rounded once, in this order.
 use mathlib.Core.Bool.{Bool, cond}
 use lib.Ieee.{Float, binary32, add, sub, mul, div, neg, lt, eq, ofBits}
-use Rattle.arith.specs.Leaves.{absOf, zero32}
+use Rattle.arith.specs.Leaves.{absOf}
+use Rattle.ieee.specs.Constants.{zero32}
 
 -- 0.99997726, 0.33262347, 0.19354346, 0.11643287, 0.05265332, 0.0117212, the last term first
 abbrev pub horner : Float → Float

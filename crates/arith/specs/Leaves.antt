@@ -9,19 +9,26 @@ use lib.Ieee.{Float, nan, inf, fin, binary32, binary64, add, sub, mul, div, lt, 
 use Rattle.arith.specs.declared.C32.{C32}
 use Rattle.arith.specs.declared.Steps.{Steps}
 use Rattle.arith.specs.declared.Fix64.{Fix64}
-use Rattle.arith.specs.Rounding.{halfUp, roundOf, narrowOf}
+use Rattle.ieee.specs.Rounding.{halfUp, roundOf, narrowOf}
+use Rattle.ieee.specs.Constants.{zero32, zero64, one64}
 
-abbrev pub zero32 : Float
-zero32 = ofBits binary32 0
+-- ---- constants
 
-abbrev pub one32 : Float
-one32 = ofBits binary32 0x3f80_0000
+-- RUN_FIX, 64.0
+abbrev pub runFix : Float
+runFix = ofBits binary64 0x4050_0000_0000_0000
 
-abbrev pub zero64 : Float
-zero64 = ofBits binary64 0
+-- BAND_PULSE_LEAD
+abbrev pub maxLead : ℕ
+maxLead = 16
 
-abbrev pub one64 : Float
-one64 = ofBits binary64 0x3ff0_0000_0000_0000
+-- FLUSH, 1e-30
+abbrev pub flush : Float
+flush = ofBits binary32 0x0da2_4260
+
+-- the smallest normal number of binary32, 2 ^ -126
+abbrev pub minPositive : Float
+minPositive = ofBits binary32 0x0080_0000
 
 -- ---- what the Rust takes from its language and libraries
 
@@ -39,7 +46,7 @@ midpointOf a b = narrowOf (div binary64 (add binary64 a b) (ofBits binary64 0x40
 -- document 01: flush_denormal is here +0 if the magnitude is below 2 ^ -126, else the value
 unfoldable pub flushOf : Float → Float
 unfolding absOf
-flushOf x = cond (lt (absOf x) (ofBits binary32 0x0080_0000)) zero32 x
+flushOf x = cond (lt (absOf x) minPositive) zero32 x
 
 -- f32::max, f64::max and the two min: the other operand where one is a NaN (maxNum and minNum of IEEE 754-2008, 5.3.1); of two zeros the first
 abbrev pub maxOf : Float → Float → Float
@@ -54,9 +61,9 @@ clampOf x = cond (lt x zero64) zero64 (cond (lt one64 x) one64 x)
 
 -- ---- the leaves, in the Rust's order (atan2_fast: Angle.antt)
 
--- the steps of the lead-in: BAND_PULSE_LEAD (16), at most 4 min_steps - 1, each operation saturating at a u32's ends
+-- the steps of the lead-in: BAND_PULSE_LEAD, at most 4 min_steps - 1, each operation saturating at a u32's ends
 abbrev pub leadLenOf : ℕ → ℕ
-leadLenOf m = min 16 (min (4 * m) (2 ^ 32 - 1) - 1)
+leadLenOf m = min maxLead (min (4 * m) (2 ^ 32 - 1) - 1)
 
 -- x times the conjugate of y
 abbrev pub cmulConjOf : C32 → C32 → C32
@@ -100,10 +107,10 @@ fskWidthOf a b = record { 0 = wholeOf (sub binary64 (roundOf b) (roundOf a)) }
 abbrev pub exponentOf : ℕ → ℕ
 exponentOf b = b / 2 ^ 23 % 256
 
--- 1 / e^2 rounded up to a power of two, by the exponent alone: 254 less the field, at least 0. 0 unless the square exceeds 1e-30.
+-- 1 / e^2 rounded up to a power of two, by the exponent alone: 254 less the field, at least 0. 0 unless the square exceeds FLUSH.
 unfoldable pub gainOf : Float → Float
-gainOf e = cond (lt (ofBits binary32 0x0da2_4260) (mul binary32 e e)) (ofBits binary32 ((254 - exponentOf (toBits binary32 (mul binary32 e e))) * 2 ^ 23)) zero32
+gainOf e = cond (lt flush (mul binary32 e e)) (ofBits binary32 ((254 - exponentOf (toBits binary32 (mul binary32 e e))) * 2 ^ 23)) zero32
 
 -- a time after the origin of a frame, in 64ths of a step
 abbrev pub runFixOf : Float → Fix64
-runFixOf t = record { 0 = wholeOf (mul binary64 t (ofBits binary64 0x4050_0000_0000_0000)) }
+runFixOf t = record { 0 = wholeOf (mul binary64 t runFix) }

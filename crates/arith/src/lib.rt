@@ -1,274 +1,41 @@
-// The arithmetic below the lane: IEEE 754-2019's rounding, square root and change of width, and the
-// leaves of the Rust, one rounding for each operation. The crates above see these contracts only.
+// The leaves of the Rust's arithmetic, one rounding for each operation: here the small ones, in `angle` the angle of a sample, in
+// `boundaries` the widths that add up. The crates above see these contracts only.
 ghost use mathlib.Core.Path.{_≡_};
-ghost use mathlib.Core.Bool.{Bool, cond};
-ghost use Prim.Native.Nat.{_+_, _-_, _*_, _^_, _<_, _≤_, min, max};
 ghost use lib.Ieee as Ieee;
 ghost use lib.Ieee.{binary32, binary64};
 ghost use lib.IntN.{pos};
-ghost use lib.Ieee.Nearest.{closest};
-ghost use lib.Ieee.Positive.{positive};
-ghost use lib.Dec.{T};
-ghost use Rattle.arith.specs.Root.{specialOf, answered, scaled, InRange, IsRoot, exactOf, roundExact, sqrtOf};
-ghost use Rattle.arith.specs.Rounding.{roundOf, narrowOf, widenOf};
 ghost use Rattle.arith.specs.Leaves.{absOf, midpointOf, flushOf, maxOf, minOf, cmulConjOf, crossOf, edgeOf, stepOf, wholeOf, widthOf, fskWidthOf, runFixOf, gainOf, leadLenOf};
-ghost use Rattle.arith.specs.Angle.{octant, atan2Of};
-ghost use Rattle.arith.specs.Carry.{boundOf, roundedOf, remainderOf, betweenOf, carriedAt, widthBy};
 
-// ---- bit patterns
+mod angle;
+mod boundaries;
 
-// The float of a pattern: each pattern of a NaN gives the one NaN.
-pub fn f32_of_bits(n: u32) -> f32
-    ensures { λ r. ⌜ r ≡ Ieee.ofBits binary32 n ⌝ }
-{
-    if 0x7f80_0000 < n % 0x8000_0000 {
-        return 0.0 / 0.0;
-    }
-    f32::from_bits(n)
+pub use angle::atan2_fast;
+pub use boundaries::carried_at;
+pub use boundaries::width_by;
+
+// ---- units and types
+
+// Whole steps.
+pub struct Steps(pub u32);
+
+// 64ths of a step.
+pub struct Fix64(pub u32);
+
+// A complex sample: real and imaginary part.
+pub struct C32 {
+    pub re: f32,
+    pub im: f32,
 }
 
-pub fn f64_of_bits(n: u64) -> f64
-    ensures { λ r. ⌜ r ≡ Ieee.ofBits binary64 n ⌝ }
-{
-    if 0x7ff0_0000_0000_0000 < n % 0x8000_0000_0000_0000 {
-        return 0.0 / 0.0;
-    }
-    f64::from_bits(n)
+// A width with its signed remainder in 64ths, and the boundary at its end.
+pub struct Carried {
+    pub width: Steps,
+    pub remainder: i32,
+    pub bound: u64,
 }
 
-// The pattern of a float: a NaN's is the quiet one with no other digit set.
-pub fn bits_of_f32(x: f32) -> u32
-    ensures { λ r. ⌜ r ≡ Ieee.toBits binary32 x ⌝ }
-{
-    if x != x {
-        return 0x7fc0_0000;
-    }
-    f32::to_bits(x)
-}
-
-pub fn bits_of_f64(x: f64) -> u64
-    ensures { λ r. ⌜ r ≡ Ieee.toBits binary64 x ⌝ }
-{
-    if x != x {
-        return 0x7ff8_0000_0000_0000;
-    }
-    f64::to_bits(x)
-}
-
-// ---- change of width and rounding to integral
-
-// v / u to the nearest whole number, a tie to the even one.
-fn closest_div(v: u64, u: u64) -> u64
-    requires { ⌜ (v < 0x8000_0000_0000_0000) × (0 < u) ⌝ }
-    ensures { λ r. ⌜ r ≡ closest v u ⌝ }
-{
-    let q = v / u;
-    let rest = v % u;
-    let over = u - rest;
-    if rest < over {
-        q
-    } else if over < rest {
-        q + 1
-    } else {
-        q + q % 2
-    }
-}
-
-// 2^j.
-fn power(j: u64) -> u64
-    requires { ⌜ j < 64 ⌝ }
-    ensures { λ r. ⌜ r ≡ 2 ^ j ⌝ }
-{
-    1u64 << j
-}
-
-// The bits below the sign of the f32 nearest to the f64 that has the exponent's field e and the
-// digits t: what is right for one sign is right for both.
-fn narrow_fields(e: u64, t: u64) -> u32
-    requires { ⌜ (e ≤ 2047) × (t < 0x10_0000_0000_0000) × (e ≡ 2047 → t ≡ 0) ⌝ }
-    ensures { λ r. ⌜ ((s : Bool) → Ieee.ofBits binary32 (cond s 0x8000_0000 0 + r) ≡ narrowOf (Ieee.ofFields binary64 s e t)) × (r ≤ 0x7f80_0000) ⌝ }
-{
-    if e < 872 {
-        return 0;
-    }
-    if 1150 < e {
-        return 0x7f80_0000;
-    }
-    let d = 0x10_0000_0000_0000 + t;
-    if e < 897 {
-        closest_div(d, power(926 - e)) as u32
-    } else {
-        ((e - 897) * 0x80_0000 + closest_div(d, 0x2000_0000)) as u32
-    }
-}
-
-// x at the narrower format, rounded to nearest, a tie to even.
-pub fn narrow(x: f64) -> f32
-    ensures { λ r. ⌜ r ≡ narrowOf x ⌝ }
-{
-    if x != x {
-        return 0.0 / 0.0;
-    }
-    let b = f64::to_bits(x);
-    let e = b % 0x8000_0000_0000_0000 / 0x10_0000_0000_0000;
-    let t = b % 0x10_0000_0000_0000;
-    let r = narrow_fields(e, t);
-    if b < 0x8000_0000_0000_0000 {
-        f32::from_bits(r)
-    } else {
-        f32::from_bits(0x8000_0000 + r)
-    }
-}
-
-// The magnitude of the f64 that has the exponent's field e and the digits t, to the nearest whole
-// number, a tie to the upper one, for magnitudes below 2^52.
-fn whole_fields(e: u64, t: u64) -> u64
-    requires { ⌜ (e < 1075) × (t < 0x10_0000_0000_0000) ⌝ }
-    ensures { λ r. ⌜ ((s : Bool) → roundOf (Ieee.ofFields binary64 s e t) ≡ Ieee.round binary64 s r 1) × (r ≤ 0x20_0000_0000_0000) ⌝ }
-{
-    if e < 1022 {
-        return 0;
-    }
-    let u = power(1075 - e);
-    (2 * (0x10_0000_0000_0000 + t) + u) / (2 * u)
-}
-
-// x to the nearest whole number, a tie away from zero; a zero keeps x's sign.
-pub fn round(x: f64) -> f64
-    ensures { λ r. ⌜ r ≡ roundOf x ⌝ }
-{
-    if x != x {
-        return x;
-    }
-    let b = f64::to_bits(x);
-    let e = b % 0x8000_0000_0000_0000 / 0x10_0000_0000_0000;
-    if 1075 <= e {
-        return x;
-    }
-    let r = whole_fields(e, b % 0x10_0000_0000_0000) as f64;
-    if b < 0x8000_0000_0000_0000 { r } else { -r }
-}
-
-// x at the wider format, which holds each f32.
-pub fn widen(x: f32) -> f64
-    ensures { λ r. ⌜ r ≡ widenOf x ⌝ }
-{
-    std::num::f32_to_f64_with_nan(x)
-}
-
-// ---- square root, in the standard's order: special operands, the exact result, the rounding
-
-// What is answered with no root taken, if anything is.
-pub struct Answer {
-    pub given: bool,
-    pub root: f32,
-}
-
-// The first step. A NaN (IEEE 754-2019, 6.2), a zero with its sign (6.3) and plus infinity (6.1) are their
-// own roots, and for what is below zero the operation is invalid: a NaN (7.2).
-fn special(x: f32) -> Answer
-    ensures { λ r. ⌜ answered r ≡ specialOf x ⌝ }
-{
-    let own = Answer {
-        given: true,
-        root: x,
-    };
-    if x != x {
-        return own;
-    }
-    if x == 0.0 {
-        return own;
-    }
-    if x == f32::from_bits(0x7f80_0000) {
-        return own;
-    }
-    if x < 0.0 {
-        let zero = 0.0f32;
-        return Answer {
-            given: true,
-            root: zero / zero,
-        };
-    }
-    Answer {
-        given: false,
-        root: x,
-    }
-}
-
-// The exact root of a positive number: its 25 digits, whether it has more, and the power.
-pub struct Exact {
-    pub root: u32,
-    pub more: bool,
-    pub power: u32,
-}
-
-// The largest whole number whose square is at most n: from the table's first digits, one more than
-// those, two steps of Newton's, (g + n / g) / 2. They end at that number or at the next one.
-fn whole_root(n: u64) -> u64
-    requires { ⌜ InRange n ⌝ }
-    ensures { λ r. ⌜ IsRoot n r ⌝ }
-{
-    let d = table::first_digits(n / 0x100_0000_0000) as u32 + 1;
-    let g = (d * 0x1_0000 + (n / 0x4_0000) as u32 / d) as u64;
-    let h = (g + n / g) / 2;
-    if n < h * h { h - 1 } else { h }
-}
-
-// The exact root of a * 2 ^ k of 4 ^ -75, brought by a power of 4 to 2 ^ 48 or more and below 2 ^ 50.
-fn exact_of(a: u32, k: u32) -> Exact
-    requires { ⌜ (0 < a) × (a < 2 ^ 24) × (k < 255) ⌝ }
-    ensures { λ r. ⌜ r ≡ exactOf (a * 2 ^ k) ⌝ }
-{
-    let s = 32 - u32::leading_zeros(a);
-    let p = (s + k + 1) / 2;
-    let n = (a as u64) << (50 + k - (p + p));
-    let r = whole_root(n);
-    Exact {
-        root: r as u32,
-        more: r * r < n,
-        power: p,
-    }
-}
-
-// The second step, for a finite number above zero, by its digits and its exponent.
-fn exact_root(x: f32) -> Exact
-    requires { ⌜ T (positive x) ⌝ }
-    ensures { λ r. ⌜ r ≡ exactOf (scaled x) ⌝ }
-{
-    let b = f32::to_bits(x);
-    let f = b / 0x80_0000;
-    let t = b % 0x80_0000;
-    if f == 0 {
-        exact_of(t, 1)
-    } else {
-        exact_of(t + 0x80_0000, f)
-    }
-}
-
-// The third step: to the nearest f32, ties to even (4.3.1), from the root's 25 digits, whether it has
-// more, and the power alone.
-fn round_exact(root: u32, more: bool, power: u32) -> f32
-    requires { ⌜ (2 ^ 24 ≤ root) × (root < 2 ^ 25) × (power ≤ 200) ⌝ }
-    ensures { λ r. ⌜ r ≡ roundExact root more power ⌝ }
-{
-    let base = (power + 50) * 0x80_0000;
-    if more {
-        return f32::from_bits(base + (root + 1) / 2);
-    }
-    f32::from_bits(base + (root + root / 2 % 2) / 2)
-}
-
-// The square root of x.
-pub fn sqrt(x: f32) -> f32
-    ensures { λ r. ⌜ r ≡ sqrtOf x ⌝ }
-{
-    let s = special(x);
-    if s.given {
-        return s.root;
-    }
-    let e = exact_root(x);
-    round_exact(e.root, e.more, e.power)
-}
+// 1 / RUN_FIX steps is the resolution of the run ends of a frame, and of the boundaries of a train.
+pub const RUN_FIX: f64 = 64.0;
 
 // ---- what the Rust takes from its language and libraries
 
@@ -282,32 +49,21 @@ pub fn abs(x: f32) -> f32
     f32::from_bits(f32::to_bits(x) % 0x8000_0000)
 }
 
-// The magnitude of an f64.
-pub fn abs64(x: f64) -> f64
-    ensures { λ r. ⌜ r ≡ absOf x ⌝ }
-{
-    if x != x {
-        return x;
-    }
-    f64::from_bits(f64::to_bits(x) % 0x8000_0000_0000_0000)
-}
-
-// f32::midpoint: both widened, added, halved, narrowed.
+// f32::midpoint, by document 01: both widened, added, halved, narrowed.
 pub fn midpoint(a: f32, b: f32) -> f32
     ensures { λ r. ⌜ r ≡ midpointOf a b ⌝ }
 {
-    narrow((widen(a) + widen(b)) / 2.0)
+    ieee::narrow((ieee::widen(a) + ieee::widen(b)) / 2.0)
 }
 
-// +0 below 2^-126 in magnitude, which is 1.1754943508222875e-38.
+// The smallest normal f32, 2^-126.
+const MIN_POSITIVE: f32 = 1.1754943508222875e-38;
+
+// A subnormal number is +0 here (document 01's stand-in).
 pub fn flush_denormal(x: f32) -> f32
     ensures { λ r. ⌜ r ≡ flushOf x ⌝ }
 {
-    if abs(x) < 1.1754943508222875e-38 {
-        0.0
-    } else {
-        x
-    }
+    if abs(x) < MIN_POSITIVE { 0.0 } else { x }
 }
 
 // The larger, and the other where one is a NaN, as f32::max has it.
@@ -323,6 +79,7 @@ pub fn max(a: f32, b: f32) -> f32
     }
 }
 
+// The same of f64.
 pub fn max64(a: f64, b: f64) -> f64
     ensures { λ r. ⌜ r ≡ maxOf a b ⌝ }
 {
@@ -348,6 +105,7 @@ pub fn min(a: f32, b: f32) -> f32
     }
 }
 
+// The same of f64.
 pub fn min64(a: f64, b: f64) -> f64
     ensures { λ r. ⌜ r ≡ minOf a b ⌝ }
 {
@@ -360,6 +118,13 @@ pub fn min64(a: f64, b: f64) -> f64
     }
 }
 
+// The same of f64, for the grid: no sample needs it, so it is not spared the tests for a NaN.
+pub fn abs64(x: f64) -> f64
+    ensures { λ r. ⌜ r ≡ absOf x ⌝ }
+{
+    ieee::f64_of_bits(ieee::bits_of_f64(x) % 0x8000_0000_0000_0000)
+}
+
 // A whole number to the nearest float, a tie to even.
 pub fn u32_to_f32(n: u32) -> f32
     ensures { λ r. ⌜ r ≡ Ieee.ofInt binary32 (pos n) ⌝ }
@@ -367,13 +132,14 @@ pub fn u32_to_f32(n: u32) -> f32
     std::num::nearest_u32_to_f32(n)
 }
 
+// The same of u64.
 pub fn u64_to_f64(n: u64) -> f64
     ensures { λ r. ⌜ r ≡ Ieee.ofInt binary64 (pos n) ⌝ }
 {
     std::num::nearest_u64_to_f64(n)
 }
 
-// A float to an integer: toward zero, to the nearest end of the range, and 0 for a NaN.
+// Rust's `as`: toward zero, the nearest end of the range past it, and 0 for a NaN.
 pub fn to_u64(x: f64) -> u64
     ensures { λ r. ⌜ r ≡ Ieee.toUnsigned 64 x ⌝ }
 {
@@ -388,6 +154,7 @@ pub fn to_u64(x: f64) -> u64
     }
 }
 
+// The same to u32, whose range is the narrower.
 pub fn to_u32(x: f64) -> u32
     ensures { λ r. ⌜ r ≡ Ieee.toUnsigned 32 x ⌝ }
 {
@@ -401,23 +168,21 @@ pub fn to_u32(x: f64) -> u32
 
 // ---- the leaves, in the Rust's order
 
-// The steps of the lead-in: BAND_PULSE_LEAD (16), at most 4 min_steps - 1.
+// The most steps of a lead-in.
+const BAND_PULSE_LEAD: u32 = 16;
+
+// The steps of the lead-in: at most 4 min_steps - 1, so that its replay finishes at most one train and one frame, for each of which
+// two need 4 min_steps.
 pub fn lead_len(min_steps: u32) -> u32
     ensures { λ r. ⌜ r ≡ leadLenOf «min_steps» ⌝ }
 {
     if 5 <= min_steps {
-        return 16;
+        return BAND_PULSE_LEAD;
     }
     if min_steps == 0 {
         return 0;
     }
     4 * min_steps - 1
-}
-
-// A complex sample: real and imaginary part.
-pub struct C32 {
-    pub re: f32,
-    pub im: f32,
 }
 
 // x times the conjugate of y.
@@ -430,13 +195,13 @@ pub fn cmul_conj(x: C32, y: C32) -> C32
     }
 }
 
-// Where the line from prev to cur crosses thr, as a part of the step.
+// Where the line from prev to cur crosses thr, as a part of the step from 0 to 1; 1 where it does not rise or fall.
 pub fn cross(prev: f32, cur: f32, thr: f32) -> f64
     ensures { λ r. ⌜ r ≡ crossOf prev cur thr ⌝ }
 {
     let d = cur - prev;
     if 0.0 < abs(d) {
-        let q = widen((thr - prev) / d);
+        let q = ieee::widen((thr - prev) / d);
         if q < 0.0 {
             0.0
         } else if 1.0 < q {
@@ -447,48 +212,6 @@ pub fn cross(prev: f32, cur: f32, thr: f32) -> f64
     } else {
         1.0
     }
-}
-
-// The arc tangent of a from 0 to 1, by a polynomial.
-fn octant_of(a: f32) -> f32
-    ensures { λ r. ⌜ r ≡ octant a ⌝ }
-{
-    let s = a * a;
-    a
-        * (0.999_977_26
-            + s
-                * (-0.332_623_47
-                    + s
-                        * (0.193_543_46
-                            + s * (-0.116_432_87 + s * (0.052_653_32 - s * 0.011_721_2)))))
-}
-
-fn pick(b: bool, p: f32, q: f32) -> f32
-    ensures { λ r. ⌜ r ≡ cond b p q ⌝ }
-{
-    if b { p } else { q }
-}
-
-// PI and PI / 2, as Rust has them.
-const PI: f32 = 3.14159265358979323846264338327950288;
-
-const FRAC_PI_2: f32 = 1.57079632679489661923132169163975144;
-
-// atan2(y, x) to about 1e-5, by the octant.
-pub fn atan2_fast(y: f32, x: f32) -> f32
-    ensures { λ r. ⌜ r ≡ atan2Of y x ⌝ }
-{
-    let ax = abs(x);
-    let ay = abs(y);
-    let steep = ax < ay;
-    let large = pick(steep, ay, ax);
-    if large == 0.0 {
-        return 0.0;
-    }
-    let r = octant_of(pick(steep, ax, ay) / large);
-    let r = pick(steep, FRAC_PI_2 - r, r);
-    let r = pick(x < 0.0, PI - r, r);
-    if y < 0.0 { -r } else { r }
 }
 
 // The time of the crossing before the sample idx.
@@ -502,130 +225,39 @@ pub fn edge(idx: u64, frac: f64) -> f64
 pub fn step_of(t: f64) -> u64
     ensures { λ r. ⌜ r ≡ stepOf t ⌝ }
 {
-    to_u64(round(t))
+    to_u64(ieee::round(t))
 }
 
 // A width in whole steps: rounded, at least 0, at most the largest u32.
 pub fn whole(x: f64) -> u32
     ensures { λ r. ⌜ r ≡ wholeOf x ⌝ }
 {
-    to_u32(round(x))
+    to_u32(ieee::round(x))
 }
 
-// Each unit is a type of its own: whole steps, and 64ths of a step.
-pub struct Steps(pub u32);
-
-pub struct Fix64(pub u32);
-
-// The width of an envelope run from a to b.
+// How wide a pulse or gap between two edges is, by itself: never off by more than half a step.
 pub fn width(a: f64, b: f64) -> Steps
     ensures { λ r. ⌜ r ≡ widthOf a b ⌝ }
 {
     Steps(whole(b - a))
 }
 
-// ---- carried widths (R-1): boundaries in 64ths of a step after the first pulse's edge
-
-// A width with its signed remainder in 64ths, and the boundary at its end.
-pub struct Carried {
-    pub width: Steps,
-    pub remainder: i32,
-    pub bound: u64,
-}
-
-fn smaller(x: u64, y: u64) -> u64
-    ensures { λ r. ⌜ r ≡ min x y ⌝ }
-{
-    if x < y {
-        return x;
-    }
-    y
-}
-
-fn larger(x: u64, y: u64) -> u64
-    ensures { λ r. ⌜ r ≡ max x y ⌝ }
-{
-    if x < y {
-        return y;
-    }
-    x
-}
-
-// The boundary of the edge t: nearest, at most 2^47, never below the one before.
-fn bound_of(origin: f64, before: u64, t: f64) -> u64
-    ensures { λ r. ⌜ r ≡ boundOf origin before t ⌝ }
-{
-    let nearest = step_of((t - origin) * 64.0);
-    larger(before, smaller(nearest, domain::MAX_BOUND))
-}
-
-// A boundary in whole steps, a tie up; no sum here can wrap.
-fn rounded(b: u64) -> u64
-    ensures { λ r. ⌜ r ≡ roundedOf b ⌝ }
-{
-    b / 64 + b % 64 / 32
-}
-
-// A boundary less 64 times its rounded value.
-fn remainder(b: u64) -> i32
-    ensures { λ r. ⌜ r ≡ remainderOf b ⌝ }
-{
-    let n = (b % 64 + 32) % 64;
-    (n as i32) - 32
-}
-
-// The width between two boundaries, at most the largest u32.
-fn between(before: u64, b: u64) -> Steps
-    requires { ⌜ before ≤ b ⌝ }
-    ensures { λ r. ⌜ r ≡ betweenOf before b ⌝ }
-{
-    let n = smaller(rounded(b) - rounded(before), 4294967295);
-    Steps(n as u32)
-}
-
-// The width that ends at the edge t.
-pub fn carried_at(origin: f64, before: u64, t: f64) -> Carried
-    ensures { λ r. ⌜ r ≡ carriedAt origin before t ⌝ }
-{
-    let bound = bound_of(origin, before, t);
-    let width = between(before, bound);
-    let rest = remainder(bound);
-    Carried {
-        width,
-        remainder: rest,
-        bound,
-    }
-}
-
-// The width of an envelope run from a to b, with carry (1) or without.
-pub fn width_by(carry: u32, origin: f64, before: u64, a: f64, b: f64) -> Carried
-    ensures { λ r. ⌜ r ≡ widthBy carry origin before a b ⌝ }
-{
-    let carries = carry == 1;
-    if carries {
-        return carried_at(origin, before, b);
-    }
-    let plain = width(a, b);
-    Carried {
-        width: plain,
-        remainder: 0,
-        bound: before,
-    }
-}
-
-// The width of a frequency run from a to b: the difference of the two rounded times.
+// How wide a frequency run is. Both ends are rounded before they are subtracted, so that the widths of runs in a row give the whole.
 pub fn fsk_width(a: f64, b: f64) -> Steps
     ensures { λ r. ⌜ r ≡ fskWidthOf a b ⌝ }
 {
-    Steps(whole(round(b) - round(a)))
+    Steps(whole(ieee::round(b) - ieee::round(a)))
 }
 
-// 1 / e^2 rounded up to a power of two, by the exponent's field alone; 0 unless e^2 exceeds 1e-30.
+// What is not above this counts as 0.
+const FLUSH: f32 = 1e-30;
+
+// What brings a sample of this envelope near 1: a power of two at or above the square's inverse, read off the exponent's field, so that no sample costs a division.
 pub fn a_gain(e: f32) -> f32
     ensures { λ r. ⌜ r ≡ gainOf e ⌝ }
 {
     let q = e * e;
-    if q > 1e-30 {
+    if q > FLUSH {
         let exp = f32::to_bits(q) / 0x80_0000 % 256;
         if exp < 254 {
             f32::from_bits((254 - exp) * 0x80_0000)
@@ -641,5 +273,5 @@ pub fn a_gain(e: f32) -> f32
 pub fn run_fix(t: f64) -> Fix64
     ensures { λ r. ⌜ r ≡ runFixOf t ⌝ }
 {
-    Fix64(whole(t * 64.0))
+    Fix64(whole(t * RUN_FIX))
 }

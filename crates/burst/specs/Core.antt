@@ -6,13 +6,13 @@ use mathlib.Core.List.{List}
 use lib.ListN.{getD}
 use lib.Dec.{eqb}
 use lib.Ieee.{Float, nan}
-use Rattle.ook.specs.Core.{wholeOut}
-use Rattle.ook.specs.declared.Settings.{Settings}
+use Rattle.shared.specs.Core.{wholeOut}
+use Rattle.shared.specs.declared.Settings.{Settings}
 use Rattle.fsk.specs.Core.{wholeFrame}
 use Rattle.presence.specs.Presence.{presenceOf}
 use Rattle.presence.specs.declared.Present.{Present}
-use Rattle.stages.specs.declared.At.{At}
-use Rattle.stages.specs.declared.Seen.{Seen}
+use Rattle.envelope.specs.declared.At.{At}
+use Rattle.envelope.specs.declared.Seen.{Seen}
 use Rattle.burst.specs.Makers.{burstOf, bodyIn, withBody}
 use Rattle.burst.specs.Sample.{inputsOf}
 use Rattle.burst.specs.Lead.{onward, staying}

@@ -1,23 +1,23 @@
 -- `begin_burst` and `lead` (source document 000): the lead-in fills, and once it is full its samples are replayed.
-use Prim.Native.Nat.{ℕ, zero, suc, _+_, _-_, _%_, _^_, _<_, _≤_}
-use mathlib.Core.Bool.{false, cond}
-use mathlib.Core.Path.{_≡_, refl}
+use Prim.Native.Nat.{ℕ, zero, suc, _+_, _%_, _^_}
+use mathlib.Core.Bool.{cond}
 use mathlib.Core.List.{List}
-use native.Mathlib.Omega.{arith}
 use lib.ListN.{set, getD}
 use lib.IntN.{pos}
 use lib.Ieee.{Float, nan, binary64, lt, ofInt}
-use Rattle.arith.specs.Leaves.{zero32, leadLenOf}
+use Rattle.ieee.specs.Constants.{zero32}
+use Rattle.arith.specs.Leaves.{leadLenOf}
 use Rattle.arith.specs.declared.C32.{C32}
-use Rattle.ook.specs.Counts.{inc, zeroC32}
-use Rattle.ook.specs.Answers.{isStayOf}
+use Rattle.shared.specs.Counts.{inc, zeroC32}
+use Rattle.shared.specs.Answers.{isStayOf}
+use Rattle.run.specs.Run.{startRunOf}
 use Rattle.ook.specs.Run.{beginEnvOf}
 use Rattle.ook.specs.Train.{emptyTrainOf}
-use Rattle.ook.specs.declared.Settings.{Settings}
-use Rattle.ook.specs.declared.Next.the-variants.{Stay}
+use Rattle.shared.specs.declared.Settings.{Settings}
+use Rattle.shared.specs.declared.Next.the-variants.{Stay}
 use Rattle.presence.specs.Move.{presOf}
 use Rattle.presence.specs.declared.Pres.{Pres}
-use Rattle.stages.specs.declared.At.{At}
+use Rattle.envelope.specs.declared.At.{At}
 use Rattle.burst.specs.Makers.{burstOf}
 use Rattle.burst.specs.Sample.{sampleOf}
 use Rattle.burst.specs.declared.Burst.{Burst}
@@ -44,7 +44,7 @@ largestOf «lead_e» len = largestFrom «lead_e» len 0 zero32
 
 -- begin_burst: no pulse and no presence yet, at the time t; the records, the frame, ref_idx, ref_pending and p_factor stay
 abbrev pub beginPresOf : Float → Pres → Pres
-beginPresOf t s = presOf t t (s .«p_factor») 0 0 1 0
+beginPresOf t s = presOf (startRunOf t) (s .«p_factor»)
 
 unfoldable pub beginBurstOf : Float → Float → Float → Burst → Burst
 beginBurstOf high t e b = burstOf high e (beginEnvOf t (b .env)) zeroC32 (emptyTrainOf (b .train)) (b .«out_ook») 0 (beginPresOf t (b .pres)) (b .frame) (b .«out_fsk»)
@@ -82,19 +82,3 @@ leadFullOf p noise ring l b ook fsk =
     replayOf p noise ring l
     (beginBurstOf (largestOf (l .«lead_e») (leadLenOf (p .«min_steps»))) (ofInt binary64 (pos (l .«lead_at»))) (getD (l .«lead_e») 0 nan) b)
     ook fsk
-
--- a turn of the loop for the largest, and its end
-pub largest-turn : (es : List Float) (len i : ℕ) (m : Float) → i < len → largestFrom es (len - i) i m ≡ largestFrom es (len - (i + 1)) (i + 1) (cond (lt m (getD es i nan)) (getD es i nan) m)
-unfolding largestFrom
-largest-turn es len i m h = let e : len - i ≡ suc (len - (i + 1)) = omega arith in rw e
-
-pub largest-end : (es : List Float) (len i : ℕ) (m : Float) → len ≤ i → largestFrom es (len - i) i m ≡ m
-unfolding largestFrom
-largest-end es len i m h = let e : len - i ≡ 0 = omega arith in rw e
-
-module _ (p : Settings) (noise : Float) (ring : List Float) (l : Lead) where
-  -- an end stays the end
-  pub replay-stop : (k i : ℕ) (s : Sampled × List ℕ × List ℕ) → isStayOf (s .0 .next) ≡ false → replayFrom p noise ring l k i s ≡ s
-  unfolding replayFrom
-  replay-stop zero i s h = refl
-  replay-stop (suc k) i s h = rw h (replay-stop k (i + 1) s h)

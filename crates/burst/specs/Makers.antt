@@ -2,17 +2,17 @@
 use Prim.Native.Nat.{ℕ}
 use lib.Ieee.{Float}
 use Rattle.arith.specs.declared.C32.{C32}
-use Rattle.ook.specs.Core.{numbered}
+use Rattle.shared.specs.Core.{numbered}
 use Rattle.ook.specs.declared.Env.{Env}
 use Rattle.ook.specs.declared.Train.{Train}
-use Rattle.ook.specs.declared.Out.{Out}
+use Rattle.shared.specs.declared.Out.{Out}
 use Rattle.ook.specs.declared.Done.{Done}
 use Rattle.fsk.specs.declared.Frame.{Frame}
-use Rattle.frame.specs.declared.Body.{Body}
+use Rattle.frame_end.specs.declared.Body.{Body}
 use Rattle.presence.specs.declared.Pres.{Pres}
 use Rattle.presence.specs.declared.Snapped.{Snapped}
-use Rattle.stages.specs.declared.Seen.{Seen}
-use Rattle.stages.specs.declared.Acted.{Acted}
+use Rattle.envelope.specs.declared.Seen.{Seen}
+use Rattle.envelope.specs.declared.Acted.{Acted}
 use Rattle.burst.specs.declared.Burst.{Burst}
 use Rattle.burst.specs.declared.Sampled.{Sampled}
 

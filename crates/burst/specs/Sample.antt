@@ -4,8 +4,8 @@ use mathlib.Core.Bool.{Bool, cond}
 use mathlib.Core.List.{List}
 use lib.Dec.{eqb}
 use lib.Ieee.{Float}
-use Rattle.ook.specs.Answers.{isStayOf}
-use Rattle.ook.specs.declared.Settings.{Settings}
+use Rattle.shared.specs.Answers.{isStayOf}
+use Rattle.shared.specs.declared.Settings.{Settings}
 use Rattle.ook.specs.declared.Done.{Done}
 use Rattle.fsk.specs.declared.Frame.{Frame}
 use Rattle.presence.specs.Presence.{snapOf, presenceOf}
@@ -13,13 +13,13 @@ use Rattle.presence.specs.declared.Pres.{Pres}
 use Rattle.presence.specs.declared.Inputs.{Inputs}
 use Rattle.presence.specs.declared.Snapped.{Snapped}
 use Rattle.presence.specs.declared.Present.{Present}
-use Rattle.stages.specs.See.{seeOf}
-use Rattle.stages.specs.Act.{actOf}
-use Rattle.stages.specs.Tail.{tailOf}
-use Rattle.stages.specs.declared.At.{At}
-use Rattle.stages.specs.declared.Seen.{Seen}
-use Rattle.stages.specs.declared.Acted.{Acted}
-use Rattle.stages.specs.declared.Absence.{Absence}
+use Rattle.envelope.specs.See.{seeOf}
+use Rattle.envelope.specs.Act.{actOf}
+use Rattle.envelope.specs.Tail.{tailOf}
+use Rattle.envelope.specs.declared.At.{At}
+use Rattle.envelope.specs.declared.Seen.{Seen}
+use Rattle.envelope.specs.declared.Acted.{Acted}
+use Rattle.envelope.specs.declared.Absence.{Absence}
 use Rattle.burst.specs.Makers.{withActed, bodyIn, withBody, withTrain}
 use Rattle.burst.specs.declared.Burst.{Burst}
 use Rattle.burst.specs.declared.Sampled.{Sampled}
@@ -30,7 +30,7 @@ snapIfOf began on tc pres frame = cond began (cond on (snapOf pres frame tc) (re
 
 -- a carrier, or the end of the burst
 abbrev pub absenceOf : Burst → Absence
-absenceOf b = record { frames = b .frames; «p_level» = b .pres .«p_level»; «p_confirmed» = b .pres .«p_confirmed» }
+absenceOf b = record { frames = b .frames; «p_level» = b .pres .run .level; «p_confirmed» = b .pres .run .confirmed }
 
 abbrev pub sampledBy : Burst → List ℕ → Done × List ℕ → Sampled × List ℕ × List ℕ
 sampledBy b fsk q = (record { next = q .0 .next; burst = withTrain (q .0 .train) (q .0 .out) b }, q .1, fsk)
@@ -50,7 +50,7 @@ inputsOf a ep s b =
       high = s .high;
       pac = s .pac;
       level = b .env .run .level;
-      «c_run» = b .env .times .«c_run»;
+      «c_run» = b .env .«c_run»;
     }
 
 abbrev pub presentBy : Settings → At → Seen → Burst → Present × List ℕ × List ℕ → Sampled × List ℕ × List ℕ
@@ -73,7 +73,7 @@ actedBy p a b s n fsk q =
     (record { next = q .0 .next; burst = withActed (a .e) s n (q .0) b }, q .1, fsk)
 
 abbrev pub seenBy : Settings → At → Burst → List ℕ → List ℕ → Seen → Sampled × List ℕ × List ℕ
-seenBy p a b ook fsk s = actedBy p a b s (snapIfOf (s .began) (s .on) (s .env .times .«c_run») (b .pres) (b .frame)) fsk (actOf p s (b .train) (b .«out_ook») ook)
+seenBy p a b ook fsk s = actedBy p a b s (snapIfOf (s .began) (s .on) (s .env .«c_run») (b .pres) (b .frame)) fsk (actOf p s (b .train) (b .«out_ook») ook)
 
 unfoldable pub sampleOf : Settings → At → List Float → Burst → List ℕ → List ℕ → Sampled × List ℕ × List ℕ
 sampleOf p a ring b ook fsk = seenBy p a b ook fsk (seeOf p a ring (b .high) (b .«e_prev») (b .env) (b .pac))

@@ -7,30 +7,30 @@ ghost use Rattle.burst.specs.Lead.{largestOf, beginBurstOf};
 ghost use Rattle.burst.specs.Core.{wholeBurst, wholeSampled, besideOf, atInOf, samplesOf};
 ghost use Rattle.fsk.specs.Core.{wholeFrame};
 ghost use Rattle.ook.specs.Core.{wholeDone};
-ghost use Rattle.stages.specs.Core.{wholeActed};
-ghost use Rattle.frame.specs.Core.{wholeBody};
+ghost use Rattle.envelope.specs.Core.{wholeActed};
+ghost use Rattle.frame_end.specs.Core.{wholeBody};
 ghost use Rattle.presence.specs.Core.{wholeSnapped};
 ghost use mathlib.Core.List.{List};
 ghost use lib.Ieee.{Float};
 ghost use mathlib.Core.Bool.{cond};
 use arith::C32;
-use frame::BodyCore;
+use envelope::Absence;
+use envelope::ActedCore;
+use envelope::At;
+use envelope::Seen;
+use frame_end::BodyCore;
 use fsk::Frame;
 use fsk::FrameCore;
 use ook::DoneCore;
 use ook::Env;
-use ook::Next;
-use ook::Out;
-use ook::OutCore;
-use ook::Settings;
 use ook::Train;
 use presence::Inputs;
 use presence::Pres;
 use presence::SnappedCore;
-use stages::Absence;
-use stages::ActedCore;
-use stages::At;
-use stages::Seen;
+use shared::Next;
+use shared::Out;
+use shared::OutCore;
+use shared::Settings;
 
 // The burst under way; what an earlier burst left stands in it too.
 pub struct Burst {
@@ -138,7 +138,7 @@ fn inputs_of(a: At, ep: f32, s: Seen, b: BurstCore) -> Inputs
         high: s.high,
         pac,
         level: b.env.run.level,
-        c_run: b.env.times.c_run,
+        c_run: b.env.c_run,
     }
 }
 
@@ -226,17 +226,17 @@ fn rest(
     let w = present(p, a, ep, s, b, cs, ook, fsk);
     let next = w.next;
     let n = w.burst;
-    let stay = ook::is_stay(next);
+    let stay = shared::is_stay(next);
     if stay {
         let run = n.env.run;
         let absence = Absence {
             frames: n.frames,
-            p_level: n.pres.p_level,
-            p_confirmed: n.pres.p_confirmed,
+            p_level: n.pres.run.level,
+            p_confirmed: n.pres.run.confirmed,
         };
         let train = n.train;
         let out = n.out_ook;
-        let d = stages::tail(p, s.on, a.e, run, absence, n.high, train, out, ook);
+        let d = envelope::tail(p, s.on, a.e, run, absence, n.high, train, out, ook);
         return with_done(n, d);
     }
     w
@@ -255,16 +255,16 @@ pub fn sample(
 {
     let env = b.env;
     let pac = b.pac;
-    let s = stages::see(p, a, ring, b.high, b.e_prev, env, pac);
+    let s = envelope::see(p, a, ring, b.high, b.e_prev, env, pac);
     let pres = b.pres;
     let frame = b.frame;
-    let n = snap_if(s.began, s.on, s.env.times.c_run, pres, frame);
+    let n = snap_if(s.began, s.on, s.env.c_run, pres, frame);
     let t = b.train;
     let o = b.out_ook;
-    let d = stages::act(p, s, t, o, ook);
+    let d = envelope::act(p, s, t, o, ook);
     let next = d.next;
     let c = with_acted(a.e, s, n, d, b);
-    let stay = ook::is_stay(next);
+    let stay = shared::is_stay(next);
     if stay {
         return rest(p, a, b.e_prev, s, c, cs, ook, fsk);
     }
@@ -292,7 +292,7 @@ pub fn largest(es: &[f32; 16], len: usize) -> f32
     m
 }
 
-// A burst without a pulse yet, at the time t.
+// A burst starts at t; it has no pulse yet.
 pub fn begin_burst(high: f32, t: f64, e: f32, b: BurstCore) -> BurstCore
     ensures { λ r. ⌜ ((cs : List Float) → wholeBurst cs r ≡ beginBurstOf high t e (wholeBurst cs b)) ⌝ }
 {
@@ -301,14 +301,10 @@ pub fn begin_burst(high: f32, t: f64, e: f32, b: BurstCore) -> BurstCore
     let t0 = b.train;
     let train = ook::empty_train(t0);
     let pac = C32 { re: 0.0, im: 0.0 };
+    let absent = run::start_run(t);
     let pres = Pres {
-        p_t_run: t,
-        p_t_prev: t,
+        run: absent,
         p_factor: b.pres.p_factor,
-        p_level: 0,
-        p_run: 0,
-        p_confirmed: 1,
-        p_prev: 0,
     };
     let mut n = b;
     n.high = high;
@@ -372,7 +368,7 @@ pub fn samples(
         let r = sample(p, a, ring, cur, cs, ook, fsk);
         next = r.next;
         cur = r.burst;
-        let stay = ook::is_stay(next);
+        let stay = shared::is_stay(next);
         if !stay {
             break;
         }

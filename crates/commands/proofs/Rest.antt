@@ -1,4 +1,4 @@
--- `&s[a..]` is what `drop` leaves, and past the end `drop` leaves nothing. Assumes nothing.
+-- `&s[a..]` is what `drop` leaves, and past the end `drop` leaves nothing.
 use Prim.Native.Nat.{ℕ, _-_, _<_}
 use mathlib.Core.Path.{_≡_, sym}
 use mathlib.Core.List.{List}

@@ -7,7 +7,8 @@ use lib.Dec.{eqb, ltb}
 use Rattle.arith.specs.declared.C32.{C32}
 unfoldable pub use Rattle.words.specs.Words.{u32At, u64At}
 pub use Rattle.words.specs.Words.{f32At}
-use Rattle.ook.specs.declared.Settings.{Settings}
+use Rattle.shared.specs.declared.Settings.{Settings}
+use Rattle.shared.specs.Settings.{withCarry}
 use Rattle.lane.specs.declared.BeginArgs.{BeginArgs}
 use Rattle.lane.specs.declared.StepArgs.{StepArgs}
 use Rattle.lane.specs.declared.History.{History}
@@ -36,22 +37,6 @@ settingsOf o =
     }
 
 -- 04: the operands of 01 and then carry, u8; 38 operand bytes (R-1)
-abbrev pub withCarry : ℕ → Settings → Settings
-withCarry carry p =
-    record {
-      mode = p .mode;
-      «min_steps» = p .«min_steps»;
-      «gap_steps» = p .«gap_steps»;
-      «pre_timeout» = p .«pre_timeout»;
-      «long_steps» = p .«long_steps»;
-      «max_pulses» = p .«max_pulses»;
-      alpha = p .alpha;
-      «gap_ratio» = p .«gap_ratio»;
-      «fsk_delta» = p .«fsk_delta»;
-      «fsk_split» = p .«fsk_split»;
-      carry = carry;
-    }
-
 unfoldable pub carrySettingsOf : List ℕ → Settings
 unfolding settingsOf
 carrySettingsOf o = withCarry (getD o 37 0) (settingsOf o)

@@ -1,21 +1,14 @@
 -- The commands as bytes, and the other direction of decoding: whatever values document 01's layout can carry, their
--- bytes decode to these values and are not refused, whatever comes after them. Assumes nothing.
+-- bytes decode to these values and are not refused, whatever comes after them.
 use Prim.Native.Nat.{ℕ, _<_}
-use mathlib.Core.Bool.{true, false}
-use mathlib.Core.Path.{_≡_}
 use mathlib.Core.List.{List, [], _∷_, _++_}
-use native.Mathlib.Omega.{arith}
-use lib.ListN.{length, drop}
 use lib.Dec.{T}
 use lib.Ieee.{Float, binary32, fits}
-use borrow.Author.Tests.{le-ltb}
 use Rattle.words.specs.Words.{word, word64, float}
-use Rattle.words.specs.Laws.{Word, word-back, word64-back, float-back}
-use Rattle.ook.specs.declared.Settings.{Settings}
+use Rattle.words.specs.Words.{Word}
+use Rattle.shared.specs.declared.Settings.{Settings}
 use Rattle.lane.specs.declared.BeginArgs.{BeginArgs}
 use Rattle.lane.specs.declared.StepArgs.{StepArgs}
-use Rattle.commands.specs.declared.Command.the-variants.{Open, Begin, Step, Close}
-use Rattle.commands.specs.Command.{u32At, u64At, withCarry, settingsOf, carrySettingsOf, openingOf, beginArgsOf, stepArgsOf, historyOf, decoded}
 
 -- ---- the layout
 
@@ -70,29 +63,3 @@ BeginFits b =
 abbrev pub StepFits : StepArgs → Type 0
 StepFits s =
     (s .index < 0x1_0000_0000_0000_0000) × Single (s .noise) × Single (s .envelope) × Single (s .x .re) × Single (s .x .im)
-
--- ---- bytes and back
-
-pub open-back : (p : Settings) (t : List ℕ) → OpenFits p → decoded (openBytes p ++ t) ≡ Open (withCarry 0 p) false
-unfolding decoded openingOf settingsOf u32At u64At
-open-back p t (a, b, c, d, e, f, g, i, j) =
-    simp (le-ltb (length (openBytes p ++ t)) 1 (omega arith), le-ltb (length (drop 1 (openBytes p ++ t))) 37 (omega arith), word-back, float-back)
-
-pub carry-back : (p : Settings) (t : List ℕ) → OpenFits p → decoded (carryBytes p ++ t) ≡ Open p true
-unfolding decoded openingOf settingsOf carrySettingsOf u32At u64At
-carry-back p t (a, b, c, d, e, f, g, i, j) =
-    simp (le-ltb (length (carryBytes p ++ t)) 1 (omega arith), le-ltb (length (drop 1 (carryBytes p ++ t))) 38 (omega arith), word-back, float-back)
-
-pub begin-back : (b : BeginArgs) (t : List ℕ) → BeginFits b → decoded (beginBytes b ++ t) ≡ Begin b
-unfolding decoded beginArgsOf historyOf u32At u64At
-begin-back b t (i, f, e, x, y, p, q, e1, e2, e3, e4, e5, e6, e7) =
-    simp (le-ltb (length (beginBytes b ++ t)) 1 (omega arith), le-ltb (length (drop 1 (beginBytes b ++ t))) 60 (omega arith), word64-back, float-back)
-
-pub step-back : (s : StepArgs) (t : List ℕ) → StepFits s → decoded (stepBytes s ++ t) ≡ Step s
-unfolding decoded stepArgsOf u32At u64At
-step-back s t (i, n, e, r, m) =
-    simp (le-ltb (length (stepBytes s ++ t)) 1 (omega arith), le-ltb (length (drop 1 (stepBytes s ++ t))) 24 (omega arith), word64-back, float-back)
-
-pub close-back : (t : List ℕ) → decoded (closeBytes ++ t) ≡ Close
-unfolding decoded
-close-back t = simp (le-ltb (length (closeBytes ++ t)) 1 (omega arith))

@@ -11,7 +11,7 @@ use arith::C32;
 use lane::BeginArgs;
 use lane::History;
 use lane::StepArgs;
-use ook::Settings;
+use shared::Settings;
 
 pub enum Command {
     // Nothing is left.
@@ -49,6 +49,10 @@ fn settings_of(o: &[u8]) -> Settings
     requires { ⌜ 37 ≤ length (now o) ⌝ }
     ensures { λ r. ⌜ r ≡ settingsOf (now (o .entry)) ⌝ }
 {
+    let alpha = words::f32_at(o, 21);
+    let gap_ratio = words::f32_at(o, 25);
+    let fsk_delta = words::f32_at(o, 29);
+    let fsk_split = words::f32_at(o, 33);
     Settings {
         mode: wide(o[0]),
         min_steps: words::u32_at(o, 1),
@@ -56,10 +60,10 @@ fn settings_of(o: &[u8]) -> Settings
         pre_timeout: words::u32_at(o, 9),
         long_steps: words::u32_at(o, 13),
         max_pulses: words::u32_at(o, 17),
-        alpha: words::f32_at(o, 21),
-        gap_ratio: words::f32_at(o, 25),
-        fsk_delta: words::f32_at(o, 29),
-        fsk_split: words::f32_at(o, 33),
+        alpha,
+        gap_ratio,
+        fsk_delta,
+        fsk_split,
         carry: 0,
     }
 }

@@ -1,4 +1,4 @@
--- What the moves of the buffer leave in it. Assumes nothing.
+-- What the moves of the buffer leave in it.
 use Prim.Native.Nat.{ℕ, zero, suc, _+_, _-_, _<_, _≤_}
 use mathlib.Core.Bool.{Bool, true, false, cond}
 use mathlib.Core.Path.{_≡_, refl, sym, _∙_, ap}
@@ -10,7 +10,7 @@ use lib.ListN.{length, getD, take, drop, set, length-drop, length-take}
 use lib.Seq.{take-suc, take-suc-set, drop-set-lt, drop-drop, getD-drop, take-all}
 use lib.Dec.{ltb}
 use borrow.Author.Tests.{ltb-true, ltb-false}
-use Rattle.turns.specs.Turn.{smallerOf}
+use Rattle.calls.specs.Turn.{smallerOf}
 
 module _ (b b₀ : List ℕ) (from i : ℕ) (h : from + i < length b) (e : length b ≡ length b₀)
     (p : take i b ≡ take i (drop from b₀)) (q : drop i b ≡ drop i b₀) where

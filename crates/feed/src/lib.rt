@@ -4,7 +4,9 @@ ghost use Prim.Native.Nat.{_≤_};
 ghost use mathlib.Core.Path.{_≡_};
 ghost use lib.ListN.{length, take, drop};
 ghost use Rattle.reached.specs.Reached.{Sound};
-ghost use Rattle.feed.specs.Feeds.{Feeds};
+ghost use Rattle.stream.specs.Feeds.{Feeds};
+ghost use Rattle.calls.specs.Stream.{machine};
+ghost use Rattle.feed.specs.Rest.{restOf};
 use lane::Lane;
 
 // Moves the bytes from `from` to `end` to the front, and answers how many they are.
@@ -44,10 +46,10 @@ pub fn feed(
     text: &mut [u8],
 ) -> Fed
     requires { ⌜ Sound lane ⌝ }
-    ensures { λ r. ⌜ Feeds (lane, now (ook .entry), now (fsk .entry)) (take end (now (buf .entry))) last r (r .lane, now (ook .exit), now (fsk .exit)) (now (buf .exit)) (now (text .exit)) ⌝ }
+    ensures { λ r. ⌜ Feeds machine (lane, now (ook .entry), now (fsk .entry)) (take end (now (buf .entry))) last (restOf r) (r .lane, now (ook .exit), now (fsk .exit)) (now (buf .exit)) (now (text .exit)) × Sound (r .lane) ⌝ }
 {
-    let n = turns::smaller(end, buf.len());
-    let r = turns::block(lane, &buf[..n], last, ook, fsk, text);
+    let n = calls::smaller(end, buf.len());
+    let r = calls::block(lane, &buf[..n], last, ook, fsk, text);
     let next = r.lane;
     let left = shift(buf, r.used, n);
     Fed {

@@ -7,7 +7,7 @@ use lib.ListN.{set}
 use lib.Dec.{leb, eqb}
 use lib.Ieee.{Float, binary64, sub}
 use Rattle.arith.specs.Leaves.{runFixOf, fskWidthOf}
-use Rattle.ook.specs.Counts.{inc}
+use Rattle.shared.specs.Counts.{inc}
 use Rattle.fsk.specs.Makers.{withCounted, withFull, withPairs, withLast}
 use Rattle.fsk.specs.declared.Committed.{Committed}
 

@@ -2,6 +2,7 @@
 use Prim.Native.Nat.{ℕ}
 use mathlib.Core.List.{List}
 use lib.Ieee.{Float}
+use Rattle.run.specs.declared.Run.{Run}
 use Rattle.fsk.specs.declared.Committed.{Committed}
 use Rattle.fsk.specs.declared.Runs.{Runs}
 use Rattle.fsk.specs.declared.Ran.{Ran}
@@ -30,27 +31,11 @@ withPairs «fsk_n» «fsk_open» c = committedOf (c .«f_origin») (c .«f_last�
 abbrev pub withLast : Float → Committed → Committed
 withLast «f_last» c = committedOf (c .«f_origin») «f_last» (c .«fsk_open») (c .«fsk_n») (c .«fsk_runs») (c .«fsk_full»)
 
-abbrev pub runsOf : Float → Float → ℕ → ℕ → ℕ → ℕ → ℕ → Runs
-runsOf «ft_run» «ft_prev» «fsk_level» «fsk_run» «fsk_confirmed» «fsk_prev» «fsk_has_prev» =
-    record {
-      «ft_run» = «ft_run»;
-      «ft_prev» = «ft_prev»;
-      «fsk_level» = «fsk_level»;
-      «fsk_run» = «fsk_run»;
-      «fsk_confirmed» = «fsk_confirmed»;
-      «fsk_prev» = «fsk_prev»;
-      «fsk_has_prev» = «fsk_has_prev»;
-    }
+abbrev pub runsOf : Run → ℕ → Runs
+runsOf run «fsk_has_prev» = record { run = run; «fsk_has_prev» = «fsk_has_prev» }
 
-abbrev pub withStart : Float → Runs → Runs
-withStart «ft_run» r = runsOf «ft_run» (r .«ft_prev») (r .«fsk_level») (r .«fsk_run») (r .«fsk_confirmed») (r .«fsk_prev») (r .«fsk_has_prev»)
-
-abbrev pub withLength : ℕ → Runs → Runs
-withLength «fsk_run» r = runsOf (r .«ft_run») (r .«ft_prev») (r .«fsk_level») «fsk_run» (r .«fsk_confirmed») (r .«fsk_prev») (r .«fsk_has_prev»)
-
--- whether the run is confirmed, and whether the one before it waits to be committed
-abbrev pub withConfirmed : ℕ → ℕ → Runs → Runs
-withConfirmed «fsk_confirmed» «fsk_has_prev» r = runsOf (r .«ft_run») (r .«ft_prev») (r .«fsk_level») (r .«fsk_run») «fsk_confirmed» (r .«fsk_prev») «fsk_has_prev»
+abbrev pub withRun : Run → Runs → Runs
+withRun run r = runsOf run (r .«fsk_has_prev»)
 
 abbrev pub ranOf : Runs → Committed → Ran
 ranOf r c = record { runs = r; done = c }

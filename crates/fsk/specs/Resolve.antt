@@ -1,14 +1,14 @@
 -- `begin_frame` and `fsk_resolve` (source document 000): a frame begins; its first transition gives the two levels and the end of the first run.
-use Prim.Native.Nat.{ℕ, zero, suc, min, _+_, _-_, _%_, _^_, _<_, _≤_}
-use mathlib.Core.Bool.{Bool, true, false, cond, not}
-use mathlib.Core.Path.{_≡_, _∙_}
+use Prim.Native.Nat.{ℕ, zero, suc, min, _+_, _-_, _%_, _^_}
+use mathlib.Core.Bool.{Bool, false, cond, not}
 use mathlib.Core.List.{List}
-use native.Mathlib.Omega.{arith}
 use lib.ListN.{getD}
 use lib.Dec.{ltb, leb, eqb}
 use lib.Ieee.{Float, nan, binary32, binary64, add, sub, mul, div, lt, le, ofBits}
-use Rattle.arith.specs.Leaves.{zero32, one32, midpointOf, edgeOf, crossOf, absOf}
-use Rattle.ook.specs.Counts.{bit, zeroC32}
+use Rattle.ieee.specs.Constants.{zero32, one32}
+use Rattle.arith.specs.Leaves.{midpointOf, edgeOf, crossOf, absOf}
+use Rattle.shared.specs.Counts.{bit, zeroC32}
+use Rattle.run.specs.Run.{runOf, startRunOf}
 use Rattle.fsk.specs.Commit.{fskCommitOf}
 use Rattle.fsk.specs.Makers.{committedOf, runsOf, ranOf, ranBy, levelsOf, meanOf, candOf, earlyOf, frameOf, withRan}
 use Rattle.fsk.specs.declared.Committed.{Committed}
@@ -35,7 +35,7 @@ beginFrameOf fr t =
     (candOf (fr .cand .«cand_f») zero32 0)
     (earlyOf zero32 t 0)
     (levelsOf zero32 zero32)
-    (runsOf t t 0 0 1 0 0)
+    (runsOf (startRunOf t) 0)
     (committedOf (fr .done .«f_origin») (fr .done .«f_last») 0 0 0 0)
 
 -- the threshold between two levels: their midpoint, less FSK_HYSTERESIS (a sixteenth, 3d800000) of their distance for a run at the upper one, and more for one at the lower
@@ -109,7 +109,8 @@ openRunsOf «max_pulses» early «first_upper» «ft_run» «t_early» c fsk =
 
 -- the second run, of t.second samples; the one before it is committed where it is confirmed at once
 abbrev pub secondRunOf : Bool → ℕ → Turn → Float → ℕ → ℕ → Runs
-secondRunOf «first_upper» «fsk_run» t from confirmed «has_prev» = runsOf (t .tc) from (bit (not «first_upper»)) (t .second) confirmed («fsk_run» - t .second) «has_prev»
+secondRunOf «first_upper» «fsk_run» t from confirmed «has_prev» =
+    runsOf (runOf (bit (not «first_upper»)) (t .second) confirmed («fsk_run» - t .second) (t .tc) from) «has_prev»
 
 unfoldable pub settleOf : ℕ → ℕ → Bool → ℕ → Turn → Opening → List ℕ → Ran × List ℕ
 settleOf «max_pulses» «fsk_min» «first_upper» «fsk_run» t o fsk =
@@ -126,27 +127,11 @@ resolveBy fr l q = (withRan (fr .tone) 1 l (q .0) fr, q .1)
 abbrev pub resolveAt : ℕ → ℕ → Frame → Float → ℕ → Bool → Levels → List ℕ → Frame × List ℕ
 resolveAt «max_pulses» «fsk_min» fr f idx «first_upper» l fsk =
     resolveBy fr l
-    (settleBy «max_pulses» «fsk_min» «first_upper» (fr .runs .«fsk_run»)
+    (settleBy «max_pulses» «fsk_min» «first_upper» (fr .runs .run .«run_len»)
     (turnAtOf «first_upper» (sliceThrOf «first_upper» (l .«f_hi») (l .«f_lo»)) (fr .cand) f idx)
-    (openRunsOf «max_pulses» (isEarlyOf (fr .early) «first_upper» (l .«f_hi») (l .«f_lo») (fr .runs .«ft_run»)) «first_upper» (fr .runs .«ft_run») (fr .early .«t_early») (fr .done) fsk))
+    (openRunsOf «max_pulses» (isEarlyOf (fr .early) «first_upper» (l .«f_hi») (l .«f_lo») (fr .runs .run .«t_run»)) «first_upper» (fr .runs .run .«t_run») (fr .early .«t_early») (fr .done) fsk))
 
 -- fsk_resolve: the first run is at the upper level where f_ref > f
 unfoldable pub fskResolveOf : ℕ → ℕ → Frame → Float → ℕ → List ℕ → Frame × List ℕ
 fskResolveOf «max_pulses» «fsk_min» fr f idx fsk =
     resolveAt «max_pulses» «fsk_min» fr f idx (lt f (fr .mean .«f_ref»)) (hiLoOf (lt f (fr .mean .«f_ref»)) (fr .mean .«f_ref») f) fsk
-
--- one turn of the search, and its end
-module _ (up : Bool) (thr : Float) (cs : List Float) (other n : ℕ) where
-  pub first-turn : (j : ℕ) (over : Bool) → j < n → over ≡ pastOf up (getD cs j nan) thr → firstPastOf up thr cs other (n - j) j ≡ cond over j (firstPastOf up thr cs other (n - (j + 1)) (j + 1))
-  unfolding firstPastOf
-  first-turn j over h q = let e : n - j ≡ suc (n - (j + 1)) = omega arith in rw (e, q)
-
-  pub first-found : (j : ℕ) (over : Bool) → j < n → over ≡ pastOf up (getD cs j nan) thr → over ≡ true → firstPastOf up thr cs other (n - j) j ≡ j
-  first-found j over h q t = first-turn j over h q ∙ rw t
-
-  pub first-next : (j : ℕ) (over : Bool) → j < n → over ≡ pastOf up (getD cs j nan) thr → over ≡ false → firstPastOf up thr cs other (n - j) j ≡ firstPastOf up thr cs other (n - (j + 1)) (j + 1)
-  first-next j over h q t = first-turn j over h q ∙ rw t
-
-  pub first-end : (j : ℕ) → n ≤ j → firstPastOf up thr cs other (n - j) j ≡ other
-  unfolding firstPastOf
-  first-end j h = let e : n - j ≡ 0 = omega arith in rw e

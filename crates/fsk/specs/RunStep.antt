@@ -1,46 +1,42 @@
 -- `fsk_run_step` (source document 000): the run machine of the frequency levels.
 use Prim.Native.Nat.{ℕ}
-use mathlib.Core.Bool.{Bool, cond, not}
+use mathlib.Core.Bool.{Bool, false, cond, not}
 use mathlib.Core.List.{List}
-use lib.Dec.{leb, eqb}
+use lib.Dec.{eqb}
 use lib.Ieee.{Float}
-use Rattle.ook.specs.Counts.{satAddOf, bit}
+use Rattle.shared.specs.Counts.{bit}
+use Rattle.run.specs.Run.{withConfirmed, movedOf, dueOf}
+use Rattle.run.specs.Run as run
 use Rattle.fsk.specs.Commit.{fskCommitOf}
-use Rattle.fsk.specs.Makers.{runsOf, withLength, withConfirmed, ranOf, ranBy}
+use Rattle.fsk.specs.Makers.{runsOf, withRun, ranOf, ranBy}
 use Rattle.fsk.specs.declared.Committed.{Committed}
 use Rattle.fsk.specs.declared.Runs.{Runs}
 use Rattle.fsk.specs.declared.Ran.{Ran}
 
 unfoldable pub lengthenOf : Runs → Runs
-lengthenOf r = withLength (satAddOf (r .«fsk_run») 1) r
-
--- a glitch: back to the previous run, which is confirmed
-unfoldable pub rejoinOf : Runs → ℕ → Runs
-rejoinOf r level = runsOf (r .«ft_prev») (r .«ft_prev») level (satAddOf (satAddOf (r .«fsk_prev») (r .«fsk_run»)) 1) 1 (r .«fsk_prev») 0
-
--- a run begins at tc, and the one before waits for it to be confirmed
-unfoldable pub beginRunOf : Runs → ℕ → Float → Runs
-beginRunOf r level tc = runsOf tc (r .«ft_run») level 1 0 (r .«fsk_run») 1
+lengthenOf r = withRun (run.lengthenOf (r .run)) r
 
 -- the run is confirmed: the one before it is final
 unfoldable pub confirmOf : ℕ → Runs → Committed → Bool → List ℕ → Ran × List ℕ
 confirmOf «max_pulses» r c upper fsk =
     cond (eqb (r .«fsk_has_prev») 1)
-    (ranBy (withConfirmed 1 0 r) (fskCommitOf «max_pulses» c (not upper) (r .«ft_prev») (r .«ft_run») fsk))
-    (ranOf (withConfirmed 1 (r .«fsk_has_prev») r) c, fsk)
+    (ranBy (runsOf (withConfirmed 1 (r .run)) 0) (fskCommitOf «max_pulses» c (not upper) (r .run .«t_prev») (r .run .«t_run») fsk))
+    (ranOf (withRun (withConfirmed 1 (r .run)) r) c, fsk)
 
 unfoldable pub confirmDueOf : ℕ → ℕ → Runs → Committed → Bool → List ℕ → Ran × List ℕ
-confirmDueOf «max_pulses» «fsk_min» r c upper fsk =
-    cond (eqb (r .«fsk_confirmed») 0)
-    (cond (leb «fsk_min» (r .«fsk_run»)) (confirmOf «max_pulses» r c upper fsk) (ranOf r c, fsk))
-    (ranOf r c, fsk)
+confirmDueOf «max_pulses» «fsk_min» r c upper fsk = cond (dueOf (r .run) «fsk_min») (confirmOf «max_pulses» r c upper fsk) (ranOf r c, fsk)
 
+-- a run that is over before it counts is a glitch only where the one before it still waits to be committed
+unfoldable pub isGlitchOf : ℕ → ℕ → Bool
+isGlitchOf confirmed «fsk_has_prev» = cond (eqb confirmed 0) (eqb «fsk_has_prev» 1) false
+
+-- the runs after a sample of this level; the one before a run that begins waits for it to be confirmed
+abbrev pub moveRunsOf : Bool → Bool → Runs → ℕ → Float → Runs
+moveRunsOf same short r level tc = runsOf (movedOf same short (r .run) level tc) (cond same (r .«fsk_has_prev») (cond short 0 1))
+
+-- a glitch confirms nothing: the run that it goes back to is confirmed
 unfoldable pub fskRunStepOf : ℕ → ℕ → Runs → Committed → Bool → Float → List ℕ → Ran × List ℕ
 fskRunStepOf «max_pulses» «fsk_min» r c upper tc fsk =
-    cond (eqb (bit upper) (r .«fsk_level»))
-    (confirmDueOf «max_pulses» «fsk_min» (lengthenOf r) c upper fsk)
-    (cond (eqb (r .«fsk_confirmed») 0)
-    (cond (eqb (r .«fsk_has_prev») 1)
-    (ranOf (rejoinOf r (bit upper)) c, fsk)
-    (confirmDueOf «max_pulses» «fsk_min» (beginRunOf r (bit upper) tc) c upper fsk))
-    (confirmDueOf «max_pulses» «fsk_min» (beginRunOf r (bit upper) tc) c upper fsk))
+    let same : Bool = eqb (bit upper) (r .run .level) in
+    let short : Bool = isGlitchOf (r .run .confirmed) (r .«fsk_has_prev») in
+    confirmDueOf «max_pulses» «fsk_min» (moveRunsOf same short r (bit upper) tc) c upper fsk

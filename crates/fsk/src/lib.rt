@@ -5,12 +5,14 @@ ghost use Prim.Native.Nat.{_+_, _*_, _-_, _<_, _≤_, min};
 ghost use Rattle.fsk.specs.Commit.{putEndOf, originOf, countRunOf, upperRunOf, closePairOf, lowerRunOf, fskCommitOf};
 ghost use Rattle.fsk.specs.Makers.{runsOf};
 ghost use Rattle.fsk.specs.Core.{wholeCand, wholeFrame};
-ghost use Rattle.arith.specs.Leaves.{edgeOf, crossOf};
+ghost use Rattle.run.specs.Run.{edgeAt, startRunOf};
 ghost use mathlib.Core.List.{List};
 ghost use lib.Ieee.{Float};
-ghost use Rattle.fsk.specs.RunStep.{lengthenOf, rejoinOf, beginRunOf, confirmOf, confirmDueOf, fskRunStepOf};
+ghost use Rattle.fsk.specs.RunStep.{lengthenOf, isGlitchOf, confirmOf, confirmDueOf, fskRunStepOf};
 ghost use Rattle.fsk.specs.Resolve.{beginFrameOf, sliceThrOf, pastOf, firstPastOf, candAtOf, beforeOf, turnAtOf, hiLoOf, otherLevelOf, isEarlyOf, openRunsOf, secondRunOf, settleOf, fskResolveOf};
 use arith::C32;
+use run::Crossing;
+use run::Run;
 
 // The low-passed product, and its frequency at the sample before.
 pub struct Tone {
@@ -50,14 +52,9 @@ pub struct Levels {
     pub f_lo: f32,
 }
 
-// The frequency run under way, and the one before it.
+// The frequency run under way, and 1 where the run before it waits for this one to count: only then is it committed.
 pub struct Runs {
-    pub ft_run: f64,
-    pub ft_prev: f64,
-    pub fsk_level: u32,
-    pub fsk_run: u32,
-    pub fsk_confirmed: u32,
-    pub fsk_prev: u32,
+    pub run: Run,
     pub fsk_has_prev: u32,
 }
 
@@ -127,7 +124,7 @@ fn count_run(c: Committed, a: f64) -> Committed
     ensures { λ r. ⌜ r ≡ countRunOf c a ⌝ }
 {
     let o = origin_of(c.fsk_runs, a, c.f_origin);
-    let n = ook::inc(c.fsk_runs);
+    let n = shared::inc(c.fsk_runs);
     let mut d = c;
     d.f_origin = o;
     d.fsk_runs = n;
@@ -139,7 +136,7 @@ pub fn put_end(fsk: &mut [u32], i: usize, origin: f64, t: f64)
     ensures { λ _. ⌜ now (fsk .exit) ≡ putEndOf (now (fsk .entry)) i origin t ⌝ }
 {
     let v = arith::run_fix(t - origin);
-    ook::put(fsk, i, v.0);
+    shared::put(fsk, i, v.0);
 }
 
 fn upper_run(max: u32, c: Committed, b: f64, fsk: &mut [u32]) -> Committed
@@ -163,7 +160,7 @@ fn close_pair(c: Committed, b: f64, fsk: &mut [u32]) -> Committed
     ensures { λ r. ⌜ (r, now (fsk .exit)) ≡ closePairOf c b (now (fsk .entry)) ⌝ }
 {
     put_end(fsk, 2 * (c.fsk_n as usize) + 1, c.f_origin, b);
-    let n = ook::inc(c.fsk_n);
+    let n = shared::inc(c.fsk_n);
     let mut d = c;
     d.fsk_n = n;
     d.fsk_open = 0;
@@ -207,51 +204,15 @@ pub fn fsk_commit(max: u32, c: Committed, upper: bool, a: f64, b: f64, fsk: &mut
     lower_run(max, d, a, b, fsk)
 }
 
-pub fn lengthen(r: Runs) -> Runs
-    ensures { λ s. ⌜ s ≡ lengthenOf r ⌝ }
-{
-    let n = ook::sat_add(r.fsk_run, 1);
-    let mut q = r;
-    q.fsk_run = n;
-    q
-}
-
-fn rejoin(r: Runs, level: u32) -> Runs
-    ensures { λ s. ⌜ s ≡ rejoinOf r level ⌝ }
-{
-    let n = ook::sat_add(ook::sat_add(r.fsk_prev, r.fsk_run), 1);
-    let mut q = r;
-    q.fsk_level = level;
-    q.fsk_run = n;
-    q.ft_run = r.ft_prev;
-    q.fsk_confirmed = 1;
-    q.fsk_has_prev = 0;
-    q
-}
-
-fn begin_run(r: Runs, level: u32, tc: f64) -> Runs
-    ensures { λ s. ⌜ s ≡ beginRunOf r level tc ⌝ }
-{
-    Runs {
-        ft_run: tc,
-        ft_prev: r.ft_run,
-        fsk_level: level,
-        fsk_run: 1,
-        fsk_confirmed: 0,
-        fsk_prev: r.fsk_run,
-        fsk_has_prev: 1,
-    }
-}
-
 // The run has lasted long enough: the one before it is final.
 fn confirm(max: u32, r: Runs, c: Committed, upper: bool, fsk: &mut [u32]) -> Ran
     ensures { λ s. ⌜ (s, now (fsk .exit)) ≡ confirmOf max r c upper (now (fsk .entry)) ⌝ }
 {
     let mut q = r;
-    q.fsk_confirmed = 1;
+    q.run.confirmed = 1;
     let has = r.fsk_has_prev == 1;
     if has {
-        let d = fsk_commit(max, c, !upper, r.ft_prev, r.ft_run, fsk);
+        let d = fsk_commit(max, c, !upper, r.run.t_prev, r.run.t_run, fsk);
         q.fsk_has_prev = 0;
         return Ran { runs: q, done: d };
     }
@@ -261,65 +222,80 @@ fn confirm(max: u32, r: Runs, c: Committed, upper: bool, fsk: &mut [u32]) -> Ran
 fn confirm_due(max: u32, fsk_min: u32, r: Runs, c: Committed, upper: bool, fsk: &mut [u32]) -> Ran
     ensures { λ s. ⌜ (s, now (fsk .exit)) ≡ confirmDueOf max «fsk_min» r c upper (now (fsk .entry)) ⌝ }
 {
-    let open = r.fsk_confirmed == 0;
-    if open {
-        let long = r.fsk_run >= fsk_min;
-        if long {
-            return confirm(max, r, c, upper, fsk);
-        }
-        return Ran { runs: r, done: c };
+    let q = r.run;
+    let due = run::due(q, fsk_min);
+    if due {
+        return confirm(max, r, c, upper, fsk);
     }
     Ran { runs: r, done: c }
+}
+
+// One sample more.
+pub fn lengthen(r: Runs) -> Runs
+    ensures { λ s. ⌜ s ≡ lengthenOf r ⌝ }
+{
+    let q = r.run;
+    let n = run::lengthen(q);
+    let mut k = r;
+    k.run = n;
+    k
+}
+
+// No run yet: the first will start at t.
+fn no_run(t: f64) -> Runs
+    ensures { λ r. ⌜ r ≡ runsOf (startRunOf t) 0 ⌝ }
+{
+    let run = run::start_run(t);
+    Runs {
+        run,
+        fsk_has_prev: 0,
+    }
+}
+
+// A run that is over before it counts is a glitch only where the run before it still waits: one that is committed does not go on.
+fn is_glitch(confirmed: u32, has_prev: u32) -> bool
+    ensures { λ r. ⌜ r ≡ isGlitchOf confirmed «has_prev» ⌝ }
+{
+    let open = confirmed == 0;
+    if open {
+        return has_prev == 1;
+    }
+    false
 }
 
 pub fn fsk_run_step(
     max: u32,
     fsk_min: u32,
     r: Runs,
-    c: Committed,
+    done: Committed,
     upper: bool,
-    idx: u64,
-    fp: f32,
-    f: f32,
-    thr: f32,
+    c: Crossing,
     fsk: &mut [u32],
 ) -> Ran
-    ensures { λ s. ⌜ (s, now (fsk .exit)) ≡ fskRunStepOf max «fsk_min» r c upper (edgeOf idx (crossOf fp f thr)) (now (fsk .entry)) ⌝ }
+    ensures { λ s. ⌜ (s, now (fsk .exit)) ≡ fskRunStepOf max «fsk_min» r done upper (edgeAt c) (now (fsk .entry)) ⌝ }
 {
-    let level = ook::bit(upper);
-    let same = level == r.fsk_level;
+    let level = shared::bit(upper);
+    let same = level == r.run.level;
     if same {
         let q = lengthen(r);
-        return confirm_due(max, fsk_min, q, c, upper, fsk);
+        return confirm_due(max, fsk_min, q, done, upper, fsk);
     }
-    let tc = arith::edge(idx, arith::cross(fp, f, thr));
-    let open = r.fsk_confirmed == 0;
-    if open {
-        let has = r.fsk_has_prev == 1;
-        if has {
-            let q = rejoin(r, level);
-            return Ran { runs: q, done: c };
-        }
-        let q = begin_run(r, level, tc);
-        return confirm_due(max, fsk_min, q, c, upper, fsk);
+    let short = is_glitch(r.run.confirmed, r.fsk_has_prev);
+    let old = r.run;
+    if short {
+        let n = run::rejoin(old, level);
+        let q = Runs {
+            run: n,
+            fsk_has_prev: 0,
+        };
+        return Ran { runs: q, done };
     }
-    let q = begin_run(r, level, tc);
-    confirm_due(max, fsk_min, q, c, upper, fsk)
-}
-
-// No run yet: the first will start at t.
-fn no_run(t: f64) -> Runs
-    ensures { λ r. ⌜ r ≡ runsOf t t 0 0 1 0 0 ⌝ }
-{
-    Runs {
-        ft_run: t,
-        ft_prev: t,
-        fsk_level: 0,
-        fsk_run: 0,
-        fsk_confirmed: 1,
-        fsk_prev: 0,
-        fsk_has_prev: 0,
-    }
+    let n = run::begin_run(old, level, run::edge_at(c));
+    let q = Runs {
+        run: n,
+        fsk_has_prev: 1,
+    };
+    confirm_due(max, fsk_min, q, done, upper, fsk)
 }
 
 pub fn begin_frame(fr: FrameCore, t: f64) -> FrameCore
@@ -368,15 +344,18 @@ pub fn sat_sub32(x: u32, y: u32) -> u32
     0
 }
 
+// Half the width of the slicer's hysteresis, as a part of the distance of the levels: as much of the swing as the envelope's.
+const FSK_HYSTERESIS: f32 = 0.0625;
+
 // The threshold between two levels, for a run at the upper or at the lower one.
 pub fn slice_thr(upper: bool, hi: f32, lo: f32) -> f32
     ensures { λ r. ⌜ r ≡ sliceThrOf upper hi lo ⌝ }
 {
     let mid = arith::midpoint(hi, lo);
     if upper {
-        return mid - (hi - lo) * 0.0625;
+        return mid - (hi - lo) * FSK_HYSTERESIS;
     }
-    mid + (hi - lo) * 0.0625
+    mid + (hi - lo) * FSK_HYSTERESIS
 }
 
 fn past(first_upper: bool, f: f32, thr: f32) -> bool
@@ -445,7 +424,7 @@ fn turn_at(first_upper: bool, thr: f32, c: CandCore, f: f32, idx: u64, cs: &[f32
     let second = sat_sub32(c.fsk_cand, j);
     let before = before_of(cs, c.cand_before, j);
     let at = cand_at(cs, j, f);
-    let sample = ook::sat_sub(std::num::wrapping_add_u64(idx, 1), second as u64);
+    let sample = shared::sat_sub(std::num::wrapping_add_u64(idx, 1), second as u64);
     let tc = arith::edge(sample, arith::cross(before, at, thr));
     Turn { tc, second }
 }
@@ -474,6 +453,11 @@ fn other_level(first_upper: bool, f_early: f32, hi: f32, lo: f32) -> f32
     1.0 - (f_early - lo) / (hi - lo)
 }
 
+// How near the other level a short first run lies, as a part of the distance of the levels, and its least steps.
+const EARLY_TOL: f32 = 0.3;
+
+const EARLY_MIN: f64 = 2.0;
+
 // Whether a short first run before the last restart is the first run of the frame.
 fn is_early(e: Early, first_upper: bool, hi: f32, lo: f32, from: f64) -> bool
     ensures { λ r. ⌜ r ≡ isEarlyOf e «first_upper» hi lo from ⌝ }
@@ -481,9 +465,9 @@ fn is_early(e: Early, first_upper: bool, hi: f32, lo: f32, from: f64) -> bool
     let some = e.early == 1;
     if some {
         let other = arith::abs(other_level(first_upper, e.f_early, hi, lo));
-        let near = other <= 0.3;
+        let near = other <= EARLY_TOL;
         if near {
-            return e.t_early - from >= 2.0;
+            return e.t_early - from >= EARLY_MIN;
         }
         return false;
     }
@@ -522,15 +506,17 @@ fn second_run(
 ) -> Runs
     ensures { λ r. ⌜ r ≡ secondRunOf «first_upper» run t from confirmed «has_prev» ⌝ }
 {
-    let level = ook::bit(!first_upper);
+    let level = shared::bit(!first_upper);
     let prev = sat_sub32(run, t.second);
     Runs {
-        ft_run: t.tc,
-        ft_prev: from,
-        fsk_level: level,
-        fsk_run: t.second,
-        fsk_confirmed: confirmed,
-        fsk_prev: prev,
+        run: Run {
+            level,
+            run_len: t.second,
+            confirmed,
+            prev_len: prev,
+            t_run: t.tc,
+            t_prev: from,
+        },
         fsk_has_prev: has_prev,
     }
 }
@@ -575,10 +561,18 @@ pub fn fsk_resolve(
     let c = fr.cand;
     let t = turn_at(first_upper, thr, c, f, idx, cs);
     let e = fr.early;
-    let early = is_early(e, first_upper, l.f_hi, l.f_lo, fr.runs.ft_run);
+    let early = is_early(e, first_upper, l.f_hi, l.f_lo, fr.runs.run.t_run);
     let c0 = fr.done;
-    let o = open_runs(max, early, first_upper, fr.runs.ft_run, e.t_early, c0, fsk);
-    let s = settle(max, fsk_min, first_upper, fr.runs.fsk_run, t, o, fsk);
+    let o = open_runs(
+        max,
+        early,
+        first_upper,
+        fr.runs.run.t_run,
+        e.t_early,
+        c0,
+        fsk,
+    );
+    let s = settle(max, fsk_min, first_upper, fr.runs.run.run_len, t, o, fsk);
     let sr = s.runs;
     let sd = s.done;
     let mut n = fr;

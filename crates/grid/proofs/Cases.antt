@@ -1,88 +1,33 @@
--- The definitions by cases, at the arms of the code's matches. Assumes nothing.
-use Prim.Native.Nat.{ℕ}
-use mathlib.Core.Bool.{true, false, cond, _&&_}
+-- The definitions by cases, at the arms of the code's matches.
+use Prim.Native.Nat.{ℕ, _+_, _≤_}
+use mathlib.Core.Bool.{Bool, true, false, cond}
 use mathlib.Core.List.{List}
 use mathlib.Core.Path.{_≡_, sym, ap, _∙_}
-use lib.Dec.{T, ltb, eqb}
-use lib.Ieee.Bits.{ofBits-toBits}
-use borrow.Author.Tests.{eqb-true}
-use lib.Ieee.{Float, binary64, fits, ofBits, toBits, add, sub, mul, div, lt, le}
-use Rattle.arith.specs.Leaves.{absOf, zero64}
-use Rattle.grid.specs.Slots.{lastRise, upTo, transitionsOf, fold}
-use Rattle.grid.specs.Fit.{symbolsOf, kAfter, runTol, runNear, runAfter, fitOf, checkOf, checkLine, secondOf, gridFitOf}
-use Rattle.grid.specs.Widths.{oneSymbol, addedOf, meanAfter, betterOf, triedOf, tryAfter, tryStep, firstTry, searchOf, gridOf, runsOf, measuredOf, endOf, clockOf, onGridOf, atStart, widthsOn, fskWidthsOf}
-use Rattle.grid.specs.declared.Prev.{Prev}
-use Rattle.grid.specs.declared.Prev.the-variants.{Unset, At}
-use Rattle.grid.specs.declared.Line.{Line}
-use Rattle.grid.specs.declared.Line.the-variants.{NoLine, Rising}
-use Rattle.grid.specs.declared.Grid.{Grid}
-use Rattle.grid.specs.declared.Grid.the-variants.{NoGrid, On}
-use Rattle.grid.specs.declared.Mean.{Mean}
-use Rattle.grid.specs.declared.Runs.{Runs}
-use Rattle.grid.specs.declared.Tries.{Tries}
+use native.Mathlib.Omega.{arith}
+use lib.Dec.{ltb}
+use lib.Ieee.{Float, binary64, div, lt}
+use Rattle.ieee.specs.Constants.{zero64}
+use Rattle.fit.specs.Slots.{timeOf, fix, pick, turned, lastRise, upTo, transitionsOf, fold}
+use Rattle.fit.specs.Fit.{fitOf, secondOf, gridFitOf}
+use Rattle.grid.specs.Guess.{runsStep, runsOf, betterOf, tryStep, firstTry, searchOf, gridOf}
+use Rattle.grid.specs.Widths.{measuredOf, endOf, clockOf, onGridOf, atStart, widthsOn, fskWidthsOf}
+use Rattle.fit.specs.declared.Line.{Line}
+use Rattle.fit.specs.declared.Grid.{Grid}
+use Rattle.fit.specs.declared.Grid.the-variants.{NoGrid, On}
+use Rattle.grid.specs.declared.guess.Mean.{Mean}
+use Rattle.grid.specs.declared.guess.Runs.{Runs}
 use Rattle.grid.specs.declared.Clock.{Clock}
 
--- ---- a run of the check
-module _ (q : Prev) (k x t : Float) where
-  pub run-at : (tp n m : Float) → q ≡ At tp → n ≡ symbolsOf (sub binary64 x tp) t → m ≡ absOf (sub binary64 (sub binary64 x tp) (mul binary64 n t))
-      → record { k = add binary64 k n; ok = le m (mul binary64 runTol t) } ≡ runAfter q k x t
-  unfolding runAfter kAfter runNear
-  run-at tp n m eq en em = rw (eq, em, en)
+-- ---- the count of the transitions
+pub count-kept : (before v i : ℕ) (s : Runs) → s .count ≤ i → turned runsStep before v s .count ≤ i + 1
+unfolding turned runsStep
+count-kept before v i s h = go (ltb before v)
+  where
+    go : (b : Bool) → pick b (runsStep s (timeOf (fix v))) s .count ≤ i + 1
+    go true = omega arith
+    go false = omega arith
 
-  pub run-unset : q ≡ Unset → record { k = k; ok = true } ≡ runAfter q k x t
-  unfolding runAfter kAfter runNear
-  run-unset eq = rw eq
-
--- ---- the second fit
-module _ (ts : List Float) (first : Line) where
-  pub no-first : first ≡ NoLine → NoGrid ≡ secondOf ts first
-  unfolding secondOf
-  no-first e = sym (ap (secondOf ts) e)
-
-  pub no-second : (a t : Float) (second : Line) → first ≡ Rising a t → second ≡ fitOf ts t → second ≡ NoLine → NoGrid ≡ secondOf ts first
-  unfolding secondOf checkLine
-  no-second a t second e es e′ = sym (ap (secondOf ts) e ∙ ap (checkLine ts) (sym es ∙ e′))
-
-  pub both-fits : (a t a′ t′ : Float) (second : Line) (g : Grid) → first ≡ Rising a t → second ≡ fitOf ts t → second ≡ Rising a′ t′ → g ≡ checkOf ts a′ t′ → g ≡ secondOf ts first
-  unfolding secondOf checkLine
-  both-fits a t a′ t′ second g e es e′ eg = eg ∙ sym (ap (secondOf ts) e ∙ ap (checkLine ts) (sym es ∙ e′))
-
--- ---- the grid of a guess, where what the mean's symbol gave is known
-pub same-bits : (t u : Float) (m n : ℕ) → T (fits binary64 t) → T (fits binary64 u) → m ≡ toBits binary64 t → n ≡ toBits binary64 u → eqb m n ≡ true → t ≡ u
-same-bits t u m n ft fu em en e = sym (ofBits-toBits binary64 t ft) ∙ ap (ofBits binary64) (sym em ∙ eqb-true m n e ∙ en) ∙ ofBits-toBits binary64 u fu
-
-module _ (ts : List Float) (guess : Float) (first : Line) (ef : first ≡ fitOf ts guess) where
-  pub fit-none : first ≡ NoLine → NoGrid ≡ gridFitOf ts guess
-  unfolding gridFitOf secondOf
-  fit-none e = sym (ap (secondOf ts) (sym ef ∙ e))
-
-  pub fit-second : (line : Line) (g : Grid) → first ≡ line → g ≡ secondOf ts line → g ≡ gridFitOf ts guess
-  unfolding gridFitOf
-  fit-second line g e eg = eg ∙ ap (secondOf ts) (sym e ∙ ef)
-
-  pub fit-known : (a t b u : Float) (known : Line) (g : Grid) → first ≡ Rising a t → known ≡ Rising b u → t ≡ u → g ≡ secondOf ts known → g ≡ gridFitOf ts guess
-  unfolding gridFitOf secondOf
-  fit-known a t b u known g e ek et eg =
-      eg ∙ ap (secondOf ts) ek ∙ ap (λ (z : Float). checkLine ts (fitOf ts z)) (sym et) ∙ sym (ap (secondOf ts) (sym ef ∙ e))
-
--- ---- the guesses
-module _ (q : Prev) (shortest x : Float) where
-  pub mean-at : (tp : Float) (s r : Mean) → q ≡ At tp → r ≡ addedOf (oneSymbol shortest (sub binary64 x tp)) s (sub binary64 x tp) x → r ≡ meanAfter q shortest s x
-  unfolding meanAfter
-  mean-at tp s r eq er = rw eq er
-
-  pub mean-unset : (s r : Mean) → q ≡ Unset → r ≡ addedOf false s zero64 x → r ≡ meanAfter q shortest s x
-  unfolding meanAfter
-  mean-unset s r eq er = rw eq er
-
-  pub try-at : (ts : List Float) (tp : Float) (s r : Tries) → q ≡ At tp → r ≡ triedOf (oneSymbol shortest (sub binary64 x tp) && ltb (s .tried) 8) ts s (sub binary64 x tp) x → r ≡ tryAfter q ts shortest s x
-  unfolding tryAfter
-  try-at ts tp s r eq er = rw eq er
-
-  pub try-unset : (ts : List Float) (s r : Tries) → q ≡ Unset → r ≡ triedOf false ts s zero64 x → r ≡ tryAfter q ts shortest s x
-  unfolding tryAfter
-  try-unset ts s r eq er = rw eq er
-
+-- ---- the grid of the smallest cost
 module _ (grid g : Grid) where
   pub better-none : g ≡ NoGrid → grid ≡ betterOf grid g
   unfolding betterOf

@@ -1,63 +1,39 @@
--- Document 01, "Grid": an empty slot, one that is not above the slot before it, has width 0, for every list of u32. Assumes nothing.
+-- Document 01, "Grid": an empty slot, one that is not above the slot before it, has width 0, for every list of u32.
 use Prim.Native.Nat.{ℕ, zero, suc, _+_, _*_, _-_, _^_, _<_, _≤_}
 use mathlib.Core.Bool.{Bool, true, false, cond}
 use mathlib.Core.Path.{_≡_, refl, sym, ap, _∙_, subst}
-use native.Mathlib.Nat.{mul-pos, mul-assoc, mul-one, mul-comm, mul-right-comm, mul-le-mul-right, lt-of-lt-of-le, sub-self}
+use native.Mathlib.Nat.{mul-pos, mul-assoc, mul-one, mul-comm, mul-right-comm, mul-le-mul-right, lt-of-lt-of-le}
 use native.Mathlib.Omega.{arith}
 use lib.Pow.{pow-mono, shl-lt}
 use lib.Dec.{ltb, leb}
 use lib.ListN.{getD}
 use mathlib.Core.List.{List, [], _∷_}
 use lib.IntN.{pos}
-use borrow.Author.Tests.{ltb-false, le-leb, le-ltb}
-use lib.Ieee.{Float, nan, inf, fin, Format, binary64, prec, emax, low, up, down, add, sub, neg, div, sum, round, units, odd, ofInt, ofBits, span, climb}
-use lib.Ieee as Ieee
+use borrow.Author.Tests.{ltb-false, le-leb}
+use lib.Ieee.{Float, nan, inf, fin, Format, binary64, prec, emax, low, up, down, add, sub, neg, div, sum, round, units, odd, ofInt, ofBits}
 use lib.Ieee.Exact.{HasValue, round-exact}
 use lib.Ieee.Fits.{down-pos}
 use lib.Ieee.Scale.{round-same}
-use Rattle.arith.specs.Rounding.{roundOf, halfUp}
-use Rattle.arith.specs.Leaves.{wholeOf, nearestIn, widthOf, zero64}
-use Rattle.arith.proofs.HalfUp.{roundOf-at}
-use Rattle.grid.specs.Slots.{timeOf, fix, slotBefore, transitionsOf}
-use Rattle.grid.specs.Widths.{measuredOf, placeOf, onGridOf, atStart, runsOf, gridOf, widthsOn, fskWidthsOf}
+use Rattle.ieee.specs.Rounding.{roundOf, halfUp}
+use Rattle.arith.specs.Leaves.{runFix, wholeOf, nearestIn, widthOf}
+use Rattle.ieee.specs.Constants.{zero64}
+use Rattle.ieee.proofs.HalfUp.{roundOf-at}
+use Rattle.arith.proofs.OwnEdge.{round-flat, nearest-flat, no-width}
+use Rattle.fit.specs.Slots.{timeOf, fix, slotBefore, transitionsOf}
+use Rattle.grid.specs.Guess.{runsOf, gridOf}
+use Rattle.grid.specs.Widths.{measuredOf, placeOf, onGridOf, atStart, widthsOn, fskWidthsOf}
 use Rattle.grid.specs.declared.Clock.{Clock}
 use Rattle.grid.specs.declared.Place.{Place}
-use Rattle.grid.specs.declared.Grid.{Grid}
-use Rattle.grid.specs.declared.Grid.the-variants.{NoGrid, On}
+use Rattle.fit.specs.declared.Grid.{Grid}
+use Rattle.fit.specs.declared.Grid.the-variants.{NoGrid, On}
 
 -- the rounded time of a slot
 abbrev boundary : ℕ → Float
 boundary v = roundOf (timeOf (fix v))
 
--- ---- nothing less itself is nothing
-zero-one : round binary64 false 0 1 ≡ fin false 0 (pos 0)
-unfolding round units odd Ieee.size span climb
-zero-one = refl
-
-zero-at : (a c : ℕ) → 0 < c → round binary64 false (a - a) c ≡ fin false 0 (pos 0)
-zero-at a c h =
-    let e : 0 * 1 ≡ 0 * c = omega arith in
-    rw (sub-self a) (round-same binary64 false 0 c 0 1 h (omega arith) e ∙ zero-one)
-
-none : nearestIn 32 (fin false 0 (pos 0)) ≡ 0
-unfolding nearestIn
-none = refl
-
-same-boundary : (x : Float) → wholeOf (sub binary64 x x) ≡ 0
-unfolding sub add neg sum nearestIn
-same-boundary nan = refl
-same-boundary (inf true) = refl
-same-boundary (inf false) = refl
-same-boundary (fin true m e) =
-    let a = m * up e * down e in
-    simp (le-ltb a a (omega arith)) (ap (nearestIn 32) (zero-at a (down e * down e) (mul-pos (down-pos e) (down-pos e))) ∙ none)
-same-boundary (fin false m e) =
-    let a = m * up e * down e in
-    simp (le-ltb a a (omega arith)) (ap (nearestIn 32) (zero-at a (down e * down e) (mul-pos (down-pos e) (down-pos e))) ∙ none)
-
 empty-slot : (c : Clock) (p : Place) (v : ℕ) → v ≤ p .«before_raw» → widthOf (p .before) (placeOf c p v .before) .0 ≡ 0
 unfolding placeOf
-empty-slot c p v h = simp (le-leb v (p .«before_raw») h) (same-boundary (p .before))
+empty-slot c p v h = simp (le-leb v (p .«before_raw») h) (no-width (p .before))
 
 -- what is roundOf with a minus sign is no width
 below-odd : (d q k l : ℕ) → nearestIn 32 (odd d true q k l) ≡ 0
@@ -88,8 +64,7 @@ pick-sum a b c h l = go (ltb a b) refl
     go true e = below binary64 (b - a) c
     go false e =
         let g : b ≤ a = ltb-false a b e in
-        let q : b ≡ a = omega arith in
-        ap (λ (x : ℕ). nearestIn 32 (round binary64 false (a - x) c)) q ∙ ap (nearestIn 32) (zero-at a c h) ∙ none
+        nearest-flat 32 _ (round-flat false (a - b) c (omega arith) h)
 
 not-above : (x y : Float) (a b : ℕ) → HasValue x false a 1 → HasValue y false b 1 → a ≤ b → wholeOf (sub binary64 x y) ≡ 0
 unfolding sub add neg sum
@@ -118,7 +93,7 @@ int-value : (v : ℕ) → v < 2 ^ 53 → HasValue (ofInt binary64 (pos v)) false
 unfolding ofInt
 int-value v l = exact v 1 1074 (omega arith) l (omega arith) refl
 
-over : (x : Float) (v : ℕ) → HasValue x false v 1 → div binary64 x (ofBits binary64 0x4050_0000_0000_0000) ≡ round binary64 false v 64
+over : (x : Float) (v : ℕ) → HasValue x false v 1 → div binary64 x runFix ≡ round binary64 false v 64
 unfolding div ofBits
 over nan v h = absurd h
 over (inf s) v h = absurd h

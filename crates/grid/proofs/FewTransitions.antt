@@ -1,4 +1,4 @@
--- Document 01, "Grid": fewer than five transitions use no grid. Assumes nothing.
+-- Document 01, "Grid": fewer than five transitions use no grid.
 use Prim.Native.Nat.{ℕ, _+_, _<_}
 use mathlib.Core.List.{List, [], _∷_}
 use mathlib.Core.Path.{_≡_}
@@ -6,10 +6,11 @@ use native.Mathlib.Omega.{arith}
 use lib.ListN.{length}
 use lib.Ieee.{Float}
 use borrow.Author.Tests.{lt-leb}
-use Rattle.arith.specs.Leaves.{zero64}
-use Rattle.grid.specs.Slots.{transitionsOf, fold}
-use Rattle.grid.specs.Widths.{runsStep, runsOf, noRuns, gridOf, measuredOf, widthsOn, fskWidthsOf}
-use Rattle.grid.specs.declared.Runs.{Runs}
+use Rattle.ieee.specs.Constants.{zero64}
+use Rattle.fit.specs.Slots.{transitionsOf, fold}
+use Rattle.grid.specs.Guess.{runsStep, runsOf, noRuns, gridOf}
+use Rattle.grid.specs.Widths.{measuredOf, widthsOn, fskWidthsOf}
+use Rattle.grid.specs.declared.guess.Runs.{Runs}
 
 counts : (s : Runs) (ts : List Float) → fold runsStep s ts .count ≡ s .count + length ts
 unfolding fold runsStep

@@ -1,4 +1,4 @@
--- A loop that writes a width over each slot: its start, a turn and its end. Assumes nothing.
+-- A loop that writes a width over each slot: its start, a turn and its end.
 use Prim.Native.Nat.{ℕ, suc, _+_, _<_, _≤_}
 use mathlib.Core.List.{List, [], _∷_, _++_, append-nil}
 use mathlib.Core.Path.{_≡_, refl, sym, _∙_}

@@ -1,97 +1,22 @@
 -- `fsk_widths` (document 01, "Grid"): the run ends of a finished frame become widths in whole steps. Each operation is rounded once, in the Rust's order.
 use Prim.Native.Nat.{ℕ, _+_, _-_}
-use mathlib.Core.Bool.{Bool, true, false, cond, _&&_}
+use mathlib.Core.Bool.{cond}
 use mathlib.Core.List.{List, [], _∷_}
 use lib.ListN.{length, getD}
 use lib.Dec.{ltb, leb, eqb}
-use lib.Ieee.{Float, binary64, add, sub, mul, div, lt, ofBits}
-use Rattle.arith.specs.Rounding.{roundOf}
-use Rattle.arith.specs.Leaves.{minOf, widthOf, zero64, one64}
-use Rattle.grid.specs.Slots.{timeOf, fix, transitionsOf, fold}
-use Rattle.grid.specs.Fit.{symbolsOf, kAfter, sumsOf, gridFitOf}
-use Rattle.grid.specs.declared.Prev.{Prev}
-use Rattle.grid.specs.declared.Prev.the-variants.{Unset, At}
-use Rattle.grid.specs.declared.Grid.{Grid}
-use Rattle.grid.specs.declared.Grid.the-variants.{NoGrid, On}
-use Rattle.grid.specs.declared.Runs.{Runs}
-use Rattle.grid.specs.declared.Mean.{Mean}
-use Rattle.grid.specs.declared.Tries.{Tries}
+use lib.Ieee.{Float, binary64, add, sub, mul}
+use Rattle.ieee.specs.Rounding.{roundOf}
+use Rattle.arith.specs.Leaves.{widthOf}
+use Rattle.ieee.specs.Constants.{zero64}
+use Rattle.fit.specs.Slots.{timeOf, fix, transitionsOf}
+use Rattle.fit.specs.Fit.{symbolsOf, kAfter, sumsOf}
+use Rattle.fit.specs.declared.Prev.{Prev}
+use Rattle.fit.specs.declared.Prev.the-variants.{Unset, At}
+use Rattle.fit.specs.declared.Grid.{Grid}
+use Rattle.fit.specs.declared.Grid.the-variants.{NoGrid, On}
+use Rattle.grid.specs.Guess.{runsOf, gridOf}
 use Rattle.grid.specs.declared.Clock.{Clock}
 use Rattle.grid.specs.declared.Place.{Place}
-
--- GRID_MIN
-abbrev pub gridMin : ℕ
-gridMin = 5
-
--- GRID_CAND
-abbrev pub gridCand : ℕ
-gridCand = 8
-
--- ---- the count of the transitions and the shortest run between two
-unfoldable pub shorterOf : Prev → Float → Float → Float
-shorterOf Unset shortest x = shortest
-shorterOf (At tp) shortest x = minOf shortest (sub binary64 x tp)
-
-unfoldable pub runsStep : Runs → Float → Runs
-runsStep s x = record { count = s .count + 1; shortest = shorterOf (s .prev) (s .shortest) x; prev = At x }
-
--- f64::INFINITY, before any run
-abbrev pub noRuns : Runs
-noRuns = record { count = 0; shortest = ofBits binary64 0x7ff0_0000_0000_0000; prev = Unset }
-
-unfoldable pub runsOf : List Float → Runs
-runsOf ts = fold runsStep noRuns ts
-
--- ---- the runs of one symbol, shorter than 1.5 times the shortest: their sum and how many
-abbrev pub oneSymbol : Float → Float → Bool
-oneSymbol shortest d = lt d (mul binary64 (ofBits binary64 0x3ff8_0000_0000_0000) shortest)
-
-unfoldable pub addedOf : Bool → Mean → Float → Float → Mean
-addedOf true s d x = record { sum = add binary64 (s .sum) d; n = add binary64 (s .n) one64; prev = At x }
-addedOf false s d x = record { sum = s .sum; n = s .n; prev = At x }
-
-unfoldable pub meanAfter : Prev → Float → Mean → Float → Mean
-meanAfter Unset shortest s x = addedOf false s zero64 x
-meanAfter (At tp) shortest s x = addedOf (oneSymbol shortest (sub binary64 x tp)) s (sub binary64 x tp) x
-
-unfoldable pub meanStep : Float → Mean → Float → Mean
-meanStep shortest s x = meanAfter (s .prev) shortest s x
-
-abbrev pub noMean : Mean
-noMean = record { sum = zero64; n = zero64; prev = Unset }
-
-unfoldable pub meanOf : Float → List Float → Mean
-meanOf shortest ts = fold (meanStep shortest) noMean ts
-
--- ---- the grid of the smallest cost: from the mean of the runs of one symbol, and from each of the first GRID_CAND of them
-unfoldable pub betterOf : Grid → Grid → Grid
-betterOf grid NoGrid = grid
-betterOf NoGrid (On a t c) = On a t c
-betterOf (On a t c) (On a′ t′ c′) = cond (lt c′ c) (On a′ t′ c′) (On a t c)
-
-unfoldable pub triedOf : Bool → List Float → Tries → Float → Float → Tries
-triedOf true ts s d x = record { tried = s .tried + 1; grid = betterOf (s .grid) (gridFitOf ts d); prev = At x }
-triedOf false ts s d x = record { tried = s .tried; grid = s .grid; prev = At x }
-
-unfoldable pub tryAfter : Prev → List Float → Float → Tries → Float → Tries
-tryAfter Unset ts shortest s x = triedOf false ts s zero64 x
-tryAfter (At tp) ts shortest s x = triedOf (oneSymbol shortest (sub binary64 x tp) && ltb (s .tried) gridCand) ts s (sub binary64 x tp) x
-
-unfoldable pub tryStep : List Float → Float → Tries → Float → Tries
-tryStep ts shortest s x = tryAfter (s .prev) ts shortest s x
-
-abbrev pub firstTry : Grid → Tries
-firstTry g = record { tried = 0; grid = g; prev = Unset }
-
-unfoldable pub searchOf : List Float → Float → Mean → Grid
-searchOf ts shortest m = fold (tryStep ts shortest) (firstTry (gridFitOf ts (div binary64 (m .sum) (m .n)))) ts .grid
-
-abbrev pub searchIf : Bool → List Float → Float → Mean → Grid
-searchIf true ts shortest m = searchOf ts shortest m
-searchIf false ts shortest m = NoGrid
-
-unfoldable pub gridOf : List Float → Runs → Grid
-gridOf ts runs = searchIf (leb gridMin (runs .count) && lt zero64 (meanOf (runs .shortest) ts .n)) ts (runs .shortest) (meanOf (runs .shortest) ts)
 
 -- ---- the measured times: widths of the rounded times after the start
 unfoldable pub measuredOf : Float → List ℕ → List ℕ

@@ -1,4 +1,4 @@
--- `laneFskWidthsOf` by the tests of the code. Assumes nothing.
+-- `laneFskWidthsOf` by the tests of the code.
 use Prim.Native.Nat.{ℕ, _/_, _%_, _<_, _≤_}
 use mathlib.Core.List.{List}
 use mathlib.Core.Path.{_≡_}

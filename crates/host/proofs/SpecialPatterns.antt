@@ -1,9 +1,9 @@
--- `laneSqrtOf` gives what document 01 asks of the special operands. Assumes nothing.
+-- `laneSqrtOf` gives what document 01 asks of the special operands.
 use mathlib.Core.Path.{refl, ap, _∙_}
 use lib.Ieee.{binary32, ofBits, toBits}
-use Rattle.arith.specs.Root.{sqrtOf}
-use Rattle.arith.proofs.Nan.{nan-read, nan-written32}
-use Rattle.arith.proofs.RootSpecial.{special-roots, negative-root}
+use Rattle.root.specs.Root.{sqrtOf}
+use Rattle.ieee.proofs.Nan.{nan-read, nan-written32}
+use Rattle.root.proofs.RootSpecial.{special-roots, negative-root}
 use Rattle.host.specs.SquareRoot.{laneSqrtOf, SpecialPatterns}
 
 pub special-patterns : SpecialPatterns laneSqrtOf

@@ -2,7 +2,7 @@
 use Prim.Native.Nat.{ℕ, _%_, _^_, _<_}
 use mathlib.Core.Path.{_≡_}
 use lib.Ieee.{binary32, ofBits, toBits}
-use Rattle.arith.specs.Root.{sqrtOf}
+use Rattle.root.specs.Root.{sqrtOf}
 
 abbrev pub laneSqrtOf : ℕ → ℕ
 laneSqrtOf bits = toBits binary32 (sqrtOf (ofBits binary32 bits))

@@ -1,4 +1,4 @@
--- What a read leaves in the buffer, and where nothing is read. Assumes nothing.
+-- What a read leaves in the buffer, and where nothing is read.
 use Prim.Native.Nat.{ℕ, _+_, _≤_}
 use mathlib.Core.Bool.{Bool, true, false, _||_}
 use mathlib.Core.Path.{_≡_, refl, sym, _∙_, ap}

@@ -1,4 +1,3 @@
 -- What the proofs of this crate cite.
-mod Fills
-mod Zips
-mod Ways
+pub mod PartLaws
+pub mod Refusals

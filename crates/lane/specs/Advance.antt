@@ -5,7 +5,7 @@ use mathlib.Core.List.{List}
 use lib.Dec.{ltb, eqb}
 use lib.Ieee.{Float}
 use Rattle.arith.specs.Leaves.{leadLenOf}
-use Rattle.stages.specs.declared.At.{At}
+use Rattle.envelope.specs.declared.At.{At}
 use Rattle.burst.specs.declared.Lead.{Lead}
 use Rattle.burst.specs.declared.Sampled.{Sampled}
 use Rattle.burst.specs.Sample.{sampleOf}

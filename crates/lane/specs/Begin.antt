@@ -3,9 +3,9 @@ use Prim.Native.Nat.{ℕ, _+_, _-_, _%_}
 use mathlib.Core.List.{List}
 use lib.ListN.{set, replicate}
 use lib.Ieee.{Float}
-use Rattle.arith.specs.Leaves.{zero32}
+use Rattle.ieee.specs.Constants.{zero32}
 use Rattle.arith.specs.declared.C32.{C32}
-use Rattle.ook.specs.Counts.{zeroC32}
+use Rattle.shared.specs.Counts.{zeroC32}
 use Rattle.burst.specs.declared.Burst.{Burst}
 use Rattle.burst.specs.declared.Lead.{Lead}
 use Rattle.lane.specs.declared.History.{History}
@@ -45,7 +45,7 @@ clearedOf b = record { high = b .high; «e_prev» = b .«e_prev»; env = b .env;
 
 -- begin_lead sets p_factor, which the burst's presence goes by
 abbrev pub withFactor : Float → Burst → Burst
-withFactor f b = record { high = b .high; «e_prev» = b .«e_prev»; env = b .env; pac = b .pac; train = b .train; «out_ook» = b .«out_ook»; frames = b .frames; pres = record { «p_t_run» = b .pres .«p_t_run»; «p_t_prev» = b .pres .«p_t_prev»; «p_factor» = f; «p_level» = b .pres .«p_level»; «p_run» = b .pres .«p_run»; «p_confirmed» = b .pres .«p_confirmed»; «p_prev» = b .pres .«p_prev» }; frame = b .frame; «out_fsk» = b .«out_fsk» }
+withFactor f b = record { high = b .high; «e_prev» = b .«e_prev»; env = b .env; pac = b .pac; train = b .train; «out_ook» = b .«out_ook»; frames = b .frames; pres = record { run = b .pres .run; «p_factor» = f }; frame = b .frame; «out_fsk» = b .«out_fsk» }
 
 -- an accepted call leaves the settings; the index and the sample of the call are kept for the next one; the serial is raised apart from
 -- this (specs/Serial)

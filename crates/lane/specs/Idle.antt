@@ -1,14 +1,15 @@
 -- `Lane::default` of the Rust: every number and float is 0. An opening gives this lane with its settings.
 use Prim.Native.Nat.{ℕ}
 use lib.ListN.{replicate}
-use Rattle.arith.specs.Leaves.{zero32, zero64}
-use Rattle.ook.specs.Counts.{zeroC32}
+use Rattle.ieee.specs.Constants.{zero32, zero64}
+use Rattle.shared.specs.Counts.{zeroC32}
 use Rattle.ook.specs.Train.{zeroSteps}
-use Rattle.ook.specs.declared.Settings.{Settings}
-use Rattle.ook.specs.declared.Out.{Out}
+use Rattle.shared.specs.declared.Settings.{Settings}
+use Rattle.shared.specs.declared.Out.{Out}
+use Rattle.run.specs.declared.Run.{Run}
 use Rattle.ook.specs.declared.Env.{Env}
 use Rattle.ook.specs.declared.Train.{Train}
-use Rattle.ook.specs.declared.Carrier.the-variants.{Angle}
+use Rattle.shared.specs.declared.Carrier.the-variants.{Angle}
 use Rattle.fsk.specs.declared.Committed.{Committed}
 use Rattle.fsk.specs.declared.Frame.{Frame}
 use Rattle.fsk.specs.declared.Runs.{Runs}
@@ -23,22 +24,20 @@ noSettings = record { mode = 0; «min_steps» = 0; «gap_steps» = 0; «pre_time
 abbrev pub noOut : Out
 noOut = record { index = 0; end = 0; state = 0; cut = 0; pairs = 0; level = zero32; fsk = 0; carrier = Angle zero32; serial = 0 }
 
+abbrev pub noRun : Run
+noRun = record { level = 0; «run_len» = 0; confirmed = 0; «prev_len» = 0; «t_run» = zero64; «t_prev» = zero64 }
+
 abbrev pub noEnv : Env
-noEnv = record {
-  run = record { level = 0; «run_len» = 0; confirmed = 0; «prev_len» = 0 };
-  times = record { «t_run» = zero64; «t_prev» = zero64; «c_run» = zero64; «c_prev» = zero64 };
-  «ref_idx» = 0;
-  «ref_pending» = 0;
-}
+noEnv = record { run = noRun; «c_run» = zero64; «c_prev» = zero64; «ref_idx» = 0; «ref_pending» = 0 }
 
 abbrev pub noTrain : Train
 noTrain = record { start = 0; «pulse_end» = 0; started = 0; «ook_n» = 0; «open» = 0; longest = zeroSteps; truncated = 0; acc = zeroC32; origin = zero64; bound = 0 }
 
 abbrev pub noPres : Pres
-noPres = record { «p_t_run» = zero64; «p_t_prev» = zero64; «p_factor» = zero32; «p_level» = 0; «p_run» = 0; «p_confirmed» = 0; «p_prev» = 0 }
+noPres = record { run = noRun; «p_factor» = zero32 }
 
 abbrev pub noRuns : Runs
-noRuns = record { «ft_run» = zero64; «ft_prev» = zero64; «fsk_level» = 0; «fsk_run» = 0; «fsk_confirmed» = 0; «fsk_prev» = 0; «fsk_has_prev» = 0 }
+noRuns = record { run = noRun; «fsk_has_prev» = 0 }
 
 abbrev pub noneDone : Committed
 noneDone = record { «f_origin» = zero64; «f_last» = zero64; «fsk_open» = 0; «fsk_n» = 0; «fsk_runs» = 0; «fsk_full» = 0 }

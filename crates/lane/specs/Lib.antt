@@ -8,4 +8,3 @@ pub mod Close
 pub mod Serial
 pub mod Step
 pub mod Part
-pub mod Core

@@ -23,7 +23,7 @@ fn reply_of(a: Answer) -> Reply
 pub fn step_lent(l: &mut Lane, s: StepArgs, ook: &mut [u32], fsk: &mut [u32]) -> Reply
     ensures { λ r. ⌜ (answerOf r (now (l .exit)), now (ook .exit), now (fsk .exit)) ≡ stepped (now (l .entry)) s (now (ook .entry)) (now (fsk .entry)) ⌝ }
 {
-    let a = lane::step(*l, s, ook, fsk);
+    let a = step::step(*l, s, ook, fsk);
     *l = lane_of(a);
     reply_of(a)
 }

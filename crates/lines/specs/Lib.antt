@@ -1,4 +1,1 @@
 pub mod Line
-pub mod Laws
-pub mod Room
-pub mod Worked

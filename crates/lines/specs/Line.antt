@@ -8,9 +8,9 @@ use lib.Seq.{sets}
 use lib.Dec.{eqb, ltb, leb}
 use lib.Ieee.{Float, binary32, toBits}
 pub use Rattle.domain.specs.Limits.{maxSlots}
-use Rattle.ook.specs.declared.Out.{Out}
-use Rattle.ook.specs.declared.Carrier.{Carrier}
-use Rattle.ook.specs.Answers.{carrierKindOf, carrierFirstOf, carrierSecondOf}
+use Rattle.shared.specs.declared.Out.{Out}
+use Rattle.shared.specs.declared.Carrier.{Carrier}
+use Rattle.shared.specs.Answers.{carrierKindOf, carrierFirstOf, carrierSecondOf}
 use Rattle.lane.specs.declared.Reply.{Reply}
 use Rattle.lane.specs.Answers.{refusalNumberOf, replyNumberOf, replyEnvelopeOf}
 use Rattle.lines.specs.declared.Written.{Written}

@@ -5,10 +5,10 @@ ghost use Prim.Native.Nat.{ℕ, _+_, _*_, _≤_, _<_};
 ghost use lib.ListN.{length};
 ghost use Rattle.lines.specs.Line.{decimal, number, float, kind, carrier, widths, spanOf, trainHead, trainTail, trainLine, recordLine, idleLine, carrierLine, refusedLine, callText, trainRoom, largerOf, hasRoom, writtenCall, Put, Spelled};
 ghost use Rattle.lines.specs.Line.{glyph as Line·glyph};
-ghost use Rattle.ook.specs.declared.Carrier.the-variants as Carrier;
+ghost use Rattle.shared.specs.declared.Carrier.the-variants as Carrier;
 use lane::Reply;
-use ook::Carrier;
-use ook::Out;
+use shared::Carrier;
+use shared::Out;
 
 // The place after the lines, or that there was no room and nothing was written.
 pub enum Written {
@@ -91,7 +91,7 @@ fn put_float(x: f32, text: &mut [u8], at: usize) -> usize
     requires { ⌜ at + 9 ≤ length (now text) ⌝ }
     ensures { λ r. ⌜ Put (float x) 9 at (now (text .entry)) r (now (text .exit)) ⌝ }
 {
-    let n = arith::bits_of_f32(x);
+    let n = ieee::bits_of_f32(x);
     let a = glyph(n / 0x1000_0000 % 16);
     let b = glyph(n / 0x100_0000 % 16);
     let c = glyph(n / 0x10_0000 % 16);

@@ -6,7 +6,10 @@ ghost use mathlib.Core.Path.{_≡_};
 ghost use lib.ListN.{length};
 ghost use Rattle.lane.specs.Step.{newLane};
 ghost use Rattle.reached.specs.Reached.{Sound};
-ghost use Rattle.listing.specs.Passes.{started, Passes, Runs};
+ghost use Rattle.calls.specs.Stream.{machine};
+ghost use Rattle.feed.specs.Rest.{restOf};
+ghost use Rattle.input.specs.Passes.{Passes};
+ghost use Rattle.listing.specs.Passes.{started, Ends};
 use feed::Fed;
 
 struct Passed {
@@ -40,7 +43,7 @@ fn start() -> Passed
 // One read, the turns of what is there, and one write.
 fn pass(p: Passed, buf: &mut [u8], ook: &mut [u32], fsk: &mut [u32], text: &mut [u8]) -> Passed
     requires { ⌜ (p .fed .left ≤ length (now buf)) × Sound (p .fed .lane) ⌝ }
-    ensures { λ r. ⌜ Passes p (now (buf .entry)) (now (ook .entry)) (now (fsk .entry)) r (now (buf .exit)) (now (ook .exit)) (now (fsk .exit)) (now (text .exit)) ⌝ }
+    ensures { λ r. ⌜ Passes machine (p .fed .lane, now (ook .entry), now (fsk .entry)) (restOf (p .fed)) (p .last) (now (buf .entry)) (r .fed .lane, now (ook .exit), now (fsk .exit)) (restOf (r .fed)) (r .last) (now (buf .exit)) (now (text .exit)) × Sound (r .fed .lane) ⌝ }
 {
     let q = p.fed;
     let lane = q.lane;
@@ -60,7 +63,7 @@ fn pass(p: Passed, buf: &mut [u8], ook: &mut [u32], fsk: &mut [u32], text: &mut 
 // nothing failed. A proved loop has to end, and nothing says that the input does: it counts down from
 // a number that no run uses up.
 fn run(buf: &mut [u8], ook: &mut [u32], fsk: &mut [u32], text: &mut [u8]) -> bool
-    ensures { λ r. ⌜ Runs (newLane, now (ook .entry), now (fsk .entry)) r (now (ook .exit)) (now (fsk .exit)) ⌝ }
+    ensures { λ r. ⌜ Ends (newLane, now (ook .entry), now (fsk .entry)) r (now (ook .exit)) (now (fsk .exit)) ⌝ }
 {
     let mut p = start();
     let mut passes = u64::MAX;

@@ -1,46 +1,15 @@
 -- What refusal 4 of document 01 asks of the run and of the train, and that each definition leads from there to there:
 -- flags stay 0 or 1, pulses plus open stay at most max_pulses, and so `inc` never wraps.
-use Prim.Native.Nat.{ℕ, _+_, _^_, _<_, _≤_}
-use mathlib.Core.Bool.{Bool, true, false, cond}
-use mathlib.Core.List.{List}
-use mathlib.Core.Path.{_≡_, refl}
-use native.Mathlib.Omega.{arith}
-use lib.Dec.{leb, eqb, ltb}
-use lib.Ieee.{Float}
-use borrow.Author.Tests.{leb-false, eqb-true}
+use Prim.Native.Nat.{ℕ, _+_, _≤_}
 use Rattle.domain.specs.Limits.{maxBound, maxSerial}
-use Rattle.arith.specs.declared.C32.{C32}
-use Rattle.arith.specs.declared.Steps.{Steps}
-use Rattle.arith.specs.Leaves.{stepOf}
+use Rattle.run.specs.Limits.{RunWithin}
 use Rattle.ook.specs.declared.Env.{Env}
 use Rattle.ook.specs.declared.Train.{Train}
-use Rattle.ook.specs.declared.Out.{Out}
-use Rattle.ook.specs.declared.Settings.{Settings}
-use Rattle.ook.specs.declared.Pushed.{Pushed}
-use Rattle.ook.specs.declared.Next.{Next}
-use Rattle.ook.specs.declared.Next.the-variants.{Idle}
+use Rattle.shared.specs.declared.Out.{Out}
 use Rattle.ook.specs.declared.Done.{Done}
-use Rattle.ook.specs.Counts.{inc-exact, bit}
-use Rattle.ook.specs.Run.{lengthenOf, rejoinOf, beginRunOf, advanceOf, beginEnvOf}
-use Rattle.ook.specs.Train.{withStarted, withEnd, withLongest, longerOf, zeroSteps, stayBy, endBy, pushPulseOf, pushedBy, closeGapOf, emptyTrainOf, finishOf, endTrainOf, pulseDoneOf}
-
--- of either arm what holds of both
-pub either : {A : Type 0} (P : A → Type 0) (b : Bool) {x y : A} → P x → P y → P (cond b x y)
-either P true p q = p
-either P false p q = q
-
--- a test with its outcome in either arm
-pub by-test : {A : Type 0} (P : A → Type 0) (b : Bool) {x y : A} → (b ≡ true → P x) → (b ≡ false → P y) → P (cond b x y)
-by-test P true f g = f refl
-by-test P false f g = g refl
-
-pub bit-flag : (b : Bool) → bit b ≤ 1
-bit-flag true = omega arith
-bit-flag false = omega arith
 
 pub record EnvWithin (s : Env) : Type 0 where
-  pub level-flag : s .run .level ≤ 1
-  pub confirmed-flag : s .run .confirmed ≤ 1
+  pub run-within : RunWithin (s .run)
   pub pending-flag : s .«ref_pending» ≤ 1
 
 pub record TrainWithin (max : ℕ) (t : Train) : Type 0 where
@@ -57,83 +26,8 @@ pub record OutWithin (max : ℕ) (o : Out) : Type 0 where
   pub room : o .pairs ≤ max
   pub numbered : o .serial ≤ maxSerial
 
--- the run
-
-pub lengthen-within : (s : Env) → EnvWithin s → EnvWithin (lengthenOf s)
-unfolding lengthenOf
-lengthen-within s h = omega arith
-
-pub rejoin-within : (s : Env) (on : Bool) → EnvWithin (rejoinOf s on)
-unfolding rejoinOf
-rejoin-within s on = omega (arith, bit-flag on)
-
-pub begin-run-within : (s : Env) (tc : Float) (idx : ℕ) (on : Bool) → EnvWithin (beginRunOf s tc idx on)
-unfolding beginRunOf
-begin-run-within s tc idx on = omega (arith, bit-flag on)
-
-pub advance-within : (s : Env) (on : Bool) (tc : Float) (idx : ℕ) → EnvWithin s → EnvWithin (advanceOf s on tc idx)
-unfolding advanceOf
-advance-within s on tc idx h =
-    either EnvWithin (eqb (bit on) (s .run .level)) (lengthen-within s h)
-    (either EnvWithin (eqb (s .run .confirmed) 0) (rejoin-within s on) (begin-run-within s tc idx on))
-
-pub begin-env-within : (t : Float) (s : Env) → EnvWithin s → EnvWithin (beginEnvOf t s)
-unfolding beginEnvOf
-begin-env-within t s h = omega arith
-
 -- the train
-
-module _ (max : ℕ) where
-  pub push-within : (t : Train) (pac : C32) (len : Steps) (ook : List ℕ) → TrainWithin max t → TrainWithin max (pushPulseOf max t pac len ook .0 .train)
-  unfolding pushPulseOf
-  push-within t pac len ook h =
-      by-test (λ (q : Pushed × List ℕ). TrainWithin max (q .0 .train)) (leb max (t .«ook_n»)) (λ q. omega arith) (λ q. omega (arith, leb-false max (t .«ook_n») q))
-
-  module _ (fits : max < 2 ^ 32) where
-    pub close-gap-within : (t : Train) (gap : Steps) (ook : List ℕ) → TrainWithin max t → TrainWithin max (closeGapOf t gap ook .0)
-    unfolding closeGapOf
-    close-gap-within t gap ook h =
-        by-test (λ (q : Train × List ℕ). TrainWithin max (q .0)) (eqb (t .«open») 1)
-        (λ q. let one : t .«open» ≡ 1 = eqb-true (t .«open») 1 q in omega (arith, inc-exact (t .«ook_n») (omega arith)))
-        (λ q. h)
-
-    pub empty-within : (t : Train) → TrainWithin max (emptyTrainOf t)
-    unfolding emptyTrainOf
-    empty-within t = omega arith
-
-    pub finish-within : (t : Train) (high : Float) (out : Out) → TrainWithin max t → OutWithin max out → TrainWithin max (finishOf t high out .train) × OutWithin max (finishOf t high out .out)
-    unfolding finishOf
-    finish-within t high out h o = (
-      empty-within t,
-      either (OutWithin max) (ltb 0 (t .«ook_n»)) (omega (arith, bit-flag (eqb (t .truncated) 1))) o,
-    )
-
-    -- a train that ended is within the limits, and so is its record
-    pub end-train-within : (t : Train) (high : Float) (out : Out) (ook : List ℕ) → TrainWithin max t → OutWithin max out → TrainWithin max (endTrainOf t high out ook .0 .train) × OutWithin max (endTrainOf t high out ook .0 .out)
-    unfolding endTrainOf
-    end-train-within t high out ook h o = finish-within (closeGapOf t zeroSteps ook .0) high out (close-gap-within t zeroSteps ook h) o
 
 pub record DoneWithin (max : ℕ) (d : Done) : Type 0 where
   pub train-within : TrainWithin max (d .train)
   pub out-within : OutWithin max (d .out)
-
-pub stay-within : (max : ℕ) (t : Train) (out : Out) (ook : List ℕ) → TrainWithin max t → OutWithin max out → DoneWithin max (stayBy out (t, ook) .0)
-stay-within max t out ook h o = record { train-within = h; out-within = o }
-
-pub end-within : (max : ℕ) → max < 2 ^ 32 → (next : Next) (t : Train) (high : Float) (out : Out) (ook : List ℕ) → TrainWithin max t → OutWithin max out → DoneWithin max (endBy next (endTrainOf t high out ook) .0)
-end-within max fits next t high out ook h o = record { train-within = end-train-within max fits t high out ook h o .0; out-within = end-train-within max fits t high out ook h o .1 }
-
-module _ (p : Settings) (fits : p .«max_pulses» < 2 ^ 32) where
-  pushed-within : (high : Float) (out : Out) (q : Pushed × List ℕ) → TrainWithin (p .«max_pulses») (q .0 .train) → OutWithin (p .«max_pulses») out → DoneWithin (p .«max_pulses») (pushedBy high out q .0)
-  pushed-within high out q h o =
-      either (λ (d : Done × List ℕ). DoneWithin (p .«max_pulses») (d .0)) (q .0 .fits)
-      (stay-within (p .«max_pulses») (q .0 .train) out (q .1) h o)
-      (end-within (p .«max_pulses») fits Idle (q .0 .train) high out (q .1) h o)
-
-  pub pulse-done-within : (t : Train) (pac : C32) (high : Float) (out : Out) (len : Steps) (end : Float) (ook : List ℕ) → TrainWithin (p .«max_pulses») t → OutWithin (p .«max_pulses») out → DoneWithin (p .«max_pulses») (pulseDoneOf p t pac high out len end ook .0)
-  unfolding pulseDoneOf
-  pulse-done-within t pac high out len end ook h o =
-      let n : Train = withLongest (longerOf (t .longest) len) (withEnd (stepOf end) t) in
-      either (λ (d : Done × List ℕ). DoneWithin (p .«max_pulses») (d .0)) (eqb (p .mode) 1)
-      (stay-within (p .«max_pulses») (withStarted 0 (withEnd (stepOf end) t)) out ook (omega arith) o)
-      (pushed-within high out (pushPulseOf (p .«max_pulses») n pac len ook) (push-within (p .«max_pulses») n pac len ook (omega arith)) o)

@@ -1,14 +1,13 @@
 -- `refine`: the second stage of an edge, found again in the ring of the last 32 envelopes (source document 000).
-use Prim.Native.Nat.{ℕ, zero, suc, min, max, _-_, _%_, _<_, _≤_}
+use Prim.Native.Nat.{ℕ, zero, suc, min, max, _-_, _%_}
 use mathlib.Core.Bool.{Bool, cond}
 use mathlib.Core.List.{List}
-use mathlib.Core.Path.{_≡_}
-use native.Mathlib.Omega.{arith}
 use lib.ListN.{getD}
 use lib.Dec.{leb}
 use lib.Ieee.{Float, nan, binary32, add, sub, mul, neg, lt, ofBits}
-use Rattle.arith.specs.Root.{sqrtOf}
-use Rattle.arith.specs.Leaves.{zero32, edgeOf, crossOf}
+use Rattle.root.specs.Root.{sqrtOf}
+use Rattle.ieee.specs.Constants.{zero32}
+use Rattle.arith.specs.Leaves.{edgeOf, crossOf}
 use Rattle.ook.specs.declared.Env.{Env}
 
 -- the level of half the signal amplitude over the noise: sqrtf(0.25 * high * high + NOISE_POWER * noise * noise)
@@ -63,15 +62,4 @@ refineInOf ring t on lo idx «t_run» = cond (leb idx lo) «t_run» (crossAt rin
 -- refine, of a burst whose run is s
 unfoldable pub refineOf : List Float → ℕ → Float → Float → Bool → ℕ → ℕ → Env → Float
 refineOf ring «min_steps» high noise on «lead_at» idx s =
-    refineInOf ring (refineLevelOf high noise) on (refineLoOf «min_steps» (s .«ref_idx») «lead_at» idx) idx (s .times .«t_run»)
-
--- a turn of the loop, and its end
-pub split-turn : (ring : List Float) (t : Float) (on : Bool) (lo j : ℕ) (sum best : Float) (split : ℕ) → lo < j →
-    splitFrom ring t on (j - lo) j sum best split
-    ≡ splitFrom ring t on (j - 1 - lo) (j - 1) (sumAt ring t on j sum) (bestAt best (sumAt ring t on j sum)) (splitAt best (sumAt ring t on j sum) j split)
-unfolding splitFrom
-split-turn ring t on lo j sum best split h = let e : j - lo ≡ suc (j - 1 - lo) = omega arith in rw e
-
-pub split-end : (ring : List Float) (t : Float) (on : Bool) (lo j : ℕ) (sum best : Float) (split : ℕ) → j ≤ lo → splitFrom ring t on (j - lo) j sum best split ≡ split
-unfolding splitFrom
-split-end ring t on lo j sum best split h = let e : j - lo ≡ 0 = omega arith in rw e
+    refineInOf ring (refineLevelOf high noise) on (refineLoOf «min_steps» (s .«ref_idx») «lead_at» idx) idx (s .run .«t_run»)

@@ -1,102 +1,31 @@
 // The OOK part of the lane: the run of the envelope, its refined edges, and the train of its pulses,
-// each struct by value. What the whole lane shares (settings, answers, records) is declared here.
+// each struct by value.
 ghost use mathlib.Core.Path.{_≡_};
 ghost use Prim.Native.Nat.{_+_, _*_, _-_, _<_, min, max};
-ghost use lib.ListN.{set};
-ghost use Rattle.arith.specs.Leaves.{edgeOf, crossOf};
-ghost use Rattle.ook.specs.Counts.{satAddOf};
-ghost use Rattle.ook.specs.Counts as counts;
-ghost use Rattle.ook.specs.Answers.{nextNumberOf, nextEnvelopeOf, isStayOf, carrierKindOf, carrierFirstOf, carrierSecondOf};
-ghost use Rattle.ook.specs.Core.{carrierIn, wholeOut, numbered, wholeEnded, wholeDone};
-ghost use Rattle.ook.specs.declared.Carrier.the-variants as Carrier;
-ghost use Rattle.ook.specs.Params.{fskMinOf, refineAtOf};
-ghost use Rattle.ook.specs.Run.{lengthenOf, rejoinOf, beginRunOf, beginsOf, advanceOf, zeroIf, pacRunOf, beginEnvOf};
+ghost use Rattle.run.specs.Run.{edgeAt};
+ghost use Rattle.shared.specs.Core.{wholeOut};
+ghost use Rattle.ook.specs.Core.{wholeEnded, wholeDone};
+ghost use Rattle.ook.specs.Run.{advanceOf, zeroIf, pacRunOf, beginEnvOf};
 ghost use Rattle.ook.specs.Refine.{refineLevelOf, refineLoOf, excessOf, bestAt, splitAt, bestSplitOf, refineInOf, refineOf};
 ghost use Rattle.ook.specs.Train.{pushPulseOf, closeGapOf, emptyTrainOf, finishOf, endTrainOf, longerOf, pushedBy, pulseDoneOf, gapRatioExceededOf};
 use arith::C32;
 use arith::Steps;
+use run::Crossing;
+use run::Run;
+use shared::Next;
+use shared::Out;
+use shared::OutCore;
+use shared::Settings;
 
-// ---- what the lane shares
+// ---- what the run and the train are
 
-// mode: 0 OOK, 1 FSK, 2 Auto. carry: 1 where widths are taken by boundaries.
-pub struct Settings {
-    pub mode: u32,
-    pub min_steps: u32,
-    pub gap_steps: u32,
-    pub pre_timeout: u32,
-    pub long_steps: u32,
-    pub max_pulses: u32,
-    pub alpha: f32,
-    pub gap_ratio: f32,
-    pub fsk_delta: f32,
-    pub fsk_split: f32,
-    pub carry: u32,
-}
-
-// What a call asks for: to stay, to be idle, or to be idle at an envelope.
-pub enum Next {
-    Stay,
-    Idle,
-    IdleAt(f32),
-}
-
-// A record's carrier: an angle, or the two sums whose angle it is, real first.
-pub enum Carrier {
-    Angle(f32),
-    Vector(f32, f32),
-}
-
-// The record of a train or a frame; state is 1 where it decides one, cut is 0 or 1, fsk is its kind. The serial
-// is that of the call that returned it; 0, in a record of no call, matches no lane.
-pub struct Out {
-    pub index: u64,
-    pub end: u64,
-    pub state: u32,
-    pub cut: u32,
-    pub pairs: u32,
-    pub level: f32,
-    pub fsk: u32,
-    pub carrier: Carrier,
-    pub serial: u64,
-}
-
-// The same in the core: the carrier as a number and two floats, which fit between the numbers around them (`carrierIn`).
-pub struct Flat {
-    pub kind: u32,
-    pub first: f32,
-    pub second: f32,
-}
-
-pub struct OutCore {
-    pub index: u64,
-    pub end: u64,
-    pub state: u32,
-    pub cut: u32,
-    pub pairs: u32,
-    pub level: f32,
-    pub fsk: u32,
-    pub carrier: Flat,
-}
-
-// The run of the envelope.
-pub struct Run {
-    pub level: u32,
-    pub run_len: u32,
-    pub confirmed: u32,
-    pub prev_len: u32,
-}
-
-// The edges of the run and of the one before, refined (t) and as the envelope crossed (c).
-pub struct Times {
-    pub t_run: f64,
-    pub t_prev: f64,
-    pub c_run: f64,
-    pub c_prev: f64,
-}
-
+// The run of the envelope, whose edge t_run is refined once the run is long enough, and what that needs.
 pub struct Env {
     pub run: Run,
-    pub times: Times,
+    // The edges of the run and of the one before as the envelope crossed: by them a train starts and ends, refined or not.
+    pub c_run: f64,
+    pub c_prev: f64,
+    // The sample at which the envelope crossed, and 1 while the edge waits for its refinement.
     pub ref_idx: u64,
     pub ref_pending: u32,
 }
@@ -144,277 +73,36 @@ pub struct DoneCore {
     pub out: OutCore,
 }
 
-// ---- whole numbers
-
-pub fn sat_add(x: u32, y: u32) -> u32
-    ensures { λ r. ⌜ r ≡ satAddOf x y ⌝ }
-{
-    if x <= 4294967295 - y {
-        return x + y;
-    }
-    4294967295
-}
-
-pub fn sat_sub(x: u64, y: u64) -> u64
-    ensures { λ r. ⌜ r ≡ x - y ⌝ }
-{
-    if y <= x {
-        return x - y;
-    }
-    0
-}
-
-// One more, wrapping: the counts stay far below the limit (`inc-exact`).
-pub fn inc(n: u32) -> u32
-    ensures { λ r. ⌜ r ≡ counts.inc n ⌝ }
-{
-    std::num::wrapping_add_u32(n, 1)
-}
-
-pub fn bit(b: bool) -> u32
-    ensures { λ r. ⌜ r ≡ counts.bit b ⌝ }
-{
-    if b {
-        return 1;
-    }
-    0
-}
-
-// A slot past the end is not written.
-pub fn put(pairs: &mut [u32], i: usize, v: u32)
-    ensures { λ _. ⌜ now (pairs .exit) ≡ set (now (pairs .entry)) i v ⌝ }
-{
-    if i < pairs.len() {
-        pairs[i] = v;
-    }
-}
-
-// ---- document 01's numbers of the two enums
-
-pub fn next_number(n: Next) -> u32
-    ensures { λ r. ⌜ r ≡ nextNumberOf n ⌝ }
-{
-    match n {
-        Next::Stay => 0,
-        Next::Idle => 1,
-        Next::IdleAt(_) => 2,
-    }
-}
-
-pub fn next_envelope(n: Next) -> f32
-    ensures { λ r. ⌜ r ≡ nextEnvelopeOf n ⌝ }
-{
-    match n {
-        Next::Stay => 0.0,
-        Next::Idle => 0.0,
-        Next::IdleAt(e) => e,
-    }
-}
-
-pub fn is_stay(n: Next) -> bool
-    ensures { λ r. ⌜ r ≡ isStayOf n ⌝ }
-{
-    next_number(n) == 0
-}
-
-pub fn carrier_kind(c: Carrier) -> u32
-    ensures { λ r. ⌜ r ≡ carrierKindOf c ⌝ }
-{
-    match c {
-        Carrier::Angle(_) => 1,
-        Carrier::Vector(_, _) => 0,
-    }
-}
-
-pub fn carrier_first(c: Carrier) -> f32
-    ensures { λ r. ⌜ r ≡ carrierFirstOf c ⌝ }
-{
-    match c {
-        Carrier::Angle(a) => a,
-        Carrier::Vector(re, _) => re,
-    }
-}
-
-pub fn carrier_second(c: Carrier) -> f32
-    ensures { λ r. ⌜ r ≡ carrierSecondOf c ⌝ }
-{
-    match c {
-        Carrier::Angle(_) => 0.0,
-        Carrier::Vector(_, im) => im,
-    }
-}
-
-// ---- a carrier in the core, and a record
-
-pub fn angle(x: f32) -> Flat
-    ensures { λ r. ⌜ carrierIn r ≡ Carrier.Angle x ⌝ }
-{
-    Flat {
-        kind: 1,
-        first: x,
-        second: 0.0,
-    }
-}
-
-pub fn vector(re: f32, im: f32) -> Flat
-    ensures { λ r. ⌜ carrierIn r ≡ Carrier.Vector re im ⌝ }
-{
-    Flat {
-        kind: 0,
-        first: re,
-        second: im,
-    }
-}
-
-fn flat_of(c: Carrier) -> Flat
-    ensures { λ r. ⌜ carrierIn r ≡ c ⌝ }
-{
-    match c {
-        Carrier::Angle(x) => angle(x),
-        Carrier::Vector(re, im) => vector(re, im),
-    }
-}
-
-fn carrier_in(f: Flat) -> Carrier
-    ensures { λ r. ⌜ r ≡ carrierIn f ⌝ }
-{
-    let is_angle = f.kind == 1;
-    if is_angle {
-        return Carrier::Angle(f.first);
-    }
-    Carrier::Vector(f.first, f.second)
-}
-
-// The record of a caller, made from that of the core and its serial, and back.
-pub fn whole_out(o: OutCore, serial: u64) -> Out
-    ensures { λ r. ⌜ r ≡ numbered serial (wholeOut o) ⌝ }
-{
-    let f = o.carrier;
-    let carrier = carrier_in(f);
-    Out {
-        index: o.index,
-        end: o.end,
-        state: o.state,
-        cut: o.cut,
-        pairs: o.pairs,
-        level: o.level,
-        fsk: o.fsk,
-        carrier,
-        serial,
-    }
-}
-
-pub fn core_out(o: Out) -> OutCore
-    ensures { λ r. ⌜ numbered (o .serial) (wholeOut r) ≡ o ⌝ }
-{
-    let c = o.carrier;
-    let carrier = flat_of(c);
-    OutCore {
-        index: o.index,
-        end: o.end,
-        state: o.state,
-        cut: o.cut,
-        pairs: o.pairs,
-        level: o.level,
-        fsk: o.fsk,
-        carrier,
-    }
-}
-
-// ---- what follows min_steps
-
-pub fn fsk_min(min_steps: u32) -> u32
-    ensures { λ r. ⌜ r ≡ fskMinOf «min_steps» ⌝ }
-{
-    if min_steps < 4 {
-        return 2;
-    }
-    if 16 <= min_steps {
-        return 8;
-    }
-    min_steps / 2
-}
-
-pub fn refine_at(min_steps: u32) -> u32
-    ensures { λ r. ⌜ r ≡ refineAtOf «min_steps» ⌝ }
-{
-    if min_steps < 26 {
-        return min_steps;
-    }
-    26
-}
-
 // ---- the run of the envelope
 
-pub fn lengthen(s: Env) -> Env
-    ensures { λ r. ⌜ r ≡ lengthenOf s ⌝ }
+// The run after a sample whose level is `on`: a glitch takes its edge back, and the edge of a run that begins waits for its refinement.
+pub fn advance(same: bool, short: bool, env: Env, on: bool, c: Crossing) -> Env
+    ensures { λ r. ⌜ r ≡ advanceOf same short env on (edgeAt c) (c .idx) ⌝ }
 {
-    let n = sat_add(s.run.run_len, 1);
-    let mut m = s;
-    m.run.run_len = n;
-    m
-}
-
-pub fn rejoin(s: Env, on: bool) -> Env
-    ensures { λ r. ⌜ r ≡ rejoinOf s on ⌝ }
-{
-    let n = sat_add(sat_add(s.run.prev_len, s.run.run_len), 1);
-    let level = bit(on);
-    let mut m = s;
-    m.run.level = level;
-    m.run.run_len = n;
-    m.times.t_run = s.times.t_prev;
-    m.times.c_run = s.times.c_prev;
-    m.run.confirmed = 1;
-    m.ref_pending = 0;
-    m
-}
-
-// Its effect on the sums is in pac_run, that on presence belongs to the whole sample.
-pub fn begin_run(s: Env, tc: f64, idx: u64, on: bool) -> Env
-    ensures { λ r. ⌜ r ≡ beginRunOf s tc idx on ⌝ }
-{
-    let level = bit(on);
+    let r = env.run;
+    if same {
+        let q = run::lengthen(r);
+        let mut n = env;
+        n.run = q;
+        return n;
+    }
+    if short {
+        let q = run::rejoin(r, shared::bit(on));
+        let mut n = env;
+        n.run = q;
+        n.c_run = env.c_prev;
+        n.ref_pending = 0;
+        return n;
+    }
+    let tc = run::edge_at(c);
+    let q = run::begin_run(r, shared::bit(on), tc);
     Env {
-        run: Run {
-            level,
-            run_len: 1,
-            confirmed: 0,
-            prev_len: s.run.run_len,
-        },
-        times: Times {
-            t_run: tc,
-            t_prev: s.times.t_run,
-            c_run: tc,
-            c_prev: s.times.c_run,
-        },
-        ref_idx: idx,
+        run: q,
+        c_run: tc,
+        c_prev: env.c_run,
+        ref_idx: c.idx,
         ref_pending: 1,
     }
-}
-
-pub fn begins(r: Run, on: bool) -> bool
-    ensures { λ b. ⌜ b ≡ beginsOf r on ⌝ }
-{
-    let same = bit(on) == r.level;
-    if same {
-        return false;
-    }
-    r.confirmed != 0
-}
-
-pub fn advance(s: Env, on: bool, ep: f32, e: f32, thr: f32, idx: u64) -> Env
-    ensures { λ r. ⌜ r ≡ advanceOf s on (edgeOf idx (crossOf ep e thr)) idx ⌝ }
-{
-    let same = bit(on) == s.run.level;
-    if same {
-        return lengthen(s);
-    }
-    let short = s.run.confirmed == 0;
-    if short {
-        return rejoin(s, on);
-    }
-    begin_run(s, arith::edge(idx, arith::cross(ep, e, thr)), idx, on)
 }
 
 fn zero_if(b: bool, pac: C32) -> C32
@@ -426,47 +114,43 @@ fn zero_if(b: bool, pac: C32) -> C32
     pac
 }
 
-pub fn pac_run(r: Run, on: bool, pac: C32) -> C32
-    ensures { λ q. ⌜ q ≡ pacRunOf r on pac ⌝ }
+// The pulse's sum: a short pulse leaves nothing, and a pulse that begins starts from 0.
+pub fn pac_run(same: bool, short: bool, on: bool, pac: C32) -> C32
+    ensures { λ q. ⌜ q ≡ pacRunOf same short on pac ⌝ }
 {
-    let same = bit(on) == r.level;
     if same {
         return pac;
     }
-    let short = r.confirmed == 0;
     if short {
         return zero_if(!on, pac);
     }
     zero_if(on, pac)
 }
 
-pub fn begin_env(t: f64, s: Env) -> Env
-    ensures { λ r. ⌜ r ≡ beginEnvOf t s ⌝ }
+// A burst begins at the time t; ref_idx and ref_pending stay as an earlier one left them, as in the Rust.
+pub fn begin_env(t: f64, env: Env) -> Env
+    ensures { λ r. ⌜ r ≡ beginEnvOf t env ⌝ }
 {
+    let r = run::start_run(t);
     Env {
-        run: Run {
-            level: 0,
-            run_len: 0,
-            confirmed: 1,
-            prev_len: 0,
-        },
-        times: Times {
-            t_run: t,
-            t_prev: t,
-            c_run: t,
-            c_prev: t,
-        },
-        ref_idx: s.ref_idx,
-        ref_pending: s.ref_pending,
+        run: r,
+        c_run: t,
+        c_prev: t,
+        ref_idx: env.ref_idx,
+        ref_pending: env.ref_pending,
     }
 }
 
 // ---- the refinement of an edge
 
+// The noise's part in the level of half the signal: 3/4 of its power, which is 4/pi of the square of its mean envelope.
+const NOISE_POWER: f32 = 0.95492965;
+
+// Half the signal's amplitude over the noise: the midpoint of an edge, which the noise does not move towards the plateau.
 pub fn refine_level(high: f32, noise: f32) -> f32
     ensures { λ r. ⌜ r ≡ refineLevelOf high noise ⌝ }
 {
-    arith::sqrt(0.25 * high * high + 0.95492965 * noise * noise)
+    root::sqrt(0.25 * high * high + NOISE_POWER * noise * noise)
 }
 
 fn min_of(x: u64, y: u64) -> u64
@@ -487,16 +171,18 @@ fn max_of(x: u64, y: u64) -> u64
     x
 }
 
+// Where the search starts: a few samples before the crossing and after the edge before, in the burst, and in the ring.
 pub fn refine_lo(min_steps: u32, ref_idx: u64, lead_at: u64, idx: u64) -> u64
     ensures { λ r. ⌜ r ≡ refineLoOf «min_steps» «ref_idx» «lead_at» idx ⌝ }
 {
-    let back = min_of(6, sat_sub(min_steps as u64, 1));
+    let back = min_of(6, shared::sat_sub(min_steps as u64, 1));
     max_of(
-        max_of(sat_sub(ref_idx, back), sat_sub(lead_at, 7)),
-        sat_sub(idx, 31),
+        max_of(shared::sat_sub(ref_idx, back), shared::sat_sub(lead_at, 7)),
+        shared::sat_sub(idx, 31),
     )
 }
 
+// What a sample adds to the sum of those after the edge: how far it is on their side of the level.
 fn excess(on: bool, m: f32, t: f32) -> f32
     ensures { λ r. ⌜ r ≡ excessOf on m t ⌝ }
 {
@@ -526,6 +212,7 @@ fn split_at(best: f32, sum: f32, j: u64, split: u64) -> u64
     split
 }
 
+// The split that gives the samples after it the largest sum: the change point of a step at the level.
 fn best_split(ring: &[f32; 32], t: f32, on: bool, lo: u64, idx: u64) -> u64
     ensures { λ r. ⌜ r ≡ bestSplitOf (now (ring .entry)) t on lo idx ⌝ }
 {
@@ -543,6 +230,7 @@ fn best_split(ring: &[f32; 32], t: f32, on: bool, lo: u64, idx: u64) -> u64
     split
 }
 
+// The crossing at the split; an empty window leaves the edge as it was.
 fn refine_in(ring: &[f32; 32], t: f32, on: bool, lo: u64, idx: u64, t_run: f64) -> f64
     ensures { λ r. ⌜ r ≡ refineInOf (now (ring .entry)) t on lo idx «t_run» ⌝ }
 {
@@ -552,10 +240,11 @@ fn refine_in(ring: &[f32; 32], t: f32, on: bool, lo: u64, idx: u64, t_run: f64) 
     }
     let s = best_split(ring, t, on, lo, idx);
     let i = (s % 32) as usize;
-    let k = (sat_sub(s, 1) % 32) as usize;
+    let k = (shared::sat_sub(s, 1) % 32) as usize;
     arith::edge(s, arith::cross(ring[k], ring[i], t))
 }
 
+// The edge found again in the envelopes around it, since the low-pass delays the crossing.
 pub fn refine(
     ring: &[f32; 32],
     min_steps: u32,
@@ -570,11 +259,12 @@ pub fn refine(
 {
     let t = refine_level(high, noise);
     let lo = refine_lo(min_steps, s.ref_idx, lead_at, idx);
-    refine_in(ring, t, on, lo, idx, s.times.t_run)
+    refine_in(ring, t, on, lo, idx, s.run.t_run)
 }
 
 // ---- the train
 
+// A full train takes no pulse and is marked; else the pulse goes into its slot and waits for its gap.
 pub fn push_pulse(max_pulses: u32, t: Train, pac: C32, len: Steps, ook: &mut [u32]) -> Pushed
     ensures { λ r. ⌜ (r, now (ook .exit)) ≡ pushPulseOf «max_pulses» t pac len (now (ook .entry)) ⌝ }
 {
@@ -587,7 +277,7 @@ pub fn push_pulse(max_pulses: u32, t: Train, pac: C32, len: Steps, ook: &mut [u3
             train: n,
         };
     }
-    put(ook, 2 * (t.ook_n as usize), len.0);
+    shared::put(ook, 2 * (t.ook_n as usize), len.0);
     let acc = C32 {
         re: t.acc.re + pac.re,
         im: t.acc.im + pac.im,
@@ -601,13 +291,14 @@ pub fn push_pulse(max_pulses: u32, t: Train, pac: C32, len: Steps, ook: &mut [u3
     }
 }
 
+// The gap of the pulse that waits: the pair is whole.
 pub fn close_gap(t: Train, gap: Steps, ook: &mut [u32]) -> Train
     ensures { λ r. ⌜ (r, now (ook .exit)) ≡ closeGapOf t gap (now (ook .entry)) ⌝ }
 {
     let waits = t.open == 1;
     if waits {
-        put(ook, 2 * (t.ook_n as usize) + 1, gap.0);
-        let k = inc(t.ook_n);
+        shared::put(ook, 2 * (t.ook_n as usize) + 1, gap.0);
+        let k = shared::inc(t.ook_n);
         let mut n = t;
         n.ook_n = k;
         n.open = 0;
@@ -616,6 +307,7 @@ pub fn close_gap(t: Train, gap: Steps, ook: &mut [u32]) -> Train
     t
 }
 
+// No pulses; start and pulse_end stay, as in the Rust.
 pub fn empty_train(t: Train) -> Train
     ensures { λ r. ⌜ r ≡ emptyTrainOf t ⌝ }
 {
@@ -633,14 +325,15 @@ pub fn empty_train(t: Train) -> Train
     }
 }
 
+// Pairs make a record, and the train is empty then.
 fn finish(t: Train, high: f32, out: OutCore) -> EndedCore
     ensures { λ r. ⌜ wholeEnded r ≡ finishOf t high (wholeOut out) ⌝ }
 {
     let empty = empty_train(t);
     let some = t.ook_n > 0;
     if some {
-        let cut = bit(t.truncated == 1);
-        let carrier = vector(t.acc.re, t.acc.im);
+        let cut = shared::bit(t.truncated == 1);
+        let carrier = shared::vector(t.acc.re, t.acc.im);
         let o = OutCore {
             index: t.start,
             end: t.pulse_end,
@@ -659,6 +352,7 @@ fn finish(t: Train, high: f32, out: OutCore) -> EndedCore
     EndedCore { train: empty, out }
 }
 
+// The train ends: a pulse that waits gets the gap 0.
 pub fn end_train(t: Train, high: f32, out: OutCore, ook: &mut [u32]) -> EndedCore
     ensures { λ r. ⌜ (wholeEnded r, now (ook .exit)) ≡ endTrainOf t high (wholeOut out) (now (ook .entry)) ⌝ }
 {
@@ -699,6 +393,7 @@ fn after_push(q: Pushed, high: f32, out: OutCore, ook: &mut [u32]) -> DoneCore
     }
 }
 
+// A pulse is final. In FSK mode it is not kept: frames alone are asked for there.
 pub fn pulse_done(
     p: Settings,
     t: Train,
@@ -729,6 +424,7 @@ pub fn pulse_done(
     after_push(q, high, out, ook)
 }
 
+// A gap so much longer than the longest pulse ends the train.
 pub fn gap_ratio_exceeded(gap_ratio: f32, longest: Steps, n: u32) -> bool
     ensures { λ r. ⌜ r ≡ gapRatioExceededOf «gap_ratio» longest n ⌝ }
 {

@@ -2,7 +2,7 @@
 use mathlib.Core.List.{List}
 use lib.Ieee.{Float}
 use Rattle.fsk.specs.Core.{wholeFrame}
-use Rattle.frame.specs.Core.{wholeBody}
+use Rattle.frame_end.specs.Core.{wholeBody}
 use Rattle.presence.specs.declared.Advanced.{Advanced}
 use Rattle.presence.specs.declared.AdvancedCore.{AdvancedCore}
 use Rattle.presence.specs.declared.Present.{Present}

@@ -5,21 +5,24 @@ use mathlib.Core.List.{List}
 use lib.Dec.{ltb, leb, eqb}
 use lib.IntN.{pos}
 use lib.Ieee.{Float, binary64, add, sub, le, ofBits, ofInt}
-use Rattle.arith.specs.Leaves.{zero64, one64, edgeOf, crossOf}
-use Rattle.ook.specs.Counts.{bit}
+use Rattle.ieee.specs.Constants.{zero64, one64}
+use Rattle.arith.specs.Leaves.{edgeOf, crossOf}
+use Rattle.shared.specs.Counts.{bit}
+use Rattle.run.specs.Run.{withConfirmed, withStart, dueOf}
+use Rattle.run.specs.declared.Run.{Run}
 use Rattle.ook.specs.Train.{endTrainOf}
 use Rattle.ook.specs.declared.Ended.{Ended}
-use Rattle.ook.specs.declared.Settings.{Settings}
-use Rattle.ook.specs.declared.Next.{Next}
-use Rattle.ook.specs.declared.Next.the-variants.{Stay, IdleAt}
-use Rattle.fsk.specs.Makers.{withFull, withStart, withRuns, withDone}
+use Rattle.shared.specs.declared.Settings.{Settings}
+use Rattle.shared.specs.declared.Next.{Next}
+use Rattle.shared.specs.declared.Next.the-variants.{Stay, IdleAt}
+use Rattle.fsk.specs.Makers.{withFull, withRuns, withDone}
+use Rattle.fsk.specs.Makers as frames
 use Rattle.fsk.specs.declared.Frame.{Frame}
-use Rattle.slicer.specs.Tone.{upperOf}
-use Rattle.slicer.specs.Sample.{fskSampleOf}
-use Rattle.frame.specs.Done.{bodyOf, withFrame, frameDoneOf}
-use Rattle.frame.specs.declared.Body.{Body}
-use Rattle.presence.specs.Move.{presThrOf, movePresOf, moveFrameOf, withConfirmed}
-use Rattle.presence.specs.Move as move
+use Rattle.fsk_sample.specs.Tone.{upperOf}
+use Rattle.fsk_sample.specs.Sample.{fskSampleOf}
+use Rattle.frame_end.specs.Done.{bodyOf, withFrame, frameDoneOf}
+use Rattle.frame_end.specs.declared.Body.{Body}
+use Rattle.presence.specs.Move.{presThrOf, movePresOf, moveFrameOf, withRun}
 use Rattle.presence.specs.declared.Pres.{Pres}
 use Rattle.presence.specs.declared.Inputs.{Inputs}
 use Rattle.presence.specs.declared.Advanced.{Advanced}
@@ -35,21 +38,21 @@ abbrev pub advanceBy : Bool → Pres → Frame × List ℕ → Advanced × List 
 advanceBy on s q = (record { on = on; pres = s; frame = q .0 }, q .1)
 
 abbrev pub advanceAt : Settings → Inputs → Pres → Frame → Bool → Float → List ℕ → Advanced × List ℕ
-advanceAt p a s fr on tc fsk = advanceBy on (movePresOf s (bit on) tc) (sliceIfOf p a on (moveFrameOf s on (bit on) tc fr) fsk)
+advanceAt p a s fr on tc fsk =
+    let same : Bool = eqb (bit on) (s .run .level) in
+    let short : Bool = eqb (s .run .confirmed) 0 in
+    advanceBy on (movePresOf same short s (bit on) tc) (sliceIfOf p a on (moveFrameOf same short on (s .run .«run_len») tc fr) fsk)
 
 abbrev pub advanceThr : Settings → Inputs → Pres → Frame → Float → List ℕ → Advanced × List ℕ
-advanceThr p a s fr thr fsk = advanceAt p a s fr (upperOf (eqb (s .«p_level») 1) (a .e) thr) (edgeOf (a .idx) (crossOf (a .ep) (a .e) thr)) fsk
+advanceThr p a s fr thr fsk = advanceAt p a s fr (upperOf (eqb (s .run .level) 1) (a .e) thr) (edgeOf (a .idx) (crossOf (a .ep) (a .e) thr)) fsk
 
 unfoldable pub advanceOf : Settings → Inputs → Pres → Frame → List ℕ → Advanced × List ℕ
-advanceOf p a s fr fsk = advanceThr p a s fr (presThrOf (eqb (s .«p_level») 1) (a .noise) (s .«p_factor»)) fsk
+advanceOf p a s fr fsk = advanceThr p a s fr (presThrOf (eqb (s .run .level) 1) (a .noise) (s .«p_factor»)) fsk
 
 -- ---- a presence or an absence of at least min_steps is confirmed; an absence then ends the presence before it
 
-unfoldable pub dueOf : Pres → ℕ → Bool
-dueOf s «min_steps» = cond (eqb (s .«p_confirmed») 0) (leb «min_steps» (s .«p_run»)) false
-
 unfoldable pub sureIfOf : Bool → Pres → Pres
-sureIfOf due s = cond due (withConfirmed 1 s) s
+sureIfOf due s = cond due (withRun (withConfirmed 1 (s .run)) s) s
 
 unfoldable pub endsOf : Bool → Bool → ℕ → ℕ → Bool
 endsOf due on «p_prev» «min_steps» = cond due (cond on false (leb «min_steps» «p_prev»)) false
@@ -62,10 +65,10 @@ inWindowOf x = cond (le zero64 x) (le x (ofBits binary64 0x4010_0000_0000_0000))
 unfoldable pub endOf : ℕ → Float → Float → Float
 endOf level «c_run» «p_t_run» = cond (eqb level 0) (cond (inWindowOf (sub binary64 «p_t_run» «c_run»)) «c_run» «p_t_run») «p_t_run»
 
-unfoldable pub endIfOf : Bool → Settings → Inputs → Pres → Body → List ℕ → List ℕ → Body × List ℕ × List ℕ
-endIfOf ends p a s b ook fsk =
+unfoldable pub endIfOf : Bool → Settings → Inputs → Run → Body → List ℕ → List ℕ → Body × List ℕ × List ℕ
+endIfOf ends p a r b ook fsk =
     cond ends
-    (frameDoneOf p b (a .high) (a .pac) (s .«p_t_prev») (endOf (a .level) (a .«c_run») (s .«p_t_run»)) ook fsk)
+    (frameDoneOf p b (a .high) (a .pac) (r .«t_prev») (endOf (a .level) (a .«c_run») (r .«t_run»)) ook fsk)
     (b, ook, fsk)
 
 -- ---- a carrier: the frame so far is kept, cut, and the train ends too
@@ -91,8 +94,8 @@ presentBy next s q = (record { next = next; pres = s; body = q .0 }, q .1, q .2)
 
 unfoldable pub carrierIfOf : Settings → Inputs → Bool → Pres → Body → List ℕ → List ℕ → Present × List ℕ × List ℕ
 carrierIfOf p a on s b ook fsk =
-    cond (longOf on (s .«p_run») (p .«long_steps»))
-    (presentBy (IdleAt (a .e)) s (endCarrierOf p a (s .«p_t_run») b ook fsk))
+    cond (longOf on (s .run .«run_len») (p .«long_steps»))
+    (presentBy (IdleAt (a .e)) s (endCarrierOf p a (s .run .«t_run») b ook fsk))
     (record { next = Stay; pres = s; body = b }, ook, fsk)
 
 -- ---- the whole
@@ -101,10 +104,10 @@ abbrev pub carrierBy : Settings → Inputs → Bool → Pres → Body × List �
 carrierBy p a on s q = carrierIfOf p a on s (q .0) (q .1) (q .2)
 
 abbrev pub confirmBy : Settings → Inputs → Bool → Pres → Body → Bool → List ℕ → List ℕ → Present × List ℕ × List ℕ
-confirmBy p a on s b due ook fsk = carrierBy p a on (sureIfOf due s) (endIfOf (endsOf due on (s .«p_prev») (p .«min_steps»)) p a s b ook fsk)
+confirmBy p a on s b due ook fsk = carrierBy p a on (sureIfOf due s) (endIfOf (endsOf due on (s .run .«prev_len») (p .«min_steps»)) p a (s .run) b ook fsk)
 
 abbrev pub afterAdvance : Settings → Inputs → Body → List ℕ → Advanced × List ℕ → Present × List ℕ × List ℕ
-afterAdvance p a b ook q = confirmBy p a (q .0 .on) (q .0 .pres) (withFrame (q .0 .frame) b) (dueOf (q .0 .pres) (p .«min_steps»)) ook (q .1)
+afterAdvance p a b ook q = confirmBy p a (q .0 .on) (q .0 .pres) (withFrame (q .0 .frame) b) (dueOf (q .0 .pres .run) (p .«min_steps»)) ook (q .1)
 
 -- `Next::Stay` stands for the Rust's `None`
 unfoldable pub presenceOf : Settings → Inputs → Pres → Body → List ℕ → List ℕ → Present × List ℕ × List ℕ
@@ -120,6 +123,6 @@ nearStartOf «p_level» «fsk_phase» «fsk_runs» lead =
 -- then the edge is the better start of presence and frame
 unfoldable pub snapOf : Pres → Frame → Float → Snapped
 snapOf s fr tc =
-    cond (nearStartOf (s .«p_level») (fr .«fsk_phase») (fr .done .«fsk_runs») (sub binary64 tc (s .«p_t_run»)))
-    (record { pres = move.withStart tc s; frame = withRuns (withStart tc (fr .runs)) fr })
+    cond (nearStartOf (s .run .level) (fr .«fsk_phase») (fr .done .«fsk_runs») (sub binary64 tc (s .run .«t_run»)))
+    (record { pres = withRun (withStart tc (s .run)) s; frame = withRuns (frames.withRun (withStart tc (fr .runs .run)) (fr .runs)) fr })
     (record { pres = s; frame = fr })

@@ -1,31 +1,28 @@
 // The presence machine of the modes FSK and Auto: `presence` of the Rust, and what `begin_run` does to it.
 ghost use mathlib.Core.Path.{_≡_};
 ghost use Prim.Native.Nat.{_+_, _*_, _-_, _<_};
-ghost use Rattle.presence.specs.Move.{presThrOf, lengthenOf, rejoinOf, beginRunOf, movePresOf, extendOf, moveFrameOf};
-ghost use Rattle.presence.specs.Presence.{sliceIfOf, dueOf, sureIfOf, endsOf, inWindowOf, endOf, endIfOf, longOf, endCarrierOf, carrierIfOf, advanceOf, presenceOf, nearStartOf, snapOf};
-ghost use Rattle.arith.specs.Leaves.{edgeOf, crossOf};
+ghost use Rattle.presence.specs.Move.{presThrOf, movePresOf, extendOf, moveFrameOf};
+ghost use Rattle.presence.specs.Presence.{sliceIfOf, sureIfOf, endsOf, inWindowOf, endOf, endIfOf, longOf, endCarrierOf, carrierIfOf, advanceOf, presenceOf, nearStartOf, snapOf};
+ghost use Rattle.run.specs.Run.{edgeAt};
 ghost use Rattle.fsk.specs.Core.{wholeFrame};
-ghost use Rattle.frame.specs.Core.{wholeBody};
+ghost use Rattle.frame_end.specs.Core.{wholeBody};
 ghost use Rattle.presence.specs.Core.{wholeAdvanced, wholePresent, wholeSnapped};
 ghost use mathlib.Core.List.{List};
 ghost use lib.Ieee.{Float};
 use arith::C32;
-use frame::Body;
-use frame::BodyCore;
+use frame_end::Body;
+use frame_end::BodyCore;
 use fsk::Frame;
 use fsk::FrameCore;
-use ook::Next;
-use ook::Settings;
+use run::Crossing;
+use run::Run;
+use shared::Next;
+use shared::Settings;
 
-// The run of the presence, and the trigger factor.
+// The run of the presence, which is high while the envelope is above the trigger, and the trigger as a factor of the noise.
 pub struct Pres {
-    pub p_t_run: f64,
-    pub p_t_prev: f64,
+    pub run: Run,
     pub p_factor: f32,
-    pub p_level: u32,
-    pub p_run: u32,
-    pub p_confirmed: u32,
-    pub p_prev: u32,
 }
 
 // What the presence machine reads beside its own state.
@@ -69,6 +66,7 @@ pub struct PresentCore {
     pub body: BodyCore,
 }
 
+// The trigger, an eighth (HYSTERESIS) below where the carrier is present and an eighth above where it is not.
 fn pres_thr(up: bool, noise: f32, factor: f32) -> f32
     ensures { λ r. ⌜ r ≡ presThrOf up noise factor ⌝ }
 {
@@ -78,90 +76,55 @@ fn pres_thr(up: bool, noise: f32, factor: f32) -> f32
     noise * factor * 1.125
 }
 
-fn lengthen(s: Pres) -> Pres
-    ensures { λ r. ⌜ r ≡ lengthenOf s ⌝ }
+// The run of the presence after a sample of this level.
+fn move_pres(same: bool, short: bool, s: Pres, level: u32, c: Crossing) -> Pres
+    ensures { λ r. ⌜ r ≡ movePresOf same short s level (edgeAt c) ⌝ }
 {
-    let n = ook::sat_add(s.p_run, 1);
-    let mut q = s;
-    q.p_run = n;
-    q
-}
-
-fn rejoin(s: Pres, level: u32) -> Pres
-    ensures { λ r. ⌜ r ≡ rejoinOf s level ⌝ }
-{
-    let n = ook::sat_add(ook::sat_add(s.p_prev, s.p_run), 1);
-    let mut q = s;
-    q.p_level = level;
-    q.p_run = n;
-    q.p_t_run = s.p_t_prev;
-    q.p_confirmed = 1;
-    q
-}
-
-fn begin_run(s: Pres, level: u32, tc: f64) -> Pres
-    ensures { λ r. ⌜ r ≡ beginRunOf s level tc ⌝ }
-{
-    let mut q = s;
-    q.p_prev = s.p_run;
-    q.p_t_prev = s.p_t_run;
-    q.p_t_run = tc;
-    q.p_level = level;
-    q.p_run = 1;
-    q.p_confirmed = 0;
-    q
-}
-
-fn move_pres(s: Pres, level: u32, idx: u64, ep: f32, e: f32, thr: f32) -> Pres
-    ensures { λ r. ⌜ r ≡ movePresOf s level (edgeOf idx (crossOf ep e thr)) ⌝ }
-{
-    let same = level == s.p_level;
+    let r = s.run;
     if same {
-        return lengthen(s);
+        let n = run::lengthen(r);
+        let mut q = s;
+        q.run = n;
+        return q;
     }
-    let short = s.p_confirmed == 0;
     if short {
-        return rejoin(s, level);
+        let n = run::rejoin(r, level);
+        let mut q = s;
+        q.run = n;
+        return q;
     }
-    begin_run(s, level, arith::edge(idx, arith::cross(ep, e, thr)))
+    let n = run::begin_run(r, level, run::edge_at(c));
+    let mut q = s;
+    q.run = n;
+    q
 }
 
-// A short absence inside a frame: its samples extend the frequency run.
+// The carrier was away only for a glitch: the frequency run goes on through those samples.
 fn extend(fr: FrameCore, n: u32) -> FrameCore
     ensures { λ r. ⌜ ((cs : List Float) → wholeFrame cs r ≡ extendOf (wholeFrame cs fr) n) ⌝ }
 {
-    let k = ook::sat_add(fr.runs.fsk_run, n);
+    let k = shared::sat_add(fr.runs.run.run_len, n);
     let mut q = fr;
-    q.runs.fsk_run = k;
+    q.runs.run.run_len = k;
     q
 }
 
-// What the move of the presence s does to the frame.
-fn move_frame(
-    s: Pres,
-    on: bool,
-    level: u32,
-    idx: u64,
-    ep: f32,
-    e: f32,
-    thr: f32,
-    fr: FrameCore,
-) -> FrameCore
-    ensures { λ r. ⌜ ((cs : List Float) → wholeFrame cs r ≡ moveFrameOf s on level (edgeOf idx (crossOf ep e thr)) (wholeFrame cs fr)) ⌝ }
+// What the move of the presence does to the frame: an absence of n samples that was a glitch extends its run, and a presence that
+// begins begins a frame.
+fn move_frame(same: bool, short: bool, on: bool, n: u32, c: Crossing, fr: FrameCore) -> FrameCore
+    ensures { λ r. ⌜ ((cs : List Float) → wholeFrame cs r ≡ moveFrameOf same short on n (edgeAt c) (wholeFrame cs fr)) ⌝ }
 {
-    let same = level == s.p_level;
     if same {
         return fr;
     }
-    let short = s.p_confirmed == 0;
     if short {
         if on {
-            return extend(fr, s.p_run);
+            return extend(fr, n);
         }
         return fr;
     }
     if on {
-        return fsk::begin_frame(fr, arith::edge(idx, arith::cross(ep, e, thr)));
+        return fsk::begin_frame(fr, run::edge_at(c));
     }
     fr
 }
@@ -178,7 +141,7 @@ fn slice_if(
 {
     if on {
         let d = a.d;
-        return slicer::fsk_sample(p, fr, a.high, d, a.e, a.idx, cs, fsk);
+        return fsk_sample::fsk_sample(p, fr, a.high, d, a.e, a.idx, cs, fsk);
     }
     fr
 }
@@ -194,12 +157,21 @@ fn advance(
 ) -> AdvancedCore
     ensures { λ r. ⌜ (wholeAdvanced (now (cs .exit)) r, now (fsk .exit)) ≡ advanceOf p a s (wholeFrame (now (cs .entry)) fr) (now (fsk .entry)) ⌝ }
 {
-    let up = s.p_level == 1;
+    let r = s.run;
+    let up = r.level == 1;
     let thr = pres_thr(up, a.noise, s.p_factor);
-    let on = slicer::upper_of(up, a.e, thr);
-    let level = ook::bit(on);
-    let q = move_pres(s, level, a.idx, a.ep, a.e, thr);
-    let f = move_frame(s, on, level, a.idx, a.ep, a.e, thr, fr);
+    let on = fsk_sample::upper_of(up, a.e, thr);
+    let level = shared::bit(on);
+    let c = Crossing {
+        idx: a.idx,
+        before: a.ep,
+        at: a.e,
+        thr,
+    };
+    let same = level == r.level;
+    let short = r.confirmed == 0;
+    let q = move_pres(same, short, s, level, c);
+    let f = move_frame(same, short, on, r.run_len, c, fr);
     let g = slice_if(p, a, on, f, cs, fsk);
     AdvancedCore {
         on,
@@ -208,22 +180,12 @@ fn advance(
     }
 }
 
-fn due_of(s: Pres, min_steps: u32) -> bool
-    ensures { λ r. ⌜ r ≡ dueOf s «min_steps» ⌝ }
-{
-    let open = s.p_confirmed == 0;
-    if open {
-        return s.p_run >= min_steps;
-    }
-    false
-}
-
 fn sure_if(due: bool, s: Pres) -> Pres
     ensures { λ r. ⌜ r ≡ sureIfOf due s ⌝ }
 {
     if due {
         let mut q = s;
-        q.p_confirmed = 1;
+        q.run.confirmed = 1;
         return q;
     }
     s
@@ -241,17 +203,20 @@ fn ends_of(due: bool, on: bool, prev: u32, min_steps: u32) -> bool
     false
 }
 
+// How many steps inside a frame an edge of the envelope may lie to replace the presence's.
+const EDGE_WINDOW: f64 = 4.0;
+
 fn in_window(x: f64) -> bool
     ensures { λ r. ⌜ r ≡ inWindowOf x ⌝ }
 {
     let low = 0.0 <= x;
     if low {
-        return x <= 4.0;
+        return x <= EDGE_WINDOW;
     }
     false
 }
 
-// The midpoint edge of the envelope just before is the better end.
+// Where the envelope fell right before, its edge tells the frame's end better than presence does.
 fn end_of(level: u32, c_run: f64, end: f64) -> f64
     ensures { λ r. ⌜ r ≡ endOf level «c_run» end ⌝ }
 {
@@ -270,20 +235,20 @@ fn end_if(
     ends: bool,
     p: Settings,
     a: Inputs,
-    s: Pres,
+    q: Run,
     b: BodyCore,
     ook: &mut [u32],
     fsk: &mut [u32],
 ) -> BodyCore
-    ensures { λ r. ⌜ ((cs : List Float) → (wholeBody cs r, now (ook .exit), now (fsk .exit)) ≡ endIfOf ends p a s (wholeBody cs b) (now (ook .entry)) (now (fsk .entry))) ⌝ }
+    ensures { λ r. ⌜ ((cs : List Float) → (wholeBody cs r, now (ook .exit), now (fsk .exit)) ≡ endIfOf ends p a q (wholeBody cs b) (now (ook .entry)) (now (fsk .entry))) ⌝ }
 {
     if ends {
-        let end = end_of(a.level, a.c_run, s.p_t_run);
+        let end = end_of(a.level, a.c_run, q.t_run);
         let pac = a.pac;
         // Copies: a struct that is handed on here would else stand in memory on the other way too.
-        let q = p;
+        let k = p;
         let c = b;
-        return frame::frame_done(q, c, a.high, pac, s.p_t_prev, end, ook, fsk);
+        return frame_end::frame_done(k, c, a.high, pac, q.t_prev, end, ook, fsk);
     }
     b
 }
@@ -312,7 +277,7 @@ fn end_carrier(
     m.frame.done.fsk_full = 1;
     let end = arith::u64_to_f64(a.idx) + 1.0;
     let pac = a.pac;
-    let n = frame::frame_done(p, m, a.high, pac, t_run, end, ook, fsk);
+    let n = frame_end::frame_done(p, m, a.high, pac, t_run, end, ook, fsk);
     let t = n.train;
     let o = n.out_ook;
     let e = ook::end_train(t, a.high, o, ook);
@@ -335,12 +300,12 @@ fn carrier_if(
 ) -> PresentCore
     ensures { λ r. ⌜ ((cs : List Float) → (wholePresent cs r, now (ook .exit), now (fsk .exit)) ≡ carrierIfOf p a on s (wholeBody cs b) (now (ook .entry)) (now (fsk .entry))) ⌝ }
 {
-    let long = long_of(on, s.p_run, p.long_steps);
+    let long = long_of(on, s.run.run_len, p.long_steps);
     if long {
         // Copies, as in end_if.
         let c = b;
         let q = p;
-        let k = end_carrier(q, a, s.p_t_run, c, ook, fsk);
+        let k = end_carrier(q, a, s.run.t_run, c, ook, fsk);
         return PresentCore {
             next: Next::IdleAt(a.e),
             pres: s,
@@ -368,13 +333,14 @@ pub fn presence(
     let fr = b.frame;
     let l = advance(p, a, s, fr, cs, fsk);
     let s1 = l.pres;
+    let r1 = s1.run;
     let f1 = l.frame;
     let mut b1 = b;
     b1.frame = f1;
-    let due = due_of(s1, p.min_steps);
-    let ends = ends_of(due, l.on, s1.p_prev, p.min_steps);
+    let due = run::due(r1, p.min_steps);
+    let ends = ends_of(due, l.on, r1.prev_len, p.min_steps);
     let s2 = sure_if(due, s1);
-    let b2 = end_if(ends, p, a, s1, b1, ook, fsk);
+    let b2 = end_if(ends, p, a, r1, b1, ook, fsk);
     carrier_if(p, a, l.on, s2, b2, ook, fsk)
 }
 
@@ -390,16 +356,21 @@ pub struct SnappedCore {
     pub frame: FrameCore,
 }
 
-// `begin_run` of the envelope, at a rise: its edge is the better start of a frame that the presence began just before.
+// `begin_run` of the envelope, at a rise: a frame that presence has only just begun starts at the envelope's edge instead.
 pub fn snap(s: Pres, fr: FrameCore, tc: f64) -> SnappedCore
     ensures { λ r. ⌜ ((cs : List Float) → wholeSnapped cs r ≡ snapOf s (wholeFrame cs fr) tc) ⌝ }
 {
-    let near = near_start(s.p_level, fr.fsk_phase, fr.done.fsk_runs, tc - s.p_t_run);
+    let near = near_start(
+        s.run.level,
+        fr.fsk_phase,
+        fr.done.fsk_runs,
+        tc - s.run.t_run,
+    );
     if near {
         let mut q = s;
-        q.p_t_run = tc;
+        q.run.t_run = tc;
         let mut f = fr;
-        f.runs.ft_run = tc;
+        f.runs.run.t_run = tc;
         return SnappedCore { pres: q, frame: f };
     }
     SnappedCore { pres: s, frame: fr }

@@ -6,15 +6,17 @@ use Prim.Native.Nat.{ℕ, _*_, _≤_}
 use lib.Dec.{leb, eqb}
 use borrow.Author.Tests.{leb-true, eqb-false, not-true}
 use lib.ListN.{length}
-use Rattle.ook.specs.declared.Settings.{Settings}
-use Rattle.ook.specs.Tests.{both-true}
-use Rattle.refusals.specs.Domain.{InDomain, settings-tell, indexOk, roomOk}
-use Rattle.refusals.specs.Order.{none-failed}
+use Rattle.shared.specs.declared.Settings.{Settings}
+use Rattle.shared.proofs.Tests.{both-true}
+use Rattle.refusals.proofs.Domain.{InDomain, settings-tell}
+use Rattle.refusals.specs.Domain.{indexOk, roomOk}
+use Rattle.refusals.proofs.Order.{none-failed}
 use Rattle.lane.specs.declared.Lane.{Lane}
 use Rattle.lane.specs.declared.BeginArgs.{BeginArgs}
 use Rattle.lane.specs.declared.StepArgs.{StepArgs}
 use Rattle.refusals.specs.Serial.{serialLeft}
-use Rattle.lane.specs.Refusals.{opened-tells, laneOk, lane-passes, beginFloatsOk, stepFloatsOk, followsOf, openRefusal, beginRefusal, stepRefusal, closeRefusal}
+use Rattle.lane.proofs.Refusals.{opened-tells, lane-passes}
+use Rattle.lane.specs.Refusals.{laneOk, beginFloatsOk, stepFloatsOk, followsOf, openRefusal, beginRefusal, stepRefusal, closeRefusal}
 use Rattle.lane.specs.Idle.{idleLane}
 use Rattle.lane.specs.Begin.{leadLane}
 use Rattle.lane.specs.Advance.{advanceOf}

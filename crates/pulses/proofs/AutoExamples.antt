@@ -1,5 +1,5 @@
 -- Every row of the examples in Auto mode holds, by computation from the definitions that the contracts cite; and the claim that they show to be
--- false is refuted. Assumes nothing.
+-- false is refuted.
 use mathlib.Core.Path.{refl}
 use mathlib.Core.List.{_++_}
 use Rattle.pulses.specs.Demand.{theLane}

@@ -3,23 +3,24 @@ use mathlib.Core.Path.{_≡_, refl, sym, ap, _∙_, subst}
 use mathlib.Core.Bool.{Bool, true, false}
 use mathlib.Core.Option.{some}
 use mathlib.Core.List.{List, [], _∷_, _++_, map}
-use Prim.Native.Nat.{ℕ, zero, suc, _+_, _-_, _*_, _≤_, _<_, min}
+use Prim.Native.Nat.{ℕ, suc, _+_, _-_, _*_, _≤_, _<_, min}
 use native.Mathlib.Omega.{arith}
 use lib.Dec.{leb, ltb}
 use borrow.Author.Tests.{leb-true, leb-false, le-leb}
 use lib.ListN.{length, take}
 use lib.Seq.{take-all, length-take-le}
 use lib.Ieee.{Float, nan}
-use Rattle.ook.specs.declared.Settings.{Settings}
-use Rattle.ook.specs.declared.Out.{Out}
-use Rattle.ook.specs.Counts.{bit}
-use Rattle.refusals.specs.Domain.{InDomain}
+use Rattle.shared.specs.declared.Settings.{Settings}
+use Rattle.shared.specs.declared.Out.{Out}
+use Rattle.shared.specs.Counts.{bit}
+use Rattle.refusals.proofs.Domain.{InDomain}
 use Rattle.lane.specs.Part.{front, namedOf}
 use Rattle.pulses.specs.Runs.{Sample, Pulse, pulses}
 use Rattle.pulses.proofs.Edges.{both, flat, same-length, edges-emitted, widths-emitted}
 use Rattle.pulses.proofs.Flags.{flag-set, flag-clear}
 use Rattle.pulses.proofs.TrainState.{Edges, flat-length, Claim, no-pulse, gives}
-use Rattle.slots.specs.Slots.{slotsFrom, slotsOf, slots-length, Heads, heads-take}
+use Rattle.slots.specs.Slots.{slotsFrom, slotsOf}
+use Rattle.slots.proofs.Slots.{slots-length, Heads, heads-take}
 use Rattle.arith.specs.Carry.{widthBy}
 use Rattle.pulses.proofs.OokSample.{given}
 use Rattle.pulses.specs.Yardstick.{Given, givenBy}

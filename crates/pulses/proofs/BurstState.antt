@@ -9,26 +9,28 @@ use borrow.Author.Tests.{eq-eqb}
 use lib.Ieee.{Float}
 use lib.ListN.{length}
 use Rattle.arith.specs.Leaves.{leadLenOf}
-use Rattle.ook.specs.declared.Settings.{Settings}
-use Rattle.ook.specs.declared.Next.{Next}
-use Rattle.ook.specs.Answers.{isStayOf}
-use Rattle.ook.specs.Counts.{bit}
+use Rattle.shared.specs.declared.Settings.{Settings}
+use Rattle.shared.specs.declared.Next.{Next}
+use Rattle.shared.specs.Answers.{isStayOf}
+use Rattle.shared.specs.Counts.{bit}
+use Rattle.run.specs.Run.{startRunOf}
 use Rattle.ook.specs.Run.{beginEnvOf}
 use Rattle.ook.specs.Train.{emptyTrainOf}
-use Rattle.refusals.specs.Domain.{InDomain}
-use Rattle.stages.specs.declared.Seen.{Seen}
-use Rattle.stages.specs.declared.Acted.{Acted}
-use Rattle.stages.specs.See.{seeOf}
-use Rattle.stages.specs.Act.{actOf}
+use Rattle.refusals.proofs.Domain.{InDomain}
+use Rattle.envelope.specs.declared.Seen.{Seen}
+use Rattle.envelope.specs.declared.Acted.{Acted}
+use Rattle.envelope.specs.See.{seeOf}
+use Rattle.envelope.specs.Act.{actOf}
 use Rattle.presence.specs.declared.Present.{Present}
 use Rattle.presence.specs.Presence.{presenceOf}
-use Rattle.stages.specs.declared.At.{At}
+use Rattle.envelope.specs.declared.At.{At}
 use Rattle.burst.specs.declared.Burst.{Burst}
 use Rattle.burst.specs.declared.Lead.{Lead}
 use Rattle.burst.specs.declared.Sampled.{Sampled}
 use Rattle.burst.specs.Makers.{withActed, bodyIn, withBody}
 use Rattle.burst.specs.Sample.{snapIfOf, absenceOf, lastOf, inputsOf, presentOf, restOf, sampleOf}
-use Rattle.burst.specs.Lead.{beginBurstOf, leadAtOf, onward, staying, replayFrom, replayOf, leadFullOf, replay-stop}
+use Rattle.burst.specs.Lead.{beginBurstOf, leadAtOf, onward, staying, replayFrom, replayOf, leadFullOf}
+use Rattle.burst.proofs.LeadLaws.{replay-stop}
 use Rattle.pulses.specs.Runs.{Sample}
 use Rattle.pulses.specs.Yardstick.{levelled, replayed, phaseAfter, phasesReplayed, burstAt}
 use Rattle.pulses.specs.Auto.{AllZero}
@@ -37,7 +39,8 @@ use Rattle.pulses.proofs.Machine.{after, emitted}
 use Rattle.pulses.proofs.RunState.{opened, rest-low}
 use Rattle.pulses.proofs.Edges.{flat}
 use Rattle.pulses.proofs.TrainState.{none-yet}
-use Rattle.slots.specs.Slots.{slotsOf, lastOr}
+use Rattle.slots.specs.Slots.{slotsOf}
+use Rattle.slots.proofs.Slots.{lastOr}
 use Rattle.pulses.proofs.OokSample.{Follows, After, stays, over, not-stay, tail-follows, doneOf, acted, acted-level}
 use Rattle.pulses.proofs.Presence.{Unfound, unsplit, unframed, presentDone, presence-frames, presence-follows}
 
@@ -50,8 +53,8 @@ abbrev pub Next-is : Settings → Sampled × List ℕ × List ℕ → List (Samp
 Next-is p r xs = After p (r .0 .burst .env) (record { next = r .0 .next; train = r .0 .burst .train; out = r .0 .burst .«out_ook» }) (r .1) xs
 
 -- a burst at its start has no pulse
-pub start-follows : (p : Settings) (high t e : Float) (b : Burst) (ook : List ℕ) → b .«out_ook» .state ≡ 0 → 2 * p .«max_pulses» ≤ length ook → Under p (beginBurstOf high t e b) ook []
-unfolding beginBurstOf beginEnvOf emptyTrainOf after emitted opened flat slotsOf lastOr
+start-follows : (p : Settings) (high t e : Float) (b : Burst) (ook : List ℕ) → b .«out_ook» .state ≡ 0 → 2 * p .«max_pulses» ≤ length ook → Under p (beginBurstOf high t e b) ook []
+unfolding beginBurstOf beginEnvOf startRunOf emptyTrainOf after emitted opened flat slotsOf lastOr
 start-follows p high t e b ook z h = record {
   run = rest-low refl refl refl refl (λ u. absurd (omega arith));
   train = record { state = none-yet refl refl refl refl; uncut = refl; room = h; fits = omega arith; slots = record { rest = ook; split = refl } };
@@ -147,24 +150,25 @@ module _ (p : Settings) (D : InDomain p) where
         go false q (over n C) = over n C
 
   module _ (a : At) (ring : List Float) (b : Burst) (ook fsk : List ℕ) where
-    abbrev seen : Seen
+    -- what is seen of a sample and done about it, and the burst after that
+    abbrev pub seen : Seen
     seen = seeOf p a ring (b .high) (b .«e_prev») (b .env) (b .pac)
 
-    abbrev acts : Acted × List ℕ
+    abbrev pub acts : Acted × List ℕ
     acts = actOf p seen (b .train) (b .«out_ook») ook
 
-    -- the burst after the confirmation
-    abbrev burst′ : Burst
-    burst′ = withActed (a .e) seen (snapIfOf (seen .began) (seen .on) (seen .env .times .«c_run») (b .pres) (b .frame)) (acts .0) b
+    abbrev pub burst′ : Burst
+    burst′ = withActed (a .e) seen (snapIfOf (seen .began) (seen .on) (seen .env .«c_run») (b .pres) (b .frame)) (acts .0) b
+
+    -- its rest: presence is asked in Auto mode
+    rest : Bool → Sampled × List ℕ × List ℕ
+    rest c = cond c (lastOf p (seen .on) (a .e) burst′ (acts .1) fsk) (presentOf p a (b .«e_prev») seen burst′ (acts .1) fsk)
 
     -- a sample never takes a frame back
     pub sample-frames : p .mode ≡ 2 → sampleOf p a ring b ook fsk .0 .burst .frames ≡ 0 → b .frames ≡ 0
-    unfolding sampleOf restOf lastOf
+    unfolding sampleOf restOf lastOf rest
     sample-frames auto = go (isStayOf (acts .0 .next)) (eqb (p .mode) 0)
       where
-        rest : Bool → Sampled × List ℕ × List ℕ
-        rest m = cond m (lastOf p (seen .on) (a .e) burst′ (acts .1) fsk) (presentOf p a (b .«e_prev») seen burst′ (acts .1) fsk)
-
         go : (c m : Bool) → cond {A = Sampled × List ℕ × List ℕ} c (rest m) (record { next = acts .0 .next; burst = burst′ }, acts .1, fsk) .0 .burst .frames ≡ 0 → b .frames ≡ 0
         go true true z = z
         go true false z = present-frames auto a (b .«e_prev») seen burst′ (acts .1) fsk z
@@ -172,12 +176,9 @@ module _ (p : Settings) (D : InDomain p) where
 
     rest-follows : (ys : List (Sample Float)) → burst′ .env .run .level ≡ bit (seen .on) → Under p burst′ (acts .1) ys
         → Apart p (restOf p a (b .«e_prev») seen burst′ (acts .1) fsk .0 .burst) → Next-is p (restOf p a (b .«e_prev») seen burst′ (acts .1) fsk) ys
-    unfolding restOf
+    unfolding restOf rest
     rest-follows ys l G A = go (eqb (p .mode) 0) refl A
       where
-        rest : Bool → Sampled × List ℕ × List ℕ
-        rest c = cond c (lastOf p (seen .on) (a .e) burst′ (acts .1) fsk) (presentOf p a (b .«e_prev») seen burst′ (acts .1) fsk)
-
         go : (c : Bool) → eqb (p .mode) 0 ≡ c → Apart p (rest c .0 .burst) → Next-is p (rest c) ys
         go true q A = last-follows (seen .on) (a .e) burst′ (acts .1) fsk ys l G
         go false q (unasked z) = clash (sym (eq-eqb (p .mode) 0 z) ∙ q)

@@ -15,7 +15,7 @@ use Rattle.pulses.specs.Runs.{Sample}
 use Rattle.pulses.specs.Yardstick.{as-left, other, lent, Call, opening, begin, step, close, Given, Yardstick, refusal, accepts, stepSamples, stepPhases, stepOf, closingOf, fetched, answeredBy, advanced, ends, lentWell, handedOn}
 use Rattle.pulses.specs.Demand.{returnedBy, theLane, Place, after, afterAll, bursts}
 use Rattle.pulses.specs.Auto.{EachWhere, NoneYetWhere}
-use Rattle.ook.specs.Tests.{both-true}
+use Rattle.shared.proofs.Tests.{both-true}
 use Rattle.pulses.proofs.Measure.{ListedAt, Good, Fine, call-fine, good, none-yet}
 use Rattle.pulses.proofs.Flags.{clash}
 use Rattle.pulses.proofs.BurstEnd.{given-none}

@@ -2,9 +2,10 @@
 use mathlib.Core.Path.{_≡_, _∙_}
 use Prim.Native.Nat.{ℕ, suc, _<_}
 use native.Mathlib.Omega.{arith}
-use Rattle.ook.specs.declared.Settings.{Settings}
-use Rattle.ook.specs.Counts.{satAddOf, inc, inc-exact}
-use Rattle.refusals.specs.Domain.{InDomain}
+use Rattle.shared.specs.declared.Settings.{Settings}
+use Rattle.shared.specs.Counts.{satAddOf, inc}
+use Rattle.shared.proofs.Counts.{inc-exact}
+use Rattle.refusals.proofs.Domain.{InDomain}
 
 pub run-grows : (p : Settings) → InDomain p → (n : ℕ) → n < p .«min_steps» → satAddOf n 1 ≡ suc n
 unfolding satAddOf

@@ -1,4 +1,4 @@
--- Every row of the examples holds, by computation from the definitions that the contracts cite. Assumes nothing.
+-- Every row of the examples holds, by computation from the definitions that the contracts cite.
 use mathlib.Core.Path.{refl}
 use Rattle.pulses.specs.Ran.{ran}
 use Rattle.pulses.specs.Examples.{shown, shownIn, Right, table}

@@ -9,16 +9,16 @@ use borrow.Author.Tests.{eqb-true}
 use lib.ListN.{length}
 use lib.Ieee.{Float}
 use Rattle.arith.specs.Leaves.{leadLenOf}
-use Rattle.ook.specs.declared.Settings.{Settings}
-use Rattle.ook.specs.declared.Out.{Out}
-use Rattle.ook.specs.Core.{numbered}
-use Rattle.ook.specs.declared.Next.{Next}
-use Rattle.ook.specs.declared.Next.the-variants as next
+use Rattle.shared.specs.declared.Settings.{Settings}
+use Rattle.shared.specs.declared.Out.{Out}
+use Rattle.shared.specs.Core.{numbered}
+use Rattle.shared.specs.declared.Next.{Next}
+use Rattle.shared.specs.declared.Next.the-variants as next
 use Rattle.burst.specs.declared.Lead.{Lead}
 use Rattle.burst.specs.declared.Sampled.{Sampled}
 use Rattle.burst.specs.Sample.{sampleOf}
 use Rattle.burst.specs.Lead.{leadAddOf, staying, leadFullOf}
-use Rattle.refusals.specs.Domain.{InDomain}
+use Rattle.refusals.proofs.Domain.{InDomain}
 use Rattle.lane.specs.declared.Lane.{Lane}
 use Rattle.lane.specs.declared.Answer.{Answer}
 use Rattle.lane.specs.declared.StepArgs.{StepArgs}
@@ -28,7 +28,8 @@ use Rattle.lane.specs.Begin.{ringOf, clearedOf, leadLane}
 use Rattle.lane.specs.Advance.{settleOf, settled, fillOf, atOf, replayStep, leadStep, burstStep, advanceOf}
 use Rattle.lane.specs.Close.{idleWith, endBurstOf, closeOf}
 use Rattle.lane.specs.Serial.{stampOf, stampedWith}
-use Rattle.lane.specs.Part.{partOf, part-named}
+use Rattle.lane.specs.Part.{partOf}
+use Rattle.lane.proofs.PartLaws.{part-named}
 use Rattle.pulses.specs.Runs.{Sample, pulses}
 use Rattle.pulses.specs.Yardstick.{lent, Call, opening, begin, step, close, Yardstick, refusal, accepts, levelled, replayed, phaseAfter, phasesReplayed, burstAt, stepSamples, stepPhases, fetched, answeredBy, advanced, ends}
 use Rattle.pulses.specs.Demand.{Gives}

@@ -12,27 +12,26 @@ use lib.ListN.{length, length-append}
 use Rattle.arith.specs.declared.C32.{C32}
 use Rattle.arith.specs.Leaves.{stepOf}
 use Rattle.ook.specs.declared.Env.{Env}
-use Rattle.ook.specs.declared.Run.{Run}
-use Rattle.ook.specs.declared.Times.{Times}
 use Rattle.ook.specs.declared.Train.{Train}
-use Rattle.ook.specs.declared.Out.{Out}
+use Rattle.shared.specs.declared.Out.{Out}
 use Rattle.ook.specs.declared.Done.{Done}
-use Rattle.ook.specs.declared.Settings.{Settings}
-use Rattle.ook.specs.declared.Next.{Next}
-use Rattle.ook.specs.declared.Next.the-variants.{Stay, Idle, IdleAt}
-use Rattle.ook.specs.Answers.{isStayOf}
-use Rattle.ook.specs.Counts.{bit}
-use Rattle.ook.specs.Params.{refineAtOf}
+use Rattle.shared.specs.declared.Settings.{Settings}
+use Rattle.shared.specs.declared.Next.{Next}
+use Rattle.shared.specs.declared.Next.the-variants.{Stay, Idle, IdleAt}
+use Rattle.shared.specs.Answers.{isStayOf}
+use Rattle.shared.specs.Counts.{bit}
+use Rattle.shared.specs.Params.{refineAtOf}
 use Rattle.ook.specs.Refine.{refineOf}
 use Rattle.ook.specs.Train.{withStarted, withFirst, withBound, closeGapOf, pulseDoneOf, endTrainOf, stayBy, endBy}
-use Rattle.refusals.specs.Domain.{InDomain}
-use Rattle.stages.specs.declared.At.{At}
-use Rattle.stages.specs.declared.Seen.{Seen}
-use Rattle.stages.specs.declared.Acted.{Acted}
-use Rattle.stages.specs.declared.Absence.{Absence}
-use Rattle.stages.specs.See.{refineDueOf, withRefined, seeOf}
-use Rattle.stages.specs.Act.{takenOf, dueOf, confirmIf, riseOf, fallOf, confirmOf, actOf}
-use Rattle.stages.specs.Tail.{carrierOf, goneOf, hasPulsesOf, gapOverOf, limitOf, waitOf, tailOf}
+use Rattle.refusals.proofs.Domain.{InDomain}
+use Rattle.envelope.specs.declared.At.{At}
+use Rattle.envelope.specs.declared.Seen.{Seen}
+use Rattle.envelope.specs.declared.Acted.{Acted}
+use Rattle.envelope.specs.declared.Absence.{Absence}
+use Rattle.envelope.specs.See.{refineDueOf, withRefined, seeOf}
+use Rattle.run.specs.Run.{dueOf}
+use Rattle.envelope.specs.Act.{takenOf, confirmIf, riseOf, fallOf, confirmOf, actOf}
+use Rattle.envelope.specs.Tail.{carrierOf, goneOf, hasPulsesOf, gapOverOf, limitOf, waitOf, tailOf}
 use Rattle.pulses.specs.Runs.{Sample, sample}
 use Rattle.pulses.proofs.Machine.{Conf, lowed, highed, mstep, memit, after, emitted, after-snoc, emitted-snoc}
 use Rattle.pulses.proofs.Flags.{clash, empty, flag-set, flag-clear}
@@ -75,15 +74,15 @@ not-stay Idle h = refl
 not-stay (IdleAt e) h = refl
 
 -- ---- laws of the definition's stages
-rise-first : (carry : ℕ) (s : Times) (t : Train) (ook : List ℕ) → t .started ≡ 0 → riseOf carry s t ook ≡ (withFirst (stepOf (s .«c_run»)) (s .«t_run») t, ook)
+rise-first : (carry : ℕ) (s : Env) (t : Train) (ook : List ℕ) → t .started ≡ 0 → riseOf carry s t ook ≡ (withFirst (stepOf (s .«c_run»)) (s .run .«t_run») t, ook)
 unfolding riseOf
 rise-first carry s t ook q = flag-clear (t .started) _ _ q
 
-rise-gap : (carry : ℕ) (s : Times) (t : Train) (ook : List ℕ) → t .started ≡ 1 → riseOf carry s t ook ≡ closeGapOf (withBound (takenOf carry s t .bound) t) (takenOf carry s t .width) ook
+rise-gap : (carry : ℕ) (s : Env) (t : Train) (ook : List ℕ) → t .started ≡ 1 → riseOf carry s t ook ≡ closeGapOf (withBound (takenOf carry s t .bound) t) (takenOf carry s t .width) ook
 unfolding riseOf
 rise-gap carry s t ook q = flag-set (t .started) _ _ q
 
-fall-started : (p : Settings) (s : Times) (t : Train) (pac : C32) (high : Float) (out : Out) (ook : List ℕ) → t .started ≡ 1
+fall-started : (p : Settings) (s : Env) (t : Train) (pac : C32) (high : Float) (out : Out) (ook : List ℕ) → t .started ≡ 1
     → fallOf p s t pac high out ook ≡ pulseDoneOf p (withBound (takenOf (p .carry) s t .bound) t) pac high out (takenOf (p .carry) s t .width) (s .«c_run») ook
 unfolding fallOf
 fall-started p s t pac high out ook q = flag-set (t .started) _ _ q
@@ -115,19 +114,19 @@ module _ (p : Settings) (xs : List (Sample Float)) (x : Sample Float) where
 module _ (p : Settings) (D : InDomain p) (mode : eqb (p .mode) 1 ≡ false) (v : Env) (t : Train) (out : Out) (ook : List ℕ) (xs : List (Sample Float)) (F : Follows p v t out ook xs)
     (pac : C32) (high : Float) (w : Env) where
   abbrev next : Bool → Sample Float
-  next on = sample on (w .times .«t_run»)
+  next on = sample on (w .run .«t_run»)
 
   abbrev Confirmed : Bool → Bool → Type 0
-  Confirmed on due = After p (confirmIf due w) (confirmOf due p on (w .times) t pac high out ook .0) (confirmOf due p on (w .times) t pac high out ook .1) (xs ++ (next on ∷ []))
+  Confirmed on due = After p (confirmIf due w) (confirmOf due p on w t pac high out ook .0) (confirmOf due p on w t pac high out ook .1) (xs ++ (next on ∷ []))
 
   -- a high run after a low one: the gap before it ends, or the train starts
-  raised : opened (machine p xs) ≡ [] → Ends (edgesAt p xs) (w .times .«t_prev») → TrainRel (p .carry) (edgesAt p xs) t
-      → Held (p .carry) (p .«max_pulses») (edgesAt p xs ++ (w .times .«t_run» ∷ [])) (riseOf (p .carry) (w .times) t ook .0) (riseOf (p .carry) (w .times) t ook .1)
+  raised : opened (machine p xs) ≡ [] → Ends (edgesAt p xs) (w .run .«t_prev») → TrainRel (p .carry) (edgesAt p xs) t
+      → Held (p .carry) (p .«max_pulses») (edgesAt p xs ++ (w .run .«t_run» ∷ [])) (riseOf (p .carry) w t ook .0) (riseOf (p .carry) w t ook .1)
   raised h d (none-yet qes qs qn qo) =
-      rw (rise-first (p .carry) (w .times) t ook qs) (held-first (p .carry) (p .«max_pulses») (pairs-grow p D) (edgesAt p xs) t ook (w .times .«t_run») (stepOf (w .times .«c_run»)) qs (F .train))
+      rw (rise-first (p .carry) w t ook qs) (held-first (p .carry) (p .«max_pulses») (pairs-grow p D) (edgesAt p xs) t ook (w .run .«t_run») (stepOf (w .«c_run»)) qs (F .train))
   raised h d (under-way a more qes qs ql qo qa qb) =
-      rw (rise-gap (p .carry) (w .times) t ook qs)
-      (held-gap (p .carry) (p .«max_pulses») (pairs-grow p D) (edgesAt p xs) t ook (w .times .«t_run») (w .times .«t_prev») qs
+      rw (rise-gap (p .carry) w t ook qs)
+      (held-gap (p .carry) (p .«max_pulses») (pairs-grow p D) (edgesAt p xs) t ook (w .run .«t_run») (w .run .«t_prev») qs
       (omega (arith, low-length (given p xs) (opened (machine p xs)) h, ap length qes, ql, qo)) d (F .train))
 
   started : (a : Float) → opened (machine p xs) ≡ a ∷ [] → TrainRel (p .carry) (edgesAt p xs) t → t .started ≡ 1
@@ -135,12 +134,12 @@ module _ (p : Settings) (D : InDomain p) (mode : eqb (p .mode) 1 ≡ false) (v :
   started a h (under-way b more qes qs ql qo qa qb) = qs
 
   abbrev last : Edges
-  last = (w .times .«t_prev», w .times .«t_run»)
+  last = (w .run .«t_prev», w .run .«t_run»)
 
   -- the edges of a record whose last pulse is closed
-  closing : flat (given p xs ++ (last ∷ [])) ++ [] ≡ (flat (given p xs) ++ (w .times .«t_prev» ∷ [])) ++ (w .times .«t_run» ∷ [])
+  closing : flat (given p xs ++ (last ∷ [])) ++ [] ≡ (flat (given p xs) ++ (w .run .«t_prev» ∷ [])) ++ (w .run .«t_run» ∷ [])
   unfolding flat
-  closing = append-nil (flat (given p xs ++ (last ∷ []))) ∙ flat-append (given p xs) (last ∷ []) ∙ sym (append-assoc (flat (given p xs)) (w .times .«t_prev» ∷ []) (w .times .«t_run» ∷ []))
+  closing = append-nil (flat (given p xs ++ (last ∷ []))) ∙ flat-append (given p xs) (last ∷ []) ∙ sym (append-assoc (flat (given p xs)) (w .run .«t_prev» ∷ []) (w .run .«t_run» ∷ []))
 
   -- a low run after a high one: the pulse is final
   fallen : (d : Done) (ook′ : List ℕ) (es : List Float) → memit (p .«min_steps») (machine p xs) (next false) ≡ last ∷ []
@@ -152,31 +151,31 @@ module _ (p : Settings) (D : InDomain p) (mode : eqb (p .mode) 1 ≡ false) (v :
   fallen d ook′ es e h qe R (ends qn C) =
       over (λ q. idle-not (sym qn ∙ q)) (claimed p xs (next false) (d .out) ook′ (given p xs ++ (last ∷ [])) (ap (λ (l : List Edges). given p xs ++ l) e) C)
 
-  pub act-follows : (on : Bool) → Outcome (p .«min_steps») (machine p xs) (edgesAt p xs) on w → Confirmed on (dueOf (p .«min_steps») (w .run))
+  act-follows : (on : Bool) → Outcome (p .«min_steps») (machine p xs) (edgesAt p xs) on w → Confirmed on (dueOf (w .run) (p .«min_steps»))
   unfolding confirmIf confirmOf
   act-follows on (keeps q hh e R) =
       subst (λ (b : Bool). Confirmed on b) (sym q)
       (stays refl (follows p xs (next on) w t out ook (edgesAt p xs) [] (opened (machine p xs)) e hh (ap (λ (l : List Edges). flat l ++ opened (machine p xs)) (append-nil (given p xs))) R (F .train) (F .undecided)))
   act-follows true (rises q o h h′ e d R) =
       subst (λ (b : Bool). Confirmed true b) (sym q)
-      (stays refl (follows p xs (next true) (confirmIf true w) (riseOf (p .carry) (w .times) t ook .0) out (riseOf (p .carry) (w .times) t ook .1)
-      (edgesAt p xs ++ (w .times .«t_run» ∷ [])) [] (w .times .«t_run» ∷ []) e h′
-      (ap (λ (l : List Edges). flat l ++ (w .times .«t_run» ∷ [])) (append-nil (given p xs))
-      ∙ ap (λ (l : List Float). l ++ (w .times .«t_run» ∷ [])) (sym (append-nil (flat (given p xs))) ∙ ap (λ (l : List Float). flat (given p xs) ++ l) (sym h)))
+      (stays refl (follows p xs (next true) (confirmIf true w) (riseOf (p .carry) w t ook .0) out (riseOf (p .carry) w t ook .1)
+      (edgesAt p xs ++ (w .run .«t_run» ∷ [])) [] (w .run .«t_run» ∷ []) e h′
+      (ap (λ (l : List Edges). flat l ++ (w .run .«t_run» ∷ [])) (append-nil (given p xs))
+      ∙ ap (λ (l : List Float). l ++ (w .run .«t_run» ∷ [])) (sym (append-nil (flat (given p xs))) ∙ ap (λ (l : List Float). flat (given p xs) ++ l) (sym h)))
       R (raised h d (F .train .state)) (F .undecided)))
   act-follows false (rises q o h h′ e d R) = clash (sym o)
   act-follows true (falls q o h h′ e R) = clash o
   act-follows false (falls q o h h′ e R) =
-      let k : edgesAt p xs ≡ flat (given p xs) ++ (w .times .«t_prev» ∷ []) = ap (λ (l : List Float). flat (given p xs) ++ l) h in
-      let H : Held (p .carry) (p .«max_pulses») (flat (given p xs) ++ (w .times .«t_prev» ∷ [])) t ook = subst (λ (l : List Float). Held (p .carry) (p .«max_pulses») l t ook) k (F .train) in
-      let R′ : RunRel (p .«min_steps») (mstep (p .«min_steps») (machine p xs) (next false)) ((flat (given p xs) ++ (w .times .«t_prev» ∷ [])) ++ (w .times .«t_run» ∷ [])) (confirmIf true w)
-      = subst (λ (l : List Float). RunRel (p .«min_steps») (mstep (p .«min_steps») (machine p xs) (next false)) (l ++ (w .times .«t_run» ∷ [])) (confirmIf true w)) k R in
+      let k : edgesAt p xs ≡ flat (given p xs) ++ (w .run .«t_prev» ∷ []) = ap (λ (l : List Float). flat (given p xs) ++ l) h in
+      let H : Held (p .carry) (p .«max_pulses») (flat (given p xs) ++ (w .run .«t_prev» ∷ [])) t ook = subst (λ (l : List Float). Held (p .carry) (p .«max_pulses») l t ook) k (F .train) in
+      let R′ : RunRel (p .«min_steps») (mstep (p .«min_steps») (machine p xs) (next false)) ((flat (given p xs) ++ (w .run .«t_prev» ∷ [])) ++ (w .run .«t_run» ∷ [])) (confirmIf true w)
+      = subst (λ (l : List Float). RunRel (p .«min_steps») (mstep (p .«min_steps») (machine p xs) (next false)) (l ++ (w .run .«t_run» ∷ [])) (confirmIf true w)) k R in
       subst (λ (b : Bool). Confirmed false b) (sym q)
-      (rw (fall-started p (w .times) t pac high out ook (started (w .times .«t_prev») h (F .train .state)))
-      (fallen (pulseDoneOf p (withBound (takenOf (p .carry) (w .times) t .bound) t) pac high out (takenOf (p .carry) (w .times) t .width) (w .times .«c_run») ook .0)
-      (pulseDoneOf p (withBound (takenOf (p .carry) (w .times) t .bound) t) pac high out (takenOf (p .carry) (w .times) t .width) (w .times .«c_run») ook .1)
-      ((flat (given p xs) ++ (w .times .«t_prev» ∷ [])) ++ (w .times .«t_run» ∷ [])) e h′ closing R′
-      (held-falls p D mode (given p xs) t ook pac high out last (w .times .«c_run») H)))
+      (rw (fall-started p w t pac high out ook (started (w .run .«t_prev») h (F .train .state)))
+      (fallen (pulseDoneOf p (withBound (takenOf (p .carry) w t .bound) t) pac high out (takenOf (p .carry) w t .width) (w .«c_run») ook .0)
+      (pulseDoneOf p (withBound (takenOf (p .carry) w t .bound) t) pac high out (takenOf (p .carry) w t .width) (w .«c_run») ook .1)
+      ((flat (given p xs) ++ (w .run .«t_prev» ∷ [])) ++ (w .run .«t_run» ∷ [])) e h′ closing R′
+      (held-falls p D mode (given p xs) t ook pac high out last (w .«c_run») H)))
 
 -- ---- the end of a sample
 -- a low run that counts: the last run that counts is low
@@ -251,17 +250,16 @@ abbrev pub doneOf : Acted → Done
 doneOf q = record { next = q .next; train = q .train; out = q .out }
 
 -- ---- the level, the run and its edge
-either : (v w : Env) (b c : Bool) → w .run ≡ v .run → w .times .«t_prev» ≡ v .times .«t_prev» → eqb (w .«ref_pending») 1 ≡ false → (m : ℕ) → eqb (v .«ref_pending») 1 ≡ b
-    → (refineAtOf m ≤ v .run .«run_len» → c ≡ true) → Refined m v (cond b (cond c w v) v)
-either v w true true qr qp z m e h = record { same-run = qr; same-before = qp; settled = λ q. clash (sym e ∙ q); settles = λ l. z }
-either v w true false qr qp z m e h = record { same-run = refl; same-before = refl; settled = λ q. refl; settles = λ l. clash (sym (h l)) }
-either v w false c qr qp z m e h = record { same-run = refl; same-before = refl; settled = λ q. refl; settles = λ l. e }
+refined-if : (m : ℕ) (v : Env) (t : Float) (b c : Bool) → eqb (v .«ref_pending») 1 ≡ b → (refineAtOf m ≤ v .run .«run_len» → c ≡ true) → Refined m v (cond b (cond c (withRefined t v) v) v)
+refined-if m v t true true e h = record { same-level = refl; same-sure = refl; same-length = refl; same-before = refl; settled = λ q. clash (sym e ∙ q); settles = λ l. refl }
+refined-if m v t true false e h = record { same-level = refl; same-sure = refl; same-length = refl; same-before = refl; settled = λ q. refl; settles = λ l. clash (sym (h l)) }
+refined-if m v t false c e h = record { same-level = refl; same-sure = refl; same-length = refl; same-before = refl; settled = λ q. refl; settles = λ l. e }
 
 refine-due : (m : ℕ) (a : At) (ring : List Float) (high : Float) (on : Bool) (v : Env) → Refined m v (refineDueOf m a ring high on v)
 unfolding refineDueOf
 refine-due m a ring high on v =
-    either v (withRefined (refineOf ring m high (a .noise) on (a .«lead_at») (a .idx) v) v) (eqb (v .«ref_pending») 1)
-    (leb (refineAtOf m) (v .run .«run_len»)) refl refl refl m refl (λ l. le-leb (refineAtOf m) (v .run .«run_len») l)
+    refined-if m v (refineOf ring m high (a .noise) on (a .«lead_at») (a .idx) v) (eqb (v .«ref_pending») 1) (leb (refineAtOf m) (v .run .«run_len»)) refl
+    (λ l. le-leb (refineAtOf m) (v .run .«run_len») l)
 
 -- ---- the sample, up to the confirmation
 module _ (p : Settings) (D : InDomain p) (mode : eqb (p .mode) 1 ≡ false) (a : At) (ring : List Float) (high e : Float) (v : Env) (pac : C32) (t : Train) (out : Out) (ook : List ℕ)
@@ -276,16 +274,16 @@ module _ (p : Settings) (D : InDomain p) (mode : eqb (p .mode) 1 ≡ false) (a :
 
   seen-level : seen .env .run .level ≡ bit (seen .on)
   unfolding seeOf
-  seen-level = ap (λ (r : Run). r .level) (refine-due (p .«min_steps») a ring high (seen .on) _ .same-run) ∙ level-after v (seen .on) _ (a .idx)
+  seen-level = refine-due (p .«min_steps») a ring high (seen .on) _ .same-level ∙ level-after v (seen .on) _ (a .idx)
 
-  pub acted : After p (actOf p seen t out ook .0 .env) (doneOf (actOf p seen t out ook .0)) (actOf p seen t out ook .1) (xs ++ (sample (seen .on) (seen .env .times .«t_run») ∷ []))
+  pub acted : After p (actOf p seen t out ook .0 .env) (doneOf (actOf p seen t out ook .0)) (actOf p seen t out ook .1) (xs ++ (sample (seen .on) (seen .env .run .«t_run») ∷ []))
   unfolding actOf
   acted = act-follows p D mode v t out ook xs F (seen .pac) (seen .high) (seen .env) (seen .on) seen-outcome
 
   -- confirming a run leaves its level
   pub acted-level : actOf p seen t out ook .0 .env .run .level ≡ bit (seen .on)
   unfolding actOf confirmIf
-  acted-level = go (dueOf (p .«min_steps») (seen .env .run))
+  acted-level = go (dueOf (seen .env .run) (p .«min_steps»))
     where
       go : (b : Bool) → confirmIf b (seen .env) .run .level ≡ bit (seen .on)
       go true = seen-level

@@ -8,23 +8,25 @@ use lib.Dec.{eqb}
 use lib.IntN.{pos}
 use lib.Ieee.{Float, binary64, add, ofInt}
 use Rattle.arith.specs.declared.C32.{C32}
-use Rattle.arith.specs.Leaves.{one64}
+use Rattle.ieee.specs.Constants.{one64}
 use Rattle.ook.specs.declared.Env.{Env}
 use Rattle.ook.specs.declared.Done.{Done}
-use Rattle.ook.specs.declared.Settings.{Settings}
-use Rattle.ook.specs.declared.Next.the-variants.{Stay, IdleAt}
-use Rattle.ook.specs.Counts.{satAddOf}
-use Rattle.refusals.specs.Domain.{InDomain}
-use Rattle.frame.specs.End.{isSplitOf, enoughRunsOf, isFrameOf, lastRunOf, framedBy, closeBy, endFrameOf}
-use Rattle.frame.specs.Done.{withFrame, withFramed, cutBody, frameDoneOf}
-use Rattle.frame.specs.Cut.{cutTrainOf}
-use Rattle.frame.specs.declared.Body.{Body}
-use Rattle.frame.specs.declared.Framed.{Framed}
+use Rattle.shared.specs.declared.Settings.{Settings}
+use Rattle.shared.specs.declared.Next.the-variants.{Stay, IdleAt}
+use Rattle.shared.specs.Counts.{satAddOf}
+use Rattle.refusals.proofs.Domain.{InDomain}
+use Rattle.frame_end.specs.End.{isSplitOf, enoughRunsOf, isFrameOf, lastRunOf, framedBy, closeBy, endFrameOf}
+use Rattle.frame_end.specs.Done.{withFrame, withFramed, cutBody, frameDoneOf}
+use Rattle.frame_end.specs.Cut.{cutTrainOf}
+use Rattle.frame_end.specs.declared.Body.{Body}
+use Rattle.frame_end.specs.declared.Framed.{Framed}
+use Rattle.run.specs.Run.{dueOf}
+use Rattle.run.specs.declared.Run.{Run}
 use Rattle.presence.specs.declared.Pres.{Pres}
 use Rattle.presence.specs.declared.Inputs.{Inputs}
 use Rattle.presence.specs.declared.Advanced.{Advanced}
 use Rattle.presence.specs.declared.Present.{Present}
-use Rattle.presence.specs.Presence.{advanceOf, dueOf, sureIfOf, endsOf, endOf, endIfOf, longOf, fullBody, endTrainBy, endCarrierOf, presentBy, carrierIfOf, presenceOf}
+use Rattle.presence.specs.Presence.{advanceOf, sureIfOf, endsOf, endOf, endIfOf, longOf, fullBody, endTrainBy, endCarrierOf, presentBy, carrierIfOf, presenceOf}
 use Rattle.pulses.specs.Runs.{Sample}
 use Rattle.pulses.proofs.Flags.{clash}
 use Rattle.pulses.proofs.OokSample.{Follows, After, stays, over, idle-at-not, train-ends}
@@ -81,9 +83,9 @@ module _ (p : Settings) (auto : p .mode ≡ 2) where
       go true e true (unframed z) = absurd (one-more (b .frames) z)
       go true e false (unframed z) = absurd (one-more (b .frames) z)
 
-  end-none : (ends : Bool) (a : Inputs) (s : Pres) (b : Body) (ook fsk : List ℕ) → UnfoundIn (endIfOf ends p a s b ook fsk .0) → endIfOf ends p a s b ook fsk ≡ (b, ook, fsk)
+  end-none : (ends : Bool) (a : Inputs) (s : Run) (b : Body) (ook fsk : List ℕ) → UnfoundIn (endIfOf ends p a s b ook fsk .0) → endIfOf ends p a s b ook fsk ≡ (b, ook, fsk)
   unfolding endIfOf
-  end-none true a s b ook fsk U = frame-none b (a .high) (a .pac) (s .«p_t_prev») (endOf (a .level) (a .«c_run») (s .«p_t_run»)) ook fsk U
+  end-none true a s b ook fsk U = frame-none b (a .high) (a .pac) (s .«t_prev») (endOf (a .level) (a .«c_run») (s .«t_run»)) ook fsk U
   end-none false a s b ook fsk U = refl
 
   -- presence without frames: a carrier that is too long ends the train, and nothing else does
@@ -96,18 +98,18 @@ module _ (p : Settings) (auto : p .mode ≡ 2) where
   passed-unfound false a s b ook fsk U = U
 
   carrier-none : (a : Inputs) (on : Bool) (s : Pres) (b : Body) (ook fsk : List ℕ) → UnfoundIn (carrierIfOf p a on s b ook fsk .0 .body)
-      → carrierIfOf p a on s b ook fsk ≡ passed (longOf on (s .«p_run») (p .«long_steps»)) a s b ook fsk
+      → carrierIfOf p a on s b ook fsk ≡ passed (longOf on (s .run .«run_len») (p .«long_steps»)) a s b ook fsk
   unfolding carrierIfOf endCarrierOf passed
-  carrier-none a on s b ook fsk = go (longOf on (s .«p_run») (p .«long_steps»))
+  carrier-none a on s b ook fsk = go (longOf on (s .run .«run_len») (p .«long_steps»))
     where
       ended : Body × List ℕ × List ℕ
-      ended = frameDoneOf p (fullBody b) (a .high) (a .pac) (s .«p_t_run») (add binary64 (ofInt binary64 (pos (a .idx))) one64) ook fsk
+      ended = frameDoneOf p (fullBody b) (a .high) (a .pac) (s .run .«t_run») (add binary64 (ofInt binary64 (pos (a .idx))) one64) ook fsk
 
       by : Bool → Present × List ℕ × List ℕ
       by long = cond long (presentBy (IdleAt (a .e)) s (endTrainBy (a .high) ended)) (record { next = Stay; pres = s; body = b }, ook, fsk)
 
       go : (long : Bool) → UnfoundIn (by long .0 .body) → by long ≡ passed long a s b ook fsk
-      go true U = ap (λ (q : Body × List ℕ × List ℕ). presentBy (IdleAt (a .e)) s (endTrainBy (a .high) q)) (frame-none (fullBody b) (a .high) (a .pac) (s .«p_t_run») _ ook fsk U)
+      go true U = ap (λ (q : Body × List ℕ × List ℕ). presentBy (IdleAt (a .e)) s (endTrainBy (a .high) q)) (frame-none (fullBody b) (a .high) (a .pac) (s .run .«t_run») _ ook fsk U)
       go false U = refl
 
   module _ (a : Inputs) (s : Pres) (b : Body) (ook fsk : List ℕ) (U : UnfoundIn (presenceOf p a s b ook fsk .0 .body)) where
@@ -115,20 +117,20 @@ module _ (p : Settings) (auto : p .mode ≡ 2) where
     moved = advanceOf p a s (b .frame) fsk
 
     abbrev sure : Pres
-    sure = sureIfOf (dueOf (moved .0 .pres) (p .«min_steps»)) (moved .0 .pres)
+    sure = sureIfOf (dueOf (moved .0 .pres .run) (p .«min_steps»)) (moved .0 .pres)
 
     abbrev long : Bool
-    long = longOf (moved .0 .on) (sure .«p_run») (p .«long_steps»)
+    long = longOf (moved .0 .on) (sure .run .«run_len») (p .«long_steps»)
 
     presence-passed : presenceOf p a s b ook fsk ≡ passed long a sure (withFrame (moved .0 .frame) b) ook (moved .1)
     unfolding presenceOf
-    presence-passed = carried ∙ ap (λ (q : Body × List ℕ × List ℕ). passed long a sure (q .0) (q .1) (q .2)) (end-none ends a (moved .0 .pres) (withFrame (moved .0 .frame) b) ook (moved .1) before)
+    presence-passed = carried ∙ ap (λ (q : Body × List ℕ × List ℕ). passed long a sure (q .0) (q .1) (q .2)) (end-none ends a (moved .0 .pres .run) (withFrame (moved .0 .frame) b) ook (moved .1) before)
       where
         ends : Bool
-        ends = endsOf (dueOf (moved .0 .pres) (p .«min_steps»)) (moved .0 .on) (moved .0 .pres .«p_prev») (p .«min_steps»)
+        ends = endsOf (dueOf (moved .0 .pres .run) (p .«min_steps»)) (moved .0 .on) (moved .0 .pres .run .«prev_len») (p .«min_steps»)
 
         e : Body × List ℕ × List ℕ
-        e = endIfOf ends p a (moved .0 .pres) (withFrame (moved .0 .frame) b) ook (moved .1)
+        e = endIfOf ends p a (moved .0 .pres .run) (withFrame (moved .0 .frame) b) ook (moved .1)
 
         carried : carrierIfOf p a (moved .0 .on) sure (e .0) (e .1) (e .2) ≡ passed long a sure (e .0) (e .1) (e .2)
         carried = carrier-none a (moved .0 .on) sure (e .0) (e .1) (e .2) U

@@ -9,8 +9,9 @@ use lib.Dec.{ltb, eqb}
 use borrow.Author.Tests.{eqb-true, eqb-false, eq-eqb}
 use lib.ListN.{length, take}
 use lib.Ieee.{Float}
-use Rattle.ook.specs.declared.Settings.{Settings}
-use Rattle.ook.specs.Counts.{bit}
+use Rattle.shared.specs.declared.Settings.{Settings}
+use Rattle.shared.specs.Counts.{bit}
+use Rattle.shared.proofs.Cases.{by-test}
 use Rattle.pulses.specs.Runs.{Pulse, edges}
 use Rattle.pulses.specs.Yardstick.{Call, Given}
 use Rattle.pulses.specs.Demand.{Program, Place, slotsBetween, Gives, settingsAt, pulsesAt, Holds, Each, NoneYet, Demand3}
@@ -102,12 +103,10 @@ module _ {W : Program} where
 
   waits : (k : Place W) → NoneYet k → cond (eqb (k .yard .lane .phase) 0) true (cond (eqb (settingsAt k .mode) 0) (equal (told (k .trains)) []) true) ≡ true
   unfolding told equal
-  waits k N = go (eqb (k .yard .lane .phase) 0) (eqb (settingsAt k .mode) 0) refl refl
-    where
-      go : (a b : Bool) → eqb (k .yard .lane .phase) 0 ≡ a → eqb (settingsAt k .mode) 0 ≡ b → cond a true (cond b (equal (told (k .trains)) []) true) ≡ true
-      go true b q o = refl
-      go false true q o = rw (N (eqb-false (k .yard .lane .phase) 0 q) (eqb-true (settingsAt k .mode) 0 o))
-      go false false q o = refl
+  waits k N =
+      let passed : Bool → Type 0 = λ (b : Bool). b ≡ true in
+      by-test passed (eqb (k .yard .lane .phase) 0) (λ q. refl)
+      (λ q. by-test passed (eqb (settingsAt k .mode) 0) (λ o. rw (N (eqb-false (k .yard .lane .phase) 0 q) (eqb-true (settingsAt k .mode) 0 o))) (λ o. refl))
 
   all-pass : (t : Test) (r : Ran W) → Each (r .ended) → NoneYet (r .last) → passes t r ≡ true
   unfolding passes

@@ -1,13 +1,14 @@
 -- The sum of R-1 follows from demand 3, so that it holds of every program that meets it, and of the lane.
-use mathlib.Core.Path.{_≡_, refl, sym, ap, _∙_, subst}
-use mathlib.Core.Option.{Option, none, some}
+use mathlib.Core.Path.{_≡_, sym, ap, _∙_, subst}
+use mathlib.Core.Option.{Option}
 use mathlib.Core.List.{List, [], _∷_}
 use Prim.Native.Nat.{ℕ}
 use lib.Ieee.{Float}
 use Rattle.arith.specs.Carry.{roundedOf}
-use Rattle.ook.specs.declared.Settings.{Settings}
+use Rattle.shared.specs.declared.Settings.{Settings}
 use Rattle.slots.specs.Slots.{slotsOf}
-use Rattle.slots.specs.Sum.{sum, adds-up, all-edges}
+use Rattle.slots.specs.Sum.{sum}
+use Rattle.slots.proofs.Sum.{adds-up, all-edges}
 use Rattle.pulses.specs.Runs.{Pulse}
 use Rattle.pulses.specs.Yardstick.{Given, Yardstick}
 use Rattle.pulses.specs.Demand.{Program, theLane, Place, start, bursts, slotsBetween, TrainOf, Gives, settingsAt, pulsesAt, Each, Demand3}
@@ -41,7 +42,7 @@ unfolding Each EachAdds
 each-adds [] E = tt
 each-adds (k ∷ ks) E = ((λ o c g q. gives-adds (settingsAt k) (pulsesAt k) (k .trains) (E .0 o .gives) c g q), each-adds ks (E .1))
 
-pub all-sum-up : (W : Program) → Demand3 W → SumsUp W
+all-sum-up : (W : Program) → Demand3 W → SumsUp W
 unfolding Demand3 SumsUp
 all-sum-up W D cs h = each-adds (bursts W (start W) cs) (D cs h .0)
 
@@ -55,7 +56,7 @@ module _ (C : Yardstick → Type 0) where
   each-adds-where [] E = tt
   each-adds-where (k ∷ ks) E = ((λ o c g q. gives-adds (settingsAt k) (pulsesAt k) (k .trains) (E .0 o .gives) c g q), each-adds-where ks (E .1))
 
-  pub sum-up-where : (W : Program) → Demand3Where C W → SumsUpWhere C W
+  sum-up-where : (W : Program) → Demand3Where C W → SumsUpWhere C W
   unfolding Demand3Where SumsUpWhere
   sum-up-where W D cs h = each-adds-where (bursts W (start W) cs) (D cs h .0)
 

@@ -5,7 +5,7 @@ use mathlib.Core.List.{List, [], _∷_, _++_, map}
 use Prim.Native.Nat.{ℕ, _+_}
 use lib.ListN.{replicate}
 use lib.Ieee.{binary32, ofBits}
-use Rattle.arith.specs.Leaves.{zero32}
+use Rattle.ieee.specs.Constants.{zero32}
 use Rattle.pulses.specs.Yardstick.{Call, opening}
 use Rattle.pulses.specs.Demand.{theLane, Place}
 use Rattle.pulses.specs.Lists.{settings, slots, firstBy, first, eight, hi, shut, los, his, unended, opensAuto, tones, plain, three-runs, four-runs, keyed}
@@ -38,7 +38,7 @@ abbrev of-frame : Framed
 of-frame = (split 5 13, 1, (2, 18, 1 ∷ [], []))
 
 -- a pulse before the frame
-abbrev pub after-pulse : List Call
+abbrev after-pulse : List Call
 after-pulse = opensAuto ++ (first 10 (slots 8) ∷ plain 11 4 3 ++ tones 18 eight four-runs ++ tones 30 zero32 (slots 5))
 
 abbrev pub table : List (List Call × List Framed)

@@ -1,16 +1,19 @@
 -- Hollow programs, document 01's table "What a hollow lane would meet", and others that demand 3 shuts out. That none of them meets it is
--- proved in proofs/Hollow, each by one small list.
+-- proved in proofs/Hollow (`hollow-fail`), each by one small list.
 use mathlib.Core.Bool.{Bool, false, cond, _||_}
 use mathlib.Core.List.{List, [], _∷_}
-use Prim.Native.Nat.{ℕ, _+_}
+use Prim.Native.Nat.{ℕ, _+_, _-_, _*_, max}
 use lib.Dec.{leb, eqb}
-use Rattle.ook.specs.declared.Settings.{Settings}
-use Rattle.ook.specs.declared.Out.{Out}
-use Rattle.ook.specs.Counts.{bit}
+use lib.ListN.{set}
+use Rattle.ieee.specs.Constants.{zero32}
+use Rattle.shared.specs.declared.Settings.{Settings}
+use Rattle.shared.specs.declared.Out.{Out}
+use Rattle.shared.specs.Counts.{bit}
 use Rattle.lane.specs.Idle.{noOut}
 use Rattle.lane.specs.Serial.{stampOf}
 use Rattle.lane.specs.declared.Lane.{Lane}
 use Rattle.lane.specs.declared.Reply.{Reply}
+use Rattle.lane.specs.declared.StepArgs.{StepArgs}
 use Rattle.lane.specs.Answers.{replyNumberOf}
 use Rattle.pulses.specs.Demand.{Returned, Program, theLane, Demand3}
 
@@ -33,67 +36,50 @@ train pairs cut o = record { index = o .index; end = o .end; state = 1; cut = cu
 abbrev decides : Returned Lane → Bool
 decides r = eqb (r .out .state) 1
 
--- what a step or a close returns is changed, and the same where it decides a train
-abbrev changed : (Returned Lane → Returned Lane) → Program
-changed f = record {
+-- other settings than those that it is opened with, something else returned of a step, another close, and a part fetched by another lane
+abbrev laneBy : (Lane → Settings → Settings) → (Returned Lane → Returned Lane) → (Lane → List ℕ → List ℕ → Returned Lane) → (Lane → Lane) → Program
+laneBy settings stepped close fetching = record {
   Lanes = Lane;
   new = theLane .new;
-  opening = theLane .opening;
+  opening = λ l p. theLane .opening l (settings l p);
   begin = theLane .begin;
-  step = λ l s ook fsk. f (theLane .step l s ook fsk);
-  close = λ l ook fsk. f (theLane .close l ook fsk);
-  part = theLane .part;
+  step = λ l s ook fsk. stepped (theLane .step l s ook fsk);
+  close = close;
+  part = λ l o ook fsk. theLane .part (fetching l) o ook fsk;
 }
+
+abbrev asked : Lane → Settings → Settings
+asked l p = p
+
+abbrev same : {A : Type 0} → A → A
+same x = x
+
+abbrev closing : (Returned Lane → Returned Lane) → Lane → List ℕ → List ℕ → Returned Lane
+closing f l ook fsk = f (theLane .close l ook fsk)
+
+-- what a step or a close returns is changed, and the same where it decides a train
+abbrev changed : (Returned Lane → Returned Lane) → Program
+changed f = laneBy asked f (closing f) same
 
 abbrev trainChanged : (Returned Lane → Returned Lane) → Program
 trainChanged f = changed (λ r. cond (decides r) (f r) r)
 
--- the lane has settings other than those that it is opened with; where it so refuses a step or a close, it returns the number alone
-abbrev pub opensWith : (Settings → Settings) → Program
-opensWith f = record {
-  Lanes = Lane;
-  new = theLane .new;
-  opening = λ l p. theLane .opening l (f p);
-  begin = theLane .begin;
-  step = λ l s ook fsk. alone (theLane .step l s ook fsk);
-  close = λ l ook fsk. alone (theLane .close l ook fsk);
-  part = theLane .part;
-}
+-- where a lane with other settings refuses a step or a close, it returns the number alone
+abbrev opensBy : (Lane → Settings → Settings) → Program
+opensBy f = laneBy f alone (closing alone) same
   where
     alone : Returned Lane → Returned Lane
     alone r = cond (eqb (replyNumberOf (r .reply)) 3) (withOut noOut r) r
 
-abbrev pub withSteps : ℕ → ℕ → ℕ → Settings → Settings
-withSteps min gap pre p =
-    record {
-      mode = p .mode;
-      «min_steps» = min;
-      «gap_steps» = gap;
-      «pre_timeout» = pre;
-      «long_steps» = p .«long_steps»;
-      «max_pulses» = p .«max_pulses»;
-      alpha = p .alpha;
-      «gap_ratio» = p .«gap_ratio»;
-      «fsk_delta» = p .«fsk_delta»;
-      «fsk_split» = p .«fsk_split»;
-      carry = p .carry;
-    }
+abbrev pub opensWith : (Settings → Settings) → Program
+opensWith f = opensBy (λ l p. f p)
 
-abbrev withCarry : ℕ → Settings → Settings
-withCarry carry p =
-    record {
-      mode = p .mode;
-      «min_steps» = p .«min_steps»;
-      «gap_steps» = p .«gap_steps»;
-      «pre_timeout» = p .«pre_timeout»;
-      «long_steps» = p .«long_steps»;
-      «max_pulses» = p .«max_pulses»;
-      alpha = p .alpha;
-      «gap_ratio» = p .«gap_ratio»;
-      «fsk_delta» = p .«fsk_delta»;
-      «fsk_split» = p .«fsk_split»;
-      carry = carry;
-    }
+-- settings with other steps and another carry, and with other steps alone
+abbrev withWhole : ℕ → ℕ → ℕ → ℕ → Settings → Settings
+withWhole min gap pre carry p = record { mode = p .mode; «min_steps» = min; «gap_steps» = gap; «pre_timeout» = pre; «long_steps» = p .«long_steps»; «max_pulses» = p .«max_pulses»; alpha = p .alpha; «gap_ratio» = p .«gap_ratio»; «fsk_delta» = p .«fsk_delta»; «fsk_split» = p .«fsk_split»; carry = carry }
+
+abbrev pub withSteps : ℕ → ℕ → ℕ → Settings → Settings
+withSteps min gap pre p = withWhole min gap pre (p .carry) p
 
 -- ---- document 01's table
 -- "stays for ever and writes no slot", "refuses each call": whatever it replies, it gives no train
@@ -168,35 +154,41 @@ gapless = trainChanged (λ r. withSlots (zeros (r .ook)) r)
     zeros (x ∷ y ∷ s) = x ∷ 0 ∷ zeros s
 
 -- ---- carry (document 02, R-1)
--- widths without carry and with it, whatever the settings say
+-- widths always without carry, always with it, and with it once a carry was on, whatever the settings say
+abbrev carries : (Lane → Settings → ℕ) → Program
+carries carry = opensBy (λ l p. withWhole (p .«min_steps») (p .«gap_steps») (p .«pre_timeout») (carry l p) p)
+
 unfoldable pub never-carries : Program
-never-carries = opensWith (λ p. withCarry 0 p)
+never-carries = carries (λ l p. 0)
 
 unfoldable pub always-carries : Program
-always-carries = opensWith (λ p. withCarry 1 p)
+always-carries = carries (λ l p. 1)
+
+unfoldable pub carries-on : Program
+carries-on = carries (λ l p. max (l .settings .carry) (p .carry))
 
 -- ---- the serial (document 02, R-6)
 -- "A part taken too late": by a lane that is an accepted call further on than the record. All else is as it should be
 unfoldable pub too-late : Program
-too-late = record {
-  Lanes = Lane;
-  new = theLane .new;
-  opening = theLane .opening;
-  begin = theLane .begin;
-  step = theLane .step;
-  close = theLane .close;
-  part = λ l o ook fsk. theLane .part (stampOf (l .serial + 1) l) o ook fsk;
-}
+too-late = laneBy asked same (theLane .close) (λ l. stampOf (l .serial + 1) l)
 
 -- ---- close (document 02, R-13)
 -- "When a reel of samples ends, pulses already finished should not be lost": a close that gives no train. All else is as it should be
 unfoldable pub loses : Program
-loses = record {
-  Lanes = Lane;
-  new = theLane .new;
-  opening = theLane .opening;
-  begin = theLane .begin;
-  step = theLane .step;
-  close = λ l ook fsk. withOut noOut (theLane .close l ook fsk);
-  part = theLane .part;
-}
+loses = laneBy asked same (closing (withOut noOut)) same
+
+-- a close that zeroes the last gap, though a later pulse's start has closed it
+unfoldable pub zeroes-gap : Program
+zeroes-gap = laneBy asked same (closing (λ r. withSlots (set (r .ook) (2 * r .out .pairs - 1) 0) r)) same
+
+-- a close in lead (phase 1) that takes one more sample, and so replays the lead-in where that fills it
+unfoldable pub replays-lead : Program
+replays-lead = laneBy asked same (λ l ook fsk. cond (eqb (l .phase) 1) (theLane .step l (more l) ook fsk) (theLane .close l ook fsk)) same
+  where
+    more : Lane → StepArgs
+    more l = record { index = l .last + 1; noise = zero32; envelope = zero32; x = l .«x_prev» }
+
+-- ---- none of them meets demand 3
+unfoldable pub AllFail : List Program → Type 0
+AllFail [] = Unit {0}
+AllFail (W ∷ Ws) = Fails W × AllFail Ws

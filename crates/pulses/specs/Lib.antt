@@ -1,5 +1,5 @@
--- Demand 3. What it says is in Runs, Yardstick and Demand, and what follows for the sum of carried widths in Sums. Hollow has programs that do not meet it, Examples what the lane gives in small
--- lists; Lists and Ran serve both.
+-- Demand 3 of a program. What it says is in Runs, Yardstick and Demand; in Auto mode in Auto; what follows for the sum of carried widths in Sums.
+-- Hollow has programs that do not meet it, Examples and AutoExamples what the lane gives in small lists; Lists and Ran serve all three.
 pub mod Runs
 pub mod Yardstick
 pub mod Demand

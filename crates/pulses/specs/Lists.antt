@@ -4,14 +4,14 @@ use Prim.Native.Nat.{ℕ, zero, suc, _+_}
 use lib.ListN.{length, replicate}
 use lib.Ieee.{Float, binary32, neg, ofBits}
 use Rattle.arith.specs.declared.C32.{C32}
-use Rattle.arith.specs.Leaves.{zero32, one32}
-use Rattle.ook.specs.declared.Settings.{Settings}
+use Rattle.ieee.specs.Constants.{zero32, one32}
+use Rattle.shared.specs.declared.Settings.{Settings}
 use Rattle.lane.specs.declared.History.{History}
 use Rattle.lane.specs.declared.StepArgs.{StepArgs}
 use Rattle.pulses.specs.Yardstick.{as-left, Call, opening, begin, step, close}
 
 -- the settings of M6 to M8, but for carry, the mode, the most pulses, and how long a carrier is
-abbrev pub settingsBy : ℕ → ℕ → ℕ → ℕ → Settings
+abbrev settingsBy : ℕ → ℕ → ℕ → ℕ → Settings
 settingsBy carry mode most long =
     record {
       mode = mode;
@@ -68,7 +68,7 @@ abbrev pub shut : Call
 shut = close as-left (slots 8)
 
 -- a step at envelope 4, so that an edge falls half way between two samples
-abbrev pub mid : ℕ → Call
+abbrev mid : ℕ → Call
 mid i = step (at (ofBits binary32 0x4080_0000) i) as-left (slots 8)
 
 -- n steps from index i on

@@ -3,29 +3,29 @@ use lib.Ieee.{ofBits, toBits, add, sub, mul, div, neg, lt, le, eq, ofInt, toUnsi
 use Rattle.arith.specs.Leaves.{absOf, midpointOf, flushOf, crossOf, nearestIn, gainOf}
 use Rattle.arith.specs.Angle.{atan2Of}
 use Rattle.arith.specs.Carry.{widthBy, carriedAt, boundOf}
-use Rattle.arith.specs.Rounding.{roundOf, narrowOf}
-use Rattle.arith.specs.Root.{sqrtOf, exactOf, roundExact, wholeRoot}
-use Rattle.ook.specs.Counts.{satAddOf, inc}
-use Rattle.ook.specs.Run.{lengthenOf, rejoinOf, beginRunOf, beginsOf, advanceOf, pacRunOf, beginEnvOf}
+use Rattle.ieee.specs.Rounding.{roundOf, narrowOf}
+use Rattle.root.specs.Root.{sqrtOf, exactOf, roundExact, wholeRoot}
+use Rattle.shared.specs.Counts.{satAddOf, inc}
+use Rattle.run.specs.Run.{edgeAt, beginsOf, lengthenOf, rejoinOf, beginRunOf, movedOf, dueOf, startRunOf}
+use Rattle.ook.specs.Run.{advanceOf, pacRunOf, beginEnvOf}
 use Rattle.ook.specs.Refine.{refineLevelOf, refineLoOf, excessOf, splitFrom, refineInOf, refineOf}
 use Rattle.ook.specs.Train.{pushPulseOf, closeGapOf, emptyTrainOf, finishOf, endTrainOf, pulseDoneOf, gapRatioExceededOf}
-use Rattle.stages.specs.See.{thresholdOf, onOf, refineDueOf, highOf, pacOf, seeOf}
-use Rattle.stages.specs.Act.{dueOf, confirmIf, riseOf, fallOf, confirmOf, actOf}
-use Rattle.stages.specs.Tail.{carrierOf, goneOf, hasPulsesOf, gapOverOf, waitOf, tailOf}
+use Rattle.envelope.specs.See.{thresholdOf, onOf, refineDueOf, highOf, pacOf, seeOf}
+use Rattle.envelope.specs.Act.{confirmIf, riseOf, fallOf, confirmOf, actOf}
+use Rattle.envelope.specs.Tail.{carrierOf, goneOf, hasPulsesOf, gapOverOf, waitOf, tailOf}
 use Rattle.burst.specs.Sample.{snapIfOf, lastOf, presentOf, restOf, sampleOf}
 use Rattle.fsk.specs.Commit.{putEndOf, originOf, countRunOf, upperRunOf, lowerRunOf, fskCommitOf}
-use Rattle.fsk.specs.RunStep.{confirmDueOf, fskRunStepOf}
+use Rattle.fsk.specs.RunStep.{isGlitchOf, confirmDueOf, fskRunStepOf}
 use Rattle.fsk.specs.RunStep as slices
 use Rattle.fsk.specs.Resolve.{beginFrameOf, sliceThrOf, pastOf, firstPastOf, candAtOf, beforeOf, turnAtOf, hiLoOf, otherLevelOf, isEarlyOf, openRunsOf, fskResolveOf}
 use Rattle.fsk.specs.Resolve as resolve
-use Rattle.slicer.specs.Tone.{lowPassOf, toneOf, upperOf, followOf}
-use Rattle.slicer.specs.Seek.{seedOf, farFromOf, averageOf, startOf, beforeIfOf, storeOf, pushCandOf, clearOf, restartAtOf, restartEarlyOf}
-use Rattle.slicer.specs.Sample.{seekFrameOf, restartOf, awayOf, seekOf, trackOf, fskSampleOf}
-use Rattle.frame.specs.End.{isSplitOf, enoughRunsOf, isFrameOf, lastRunOf, closePairOf, outOf, endFrameOf}
-use Rattle.frame.specs.Cut.{gapAtOf, keepNextOf, keepFrom, startKeptOf, keepBeforeOf, cutTrainOf}
-use Rattle.frame.specs.Done.{frameDoneOf}
+use Rattle.fsk_sample.specs.Tone.{lowPassOf, toneOf, upperOf, followOf}
+use Rattle.fsk_sample.specs.Seek.{seedOf, farFromOf, averageOf, startOf, beforeIfOf, storeOf, pushCandOf, clearOf, restartAtOf, restartEarlyOf}
+use Rattle.fsk_sample.specs.Sample.{seekFrameOf, restartOf, awayOf, seekOf, trackOf, fskSampleOf}
+use Rattle.frame_end.specs.End.{isSplitOf, enoughRunsOf, isFrameOf, lastRunOf, closePairOf, outOf, endFrameOf}
+use Rattle.frame_end.specs.Cut.{gapAtOf, keepNextOf, keepFrom, startKeptOf, keepBeforeOf, cutTrainOf}
+use Rattle.frame_end.specs.Done.{frameDoneOf}
 use Rattle.presence.specs.Move.{presThrOf, movePresOf, extendOf, moveFrameOf}
-use Rattle.presence.specs.Move as move
 use Rattle.presence.specs.Presence.{sliceIfOf, sureIfOf, endsOf, inWindowOf, endIfOf, longOf, endCarrierOf, carrierIfOf, presenceOf, snapOf, nearStartOf}
 use Rattle.presence.specs.Presence as presence
 use Rattle.burst.specs.Lead.{leadAddOf, largestFrom, beginBurstOf, leadAtOf, replayFrom, replayOf, leadFullOf}
@@ -57,5 +57,5 @@ pub record Ran (W : Program) : Type 0 where
   pub last : Place W
 
 unfoldable pub ran : (W : Program) → List Call → Ran W
-unfolding lent lentWell handedOn los his unused refusal levelled replayed phasesReplayed stepSamples stepPhases advanced ends givenBy returnedBy start after afterAll bursts slotsBetween slotsOf slotsFrom nth runEdge pair edges row join runs size keep counted between pulses newLane opened begun stepped closed stampOf front namedOf partOf advance.advanceOf closeOf endBurstOf idleWith leadStep burstStep settleOf fillOf replayStep leadAddOf largestFrom leadFullOf historyOf beginLeadOf clearedOf leadLane noBurst idleLane openedOk laneOk historyOk beginFloatsOk stepFloatsOk followsOf openRefusal beginRefusal stepRefusal closeRefusal replyOf phaseOf firstFailed frameOk burstOk leadOk candOk settingsOk unsetOk beginBurstOf leadAtOf replayFrom replayOf sampleOf restOf lastOf snapIfOf snapOf nearStartOf presentOf presenceOf presence.advanceOf presThrOf upperOf movePresOf move.lengthenOf move.rejoinOf move.beginRunOf extendOf moveFrameOf sliceIfOf presence.dueOf sureIfOf endsOf inWindowOf presence.endOf endIfOf longOf endCarrierOf carrierIfOf frameDoneOf isSplitOf enoughRunsOf isFrameOf lastRunOf closePairOf outOf endFrameOf gapAtOf keepNextOf keepFrom startKeptOf keepBeforeOf cutTrainOf seekFrameOf restartOf awayOf seekOf trackOf fskSampleOf seedOf farFromOf averageOf startOf beforeIfOf storeOf pushCandOf clearOf restartAtOf restartEarlyOf lowPassOf toneOf followOf putEndOf originOf countRunOf upperRunOf lowerRunOf fskCommitOf beginFrameOf sliceThrOf pastOf firstPastOf candAtOf beforeOf turnAtOf hiLoOf otherLevelOf isEarlyOf openRunsOf resolve.settleOf fskResolveOf slices.lengthenOf slices.rejoinOf slices.beginRunOf slices.confirmOf confirmDueOf fskRunStepOf gainOf atan2Of carrierOf goneOf hasPulsesOf gapOverOf waitOf tailOf dueOf confirmIf riseOf fallOf confirmOf actOf thresholdOf onOf refineDueOf highOf pacOf seeOf pushPulseOf closeGapOf emptyTrainOf finishOf endTrainOf pulseDoneOf gapRatioExceededOf refineLevelOf refineLoOf excessOf splitFrom refineInOf refineOf lengthenOf rejoinOf beginRunOf beginsOf advanceOf pacRunOf beginEnvOf satAddOf inc sqrtOf exactOf roundExact wholeRoot roundOf narrowOf absOf midpointOf flushOf crossOf nearestIn widthBy carriedAt boundOf ofBits toBits add sub mul div neg lt le eq ofInt toUnsigned isNan
+unfolding lent lentWell handedOn los his unused refusal levelled replayed phasesReplayed stepSamples stepPhases advanced ends givenBy returnedBy start after afterAll bursts slotsBetween slotsOf slotsFrom nth runEdge pair edges row join runs size keep counted between pulses newLane opened begun stepped closed stampOf front namedOf partOf advance.advanceOf closeOf endBurstOf idleWith leadStep burstStep settleOf fillOf replayStep leadAddOf largestFrom leadFullOf historyOf beginLeadOf clearedOf leadLane noBurst idleLane openedOk laneOk historyOk beginFloatsOk stepFloatsOk followsOf openRefusal beginRefusal stepRefusal closeRefusal replyOf phaseOf firstFailed frameOk burstOk leadOk candOk settingsOk unsetOk beginBurstOf leadAtOf replayFrom replayOf sampleOf restOf lastOf snapIfOf snapOf nearStartOf presentOf presenceOf presence.advanceOf presThrOf upperOf movePresOf extendOf moveFrameOf sliceIfOf sureIfOf endsOf inWindowOf presence.endOf endIfOf longOf endCarrierOf carrierIfOf frameDoneOf isSplitOf enoughRunsOf isFrameOf lastRunOf closePairOf outOf endFrameOf gapAtOf keepNextOf keepFrom startKeptOf keepBeforeOf cutTrainOf seekFrameOf restartOf awayOf seekOf trackOf fskSampleOf seedOf farFromOf averageOf startOf beforeIfOf storeOf pushCandOf clearOf restartAtOf restartEarlyOf lowPassOf toneOf followOf putEndOf originOf countRunOf upperRunOf lowerRunOf fskCommitOf beginFrameOf sliceThrOf pastOf firstPastOf candAtOf beforeOf turnAtOf hiLoOf otherLevelOf isEarlyOf openRunsOf resolve.settleOf fskResolveOf slices.lengthenOf isGlitchOf slices.confirmOf confirmDueOf fskRunStepOf gainOf atan2Of carrierOf goneOf hasPulsesOf gapOverOf waitOf tailOf dueOf confirmIf riseOf fallOf confirmOf actOf thresholdOf onOf refineDueOf highOf pacOf seeOf pushPulseOf closeGapOf emptyTrainOf finishOf endTrainOf pulseDoneOf gapRatioExceededOf refineLevelOf refineLoOf excessOf splitFrom refineInOf refineOf lengthenOf rejoinOf beginRunOf movedOf startRunOf beginsOf advanceOf pacRunOf beginEnvOf satAddOf inc sqrtOf exactOf roundExact wholeRoot roundOf narrowOf absOf midpointOf flushOf crossOf nearestIn widthBy carriedAt boundOf ofBits toBits add sub mul div neg lt le eq ofInt toUnsigned isNan
 ran W cs = record { handed = handedOn unused cs; ended = bursts W (start W) cs; last = afterAll W (start W) cs }

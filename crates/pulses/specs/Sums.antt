@@ -8,7 +8,7 @@ use Prim.Native.Nat.{_-_, _*_}
 use lib.ListN.{take}
 use lib.Ieee.{Float}
 use Rattle.arith.specs.Carry.{roundedOf}
-use Rattle.ook.specs.declared.Settings.{Settings}
+use Rattle.shared.specs.declared.Settings.{Settings}
 use Rattle.slots.specs.Sum.{sum, lastBound, Unstopped}
 use Rattle.pulses.specs.Runs.{Pulse, edges}
 use Rattle.pulses.specs.Yardstick.{Call, Given, unused, handedOn}

@@ -8,12 +8,12 @@ use lib.IntN.{pos}
 use lib.ListN.{length, getD}
 use lib.Ieee.{Float, nan, binary64, ofInt}
 use Rattle.arith.specs.Leaves.{leadLenOf}
-use Rattle.ook.specs.declared.Settings.{Settings}
-use Rattle.ook.specs.declared.Out.{Out}
-use Rattle.ook.specs.Answers.{isStayOf}
-use Rattle.stages.specs.declared.At.{At}
-use Rattle.stages.specs.declared.Seen.{Seen}
-use Rattle.stages.specs.See.{seeOf}
+use Rattle.shared.specs.declared.Settings.{Settings}
+use Rattle.shared.specs.declared.Out.{Out}
+use Rattle.shared.specs.Answers.{isStayOf}
+use Rattle.envelope.specs.declared.At.{At}
+use Rattle.envelope.specs.declared.Seen.{Seen}
+use Rattle.envelope.specs.See.{seeOf}
 use Rattle.burst.specs.declared.Burst.{Burst}
 use Rattle.burst.specs.declared.Lead.{Lead}
 use Rattle.burst.specs.declared.Sampled.{Sampled}
@@ -90,7 +90,7 @@ accepts y c = eqb (refusal y c) 0
 unfoldable pub levelled : Settings → At → List Float → Burst → Sample Float
 levelled p a ring b =
     let s : Seen = seeOf p a ring (b .high) (b .«e_prev») (b .env) (b .pac) in
-    sample (s .on) (s .env .times .«t_run»)
+    sample (s .on) (s .env .run .«t_run»)
 
 -- "as it is stepped or replayed": the k samples of the lead-in from place i on, after the answer r; "what a replay drops is not in it"
 unfoldable pub replayed : Settings → Float → List Float → Lead → ℕ → ℕ → Sampled × List ℕ × List ℕ → List (Sample Float)

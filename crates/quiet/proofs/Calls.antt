@@ -4,16 +4,17 @@ use mathlib.Core.Bool.{Bool, true, false, cond}
 use mathlib.Core.List.{List, [], _∷_, _++_, append-nil}
 use Prim.Native.Nat.{ℕ, _+_, _<_}
 use native.Mathlib.Omega.{arith}
-use lib.Dec.{ltb, eqb}
+use lib.Dec.{ltb}
 use lib.Ieee.{Float}
 use lib.ListN.{length, length-append}
 use borrow.Author.Tests.{ltb-true, ltb-false, eqb-true}
 use Rattle.arith.specs.Leaves.{leadLenOf}
-use Rattle.ook.specs.declared.Settings.{Settings}
-use Rattle.ook.specs.declared.Next.{Next}
-use Rattle.ook.specs.declared.Next.the-variants as next
-use Rattle.ook.specs.Counts.{inc, inc-exact}
-use Rattle.refusals.specs.Domain.{InDomain}
+use Rattle.shared.specs.declared.Settings.{Settings}
+use Rattle.shared.specs.declared.Next.{Next}
+use Rattle.shared.specs.declared.Next.the-variants as next
+use Rattle.shared.specs.Counts.{inc}
+use Rattle.shared.proofs.Counts.{inc-exact}
+use Rattle.refusals.proofs.Domain.{InDomain}
 use Rattle.burst.specs.declared.Lead.{Lead}
 use Rattle.burst.specs.declared.Burst.{Burst}
 use Rattle.burst.specs.declared.Sampled.{Sampled}
@@ -26,8 +27,9 @@ use Rattle.lane.specs.Answers.{replyOf, phaseOf}
 use Rattle.lane.specs.Idle.{idleLane}
 use Rattle.lane.specs.Begin.{ringOf, clearedOf, beginLeadOf, leadLane}
 use Rattle.lane.specs.Advance.{settleOf, settled, fillOf, atOf, replayStep, leadStep, burstStep, advanceOf}
-use Rattle.lane.specs.Close.{idleWith, endBurstOf, closeOf}
+use Rattle.lane.specs.Close.{idleWith, closeOf}
 use Rattle.lane.specs.Serial.{stampOf, stampedWith}
+use Rattle.reached.proofs.Accepted.{step-ways, close-ways}
 use Rattle.pulses.specs.Runs.{Sample}
 use Rattle.pulses.specs.Yardstick.{lent, Call, opening, begin, step, close, Yardstick, refusal, accepts, levelled, replayed, burstAt, stepSamples, stepPhases, answeredBy, advanced}
 use Rattle.pulses.proofs.Flags.{clash}
@@ -132,13 +134,8 @@ module _ (w : Settings → ℕ) (N : (p : Settings) → InDomain p → Enough p 
 
   -- a close leaves the lane idle
   close-rests : (y : Yardstick) (fsk : List ℕ) → closeOf (y .lane) (y .ook) fsk .0 .lane .phase ≡ 0
-  unfolding closeOf idleWith
-  close-rests y fsk = go (eqb (y .lane .phase) 1)
-    where
-      go : (b : Bool) → let r : Answer × List ℕ × List ℕ = cond b (idleWith (y .lane) (clearedOf (y .lane .burst)), y .ook, fsk)
-          (idleWith (y .lane) (endBurstOf (y .lane .burst) (y .ook) .0), endBurstOf (y .lane .burst) (y .ook) .1, fsk) in r .0 .lane .phase ≡ 0
-      go true = refl
-      go false = refl
+  unfolding idleWith
+  close-rests y fsk = close-ways (λ (r : Answer × List ℕ × List ℕ). r .0 .lane .phase ≡ 0) (y .lane) (y .ook) fsk (λ b o. refl)
 
   pub call-good : (y : Yardstick) (n : ℕ) (c : Call) (b : Bool) → accepts y c ≡ b → Good w y n → Good w (advanced b y c) (brought b n c)
   unfolding StepGood advanced brought refusal stampOf idleLane leadLane beginLeadOf
@@ -174,19 +171,6 @@ next-idles (next.IdleAt e) q = refl
 
 -- a step that leaves the lane idle answers so
 pub step-idles : (l : Lane) (s : StepArgs) (ook fsk : List ℕ) → advanceOf l s ook fsk .0 .lane .phase ≡ 0 → idles (advanceOf l s ook fsk .0 .reply) ≡ true
-unfolding advanceOf leadStep burstStep replayStep fillOf settleOf
-step-idles l s ook fsk = go (eqb (l .phase) 1) (ltb (d .«lead_n») (leadLenOf (l .settings .«min_steps»)))
-  where
-    r : List Float
-    r = ringOf (l .ring) (s .index) (s .envelope)
-
-    d : Lead
-    d = leadAddOf (l .lead) (s .envelope) (s .x)
-
-    Idles : Answer × List ℕ × List ℕ → Type 0
-    Idles q = q .0 .lane .phase ≡ 0 → idles (q .0 .reply) ≡ true
-
-    go : (a b : Bool) → Idles (cond a (cond b (fillOf l s d r, ook, fsk) (replayStep l s d r ook fsk)) (burstStep l s r ook fsk))
-    go true true q = absurd (omega (arith, q))
-    go true false q = next-idles _ q
-    go false b q = next-idles _ q
+unfolding fillOf settleOf
+step-idles l s ook fsk =
+    step-ways (λ (q : Answer × List ℕ × List ℕ). q .0 .lane .phase ≡ 0 → idles (q .0 .reply) ≡ true) l s ook fsk (λ ld ring q. absurd (omega (arith, q))) (λ ld ring r q. next-idles (r .0 .next) q)

@@ -9,38 +9,37 @@ use lib.Ieee.{Float, binary64, sub}
 use lib.ListN.{length}
 use borrow.Author.Tests.{leb-true, leb-false}
 use Rattle.ook.specs.declared.Env.{Env}
-use Rattle.ook.specs.declared.Run.{Run}
-use Rattle.ook.specs.declared.Settings.{Settings}
-use Rattle.ook.specs.declared.Next.{Next}
-use Rattle.ook.specs.declared.Next.the-variants.{Stay, Idle, IdleAt}
-use Rattle.ook.specs.Answers.{isStayOf}
-use Rattle.ook.specs.Counts.{bit}
-use Rattle.ook.specs.Params.{refineAtOf}
-use Rattle.ook.specs.Refine.{refineOf}
+use Rattle.run.specs.declared.Run.{Run}
+use Rattle.shared.specs.declared.Settings.{Settings}
+use Rattle.shared.specs.declared.Next.{Next}
+use Rattle.shared.specs.declared.Next.the-variants.{Stay, Idle, IdleAt}
+use Rattle.shared.specs.Answers.{isStayOf}
+use Rattle.shared.specs.Counts.{bit}
+use Rattle.shared.specs.Params.{refineAtOf}
+use Rattle.shared.proofs.Cases.{either}
 use Rattle.ook.specs.Run.{beginEnvOf}
-use Rattle.refusals.specs.Domain.{InDomain}
+use Rattle.refusals.proofs.Domain.{InDomain}
 use Rattle.fsk.specs.declared.Frame.{Frame}
 use Rattle.presence.specs.declared.Pres.{Pres}
 use Rattle.presence.specs.declared.Snapped.{Snapped}
-use Rattle.fsk.specs.Makers.{withRuns}
-use Rattle.fsk.specs.Makers as frame
-use Rattle.presence.specs.Move.{withStart}
+use Rattle.run.specs.Run.{startRunOf}
 use Rattle.presence.specs.Presence.{nearStartOf, snapOf}
-use Rattle.stages.specs.declared.At.{At}
-use Rattle.stages.specs.declared.Seen.{Seen}
-use Rattle.stages.specs.declared.Acted.{Acted}
-use Rattle.stages.specs.See.{refineDueOf, withRefined, seeOf}
-use Rattle.stages.specs.Act.{actOf}
-use Rattle.stages.specs.Tail.{tailOf}
+use Rattle.envelope.specs.declared.At.{At}
+use Rattle.envelope.specs.declared.Seen.{Seen}
+use Rattle.envelope.specs.declared.Acted.{Acted}
+use Rattle.envelope.specs.See.{refineDueOf, seeOf}
+use Rattle.envelope.specs.Act.{actOf}
+use Rattle.envelope.specs.Tail.{tailOf}
 use Rattle.burst.specs.declared.Burst.{Burst}
 use Rattle.burst.specs.declared.Lead.{Lead}
 use Rattle.burst.specs.declared.Sampled.{Sampled}
-use Rattle.burst.specs.Makers.{withActed}
 use Rattle.burst.specs.Sample.{snapIfOf, absenceOf, lastOf, presentOf, restOf, sampleOf}
-use Rattle.burst.specs.Lead.{beginBurstOf, leadAtOf, staying, replayFrom, replay-stop}
+use Rattle.burst.specs.Lead.{beginBurstOf, leadAtOf, staying, replayFrom}
+use Rattle.burst.proofs.LeadLaws.{replay-stop}
 use Rattle.pulses.specs.Runs.{Sample, sample}
 use Rattle.pulses.specs.Yardstick.{levelled, replayed}
 use Rattle.pulses.proofs.Flags.{clash}
+use Rattle.pulses.proofs.BurstState as state
 use Rattle.pulses.proofs.RunState.{level-after}
 use Rattle.pulses.proofs.OokSample.{idle-not, idle-at-not, not-stay}
 use Rattle.quiet.specs.Quiet.{lowsFrom, quietFrom, lows, quiet}
@@ -49,8 +48,8 @@ use Rattle.quiet.proofs.Low.{lowsAfter, lows-snoc, loud-snoc, Enough, L
 -- A burst under way, its record so far xs: presence, which is not asked in OOK mode, is away for sure and no frame has come; the run is as long as
 -- the low samples at the record's end; and nowhere are so many low in a row as would have ended it.
 pub record Calm (w : ℕ) (b : Burst) (xs : List (Sample Float)) : Type 0 where
-  pub away : b .pres .«p_level» ≡ 0
-  pub surely : b .pres .«p_confirmed» ≡ 1
+  pub away : b .pres .run .level ≡ 0
+  pub surely : b .pres .run .confirmed ≡ 1
   pub unframed : b .frames ≡ 0
   pub long : Long (lows xs) (b .env .run)
   pub few : lows xs < w
@@ -58,28 +57,26 @@ pub record Calm (w : ℕ) (b : Burst) (xs : List (Sample Float)) : Type 0 where
 
 -- at its start
 pub start-calm : (w : ℕ) (high t e : Float) (b : Burst) → 0 < w → Calm w (beginBurstOf high t e b) []
-unfolding beginBurstOf beginEnvOf lowsFrom quietFrom
+unfolding beginBurstOf beginEnvOf startRunOf lowsFrom quietFrom
 start-calm w high t e b more = record { away = refl; surely = refl; unframed = refl; long = record { flag = omega arith; low = λ q. omega arith; high = λ q. refl }; few = omega arith; loud = refl }
 
--- refining an edge leaves the run
-refine-run : (m : ℕ) (a : At) (ring : List Float) (high : Float) (on : Bool) (v : Env) → refineDueOf m a ring high on v .run ≡ v .run
+-- refining an edge leaves the run, but for the edge
+refine-run : (m : ℕ) (a : At) (ring : List Float) (high : Float) (on : Bool) (v : Env) → let r : Run = refineDueOf m a ring high on v .run in
+    (r .level ≡ v .run .level) × (r .confirmed ≡ v .run .confirmed) × (r .«run_len» ≡ v .run .«run_len»)
 unfolding refineDueOf
-refine-run m a ring high on v = go (eqb (v .«ref_pending») 1) (leb (refineAtOf m) (v .run .«run_len»))
-  where
-    go : (b c : Bool) → cond b (cond c (withRefined (refineOf ring m high (a .noise) on (a .«lead_at») (a .idx) v) v) v) v .run ≡ v .run
-    go true true = refl
-    go true false = refl
-    go false c = refl
+refine-run m a ring high on v =
+    let same : Env → Type 0 = λ (u : Env). (u .run .level ≡ v .run .level) × (u .run .confirmed ≡ v .run .confirmed) × (u .run .«run_len» ≡ v .run .«run_len») in
+    either same (eqb (v .«ref_pending») 1) (either same (leb (refineAtOf m) (v .run .«run_len»)) (refl, refl, refl) (refl, refl, refl)) (refl, refl, refl)
+
+long-as : {n : ℕ} {v w : Run} → (w .level ≡ v .level) × (w .confirmed ≡ v .confirmed) × (w .«run_len» ≡ v .«run_len») → Long n v → Long n w
+long-as q L = record { flag = rw (q .1) (L .flag); low = λ e. rw (q .2) (L .low (sym (q .0) ∙ e)); high = λ e. L .high (λ z. e (q .0 ∙ z)) }
 
 -- an envelope's edge moves the start of presence, and no more of it
-snap-level : (began on : Bool) (t : Float) (s : Pres) (f : Frame) → (snapIfOf began on t s f .pres .«p_level» ≡ s .«p_level») × (snapIfOf began on t s f .pres .«p_confirmed» ≡ s .«p_confirmed»)
+snap-level : (began on : Bool) (t : Float) (s : Pres) (f : Frame) → (snapIfOf began on t s f .pres .run .level ≡ s .run .level) × (snapIfOf began on t s f .pres .run .confirmed ≡ s .run .confirmed)
 unfolding snapIfOf snapOf
-snap-level true true t s f = go (nearStartOf (s .«p_level») (f .«fsk_phase») (f .done .«fsk_runs») (sub binary64 t (s .«p_t_run»)))
-  where
-    go : (b : Bool) → let n : Snapped = cond b (record { pres = withStart t s; frame = withRuns (frame.withStart t (f .runs)) f }) (record { pres = s; frame = f }) in
-        (n .pres .«p_level» ≡ s .«p_level») × (n .pres .«p_confirmed» ≡ s .«p_confirmed»)
-    go true = (refl, refl)
-    go false = (refl, refl)
+snap-level true true t s f =
+    either (λ (n : Snapped). (n .pres .run .level ≡ s .run .level) × (n .pres .run .confirmed ≡ s .run .confirmed))
+    (nearStartOf (s .run .level) (f .«fsk_phase») (f .done .«fsk_runs») (sub binary64 t (s .run .«t_run»))) (refl, refl) (refl, refl)
 snap-level true false t s f = (refl, refl)
 snap-level false on t s f = (refl, refl)
 
@@ -87,20 +84,17 @@ module _ (p : Settings) (D : InDomain p) (mode : p .mode ≡ 0) (w : ℕ) (N : E
   -- ---- a sample
   module _ (a : At) (ring : List Float) (b : Burst) (ook fsk : List ℕ) (xs : List (Sample Float)) (C : Calm w b xs) where
     abbrev seen : Seen
-    seen = seeOf p a ring (b .high) (b .«e_prev») (b .env) (b .pac)
-
-    abbrev acts : Acted × List ℕ
-    acts = actOf p seen (b .train) (b .«out_ook») ook
-
-    abbrev burst′ : Burst
-    burst′ = withActed (a .e) seen (snapIfOf (seen .began) (seen .on) (seen .env .times .«c_run») (b .pres) (b .frame)) (acts .0) b
+    seen = state.seen p D a ring b ook fsk
 
     -- the run after it, before it may count
     long-seen : Long (lowsAfter (lows xs) (seen .on)) (seen .env .run)
     unfolding seeOf
     long-seen =
-        subst (λ (r : Run). Long (lowsAfter (lows xs) (seen .on)) r) (sym (refine-run (p .«min_steps») a ring (b .high) (seen .on) _))
+        long-as (refine-run (p .«min_steps») a ring (b .high) (seen .on) _)
         (long-after (lows xs) (b .env) (seen .on) _ (a .idx) (omega (arith, C .few, N .small)) (C .long))
+
+    abbrev acts : Acted × List ℕ
+    acts = state.acts p D a ring b ook fsk
 
     -- and once it counts where it has min_steps samples
     counts : Counts (p .«min_steps») (seen .env .run) (acts .0 .env .run)
@@ -114,18 +108,21 @@ module _ (p : Settings) (D : InDomain p) (mode : p .mode ≡ 0) (w : ℕ) (N : E
       high = λ e. long-seen .high (λ q. e (counts .same-level ∙ q));
     }
 
+    abbrev burst′ : Burst
+    burst′ = state.burst′ p D a ring b ook fsk
+
     -- where a low sample leaves the burst under way, fewer samples are low than end it: its run would count and be longer than the gap
     abbrev tail : Next
     tail = tailOf p (seen .on) (a .e) (acts .0 .env .run) (absenceOf burst′) (seen .high) (acts .0 .train) (acts .0 .out) (acts .1) .0 .next
 
     level : acts .0 .env .run .level ≡ bit (seen .on)
     unfolding seeOf
-    level = counts .same-level ∙ ap (λ (r : Run). r .level) (refine-run (p .«min_steps») a ring (b .high) (seen .on) _) ∙ level-after (b .env) (seen .on) _ (a .idx)
+    level = counts .same-level ∙ refine-run (p .«min_steps») a ring (b .high) (seen .on) _ .0 ∙ level-after (b .env) (seen .on) _ (a .idx)
 
     quiet-ends : seen .on ≡ false → w ≤ lowsAfter (lows xs) (seen .on) → tail ≡ Idle
     quiet-ends q h =
         let n : w ≤ acts .0 .env .run .«run_len» = omega (arith, h, long-acted .low (level ∙ ap bit q)) in
-        let s = snap-level (seen .began) (seen .on) (seen .env .times .«c_run») (b .pres) (b .frame) in
+        let s = snap-level (seen .began) (seen .on) (seen .env .«c_run») (b .pres) (b .frame) in
         subst (λ (on : Bool). tailOf p on (a .e) (acts .0 .env .run) (absenceOf burst′) (seen .high) (acts .0 .train) (acts .0 .out) (acts .1) .0 .next ≡ Idle) (sym q)
         (tail-ends p D (a .e) (seen .high) (acts .0 .env .run) (absenceOf burst′) (acts .0 .train) (acts .0 .out) (acts .1)
         (counts .sure (omega (arith, n, N .counts))) (s .0 ∙ C .away) (s .1 ∙ C .surely) (C .unframed) (omega (arith, n, N .longer)))
@@ -146,15 +143,15 @@ module _ (p : Settings) (D : InDomain p) (mode : p .mode ≡ 0) (w : ℕ) (N : E
     calm-after : tail ≡ Stay → Calm w burst′ grown
     unfolding levelled
     calm-after n =
-        let s = snap-level (seen .began) (seen .on) (seen .env .times .«c_run») (b .pres) (b .frame) in
-        let l = lows-snoc 0 xs (seen .on) (seen .env .times .«t_run») in
+        let s = snap-level (seen .began) (seen .on) (seen .env .«c_run») (b .pres) (b .frame) in
+        let l = lows-snoc 0 xs (seen .on) (seen .env .run .«t_run») in
         record {
           away = s .0 ∙ C .away;
           surely = s .1 ∙ C .surely;
           unframed = C .unframed;
           long = subst (λ (k : ℕ). Long k (acts .0 .env .run)) (sym l) long-acted;
           few = subst (λ (k : ℕ). k < w) (sym l) (few-left n);
-          loud = loud-snoc w 0 xs (seen .on) (seen .env .times .«t_run») (C .loud) (few-left n);
+          loud = loud-snoc w 0 xs (seen .on) (seen .env .run .«t_run») (C .loud) (few-left n);
         }
 
     pub sample-calm : sampleOf p a ring b ook fsk .0 .next ≡ Stay → Calm w (sampleOf p a ring b ook fsk .0 .burst) grown

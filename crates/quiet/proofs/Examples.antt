@@ -1,10 +1,10 @@
--- Every row of the examples holds, and no lower bound does: by computation from the definitions that the contracts cite. Assumes nothing.
+-- Every row of the examples holds, and no lower bound does: by computation from the definitions that the contracts cite.
 use mathlib.Core.Path.{_≡_, refl, sym}
 use mathlib.Core.Bool.{true}
 use mathlib.Core.List.{List, [], _∷_, _++_}
 use Prim.Native.Nat.{ℕ, _+_, _-_, _<_}
 use native.Mathlib.Omega.{arith}
-use Rattle.ook.specs.declared.Settings.{Settings}
+use Rattle.shared.specs.declared.Settings.{Settings}
 use Rattle.pulses.specs.Yardstick.{Call, accepts, handedOn, unused}
 use Rattle.pulses.specs.Demand.{Program, Place, theLane, start, after, afterAll}
 use Rattle.pulses.specs.Lists.{lo}

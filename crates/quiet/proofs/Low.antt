@@ -8,21 +8,24 @@ use lib.Dec.{leb, eqb}
 use lib.Ieee.{Float}
 use borrow.Author.Tests.{leb-false, lt-leb, lt-ltb, eqb-true, eqb-false}
 use Rattle.ook.specs.declared.Env.{Env}
-use Rattle.ook.specs.declared.Run.{Run}
+use Rattle.run.specs.declared.Run.{Run}
 use Rattle.ook.specs.declared.Train.{Train}
-use Rattle.ook.specs.declared.Out.{Out}
-use Rattle.ook.specs.declared.Settings.{Settings}
-use Rattle.ook.specs.declared.Next.the-variants.{Idle}
-use Rattle.ook.specs.Counts.{satAddOf}
-use Rattle.ook.specs.Run.{lengthenOf, rejoinOf, beginRunOf, advanceOf}
-use Rattle.ook.specs.Train.{withStarted, endTrainOf, endBy}
+use Rattle.ook.specs.declared.Done.{Done}
+use Rattle.shared.proofs.Cases.{either}
+use Rattle.shared.specs.declared.Out.{Out}
+use Rattle.shared.specs.declared.Settings.{Settings}
+use Rattle.shared.specs.declared.Next.the-variants.{Idle}
+use Rattle.shared.specs.Counts.{satAddOf}
+use Rattle.run.specs.Run.{lengthenOf, rejoinOf, beginRunOf, movedOf, dueOf}
+use Rattle.ook.specs.Run.{advanceOf}
 use Rattle.domain.specs.Limits.{maxSteps}
-use Rattle.refusals.specs.Domain.{InDomain}
-use Rattle.stages.specs.declared.Absence.{Absence}
-use Rattle.stages.specs.Act.{dueOf, confirmIf}
-use Rattle.stages.specs.Tail.{carrierOf, goneOf, hasPulsesOf, gapOverOf, waitOf, tailOf}
+use Rattle.refusals.proofs.Domain.{InDomain}
+use Rattle.envelope.specs.declared.Absence.{Absence}
+use Rattle.envelope.specs.Act.{confirmIf}
+use Rattle.envelope.specs.Tail.{carrierOf, goneOf, hasPulsesOf, gapOverOf, waitOf, tailOf}
 use Rattle.pulses.specs.Runs.{Sample, sample}
 use Rattle.pulses.proofs.Flags.{clash}
+use Rattle.pulses.proofs.RunState.{runAfter}
 use Rattle.quiet.specs.Quiet.{wait, shortest, lowsFrom, quietFrom}
 
 -- ---- one sample more
@@ -73,17 +76,17 @@ pub record Long (n : ℕ) (r : Run) : Type 0 where
   pub high : (r .level ≡ 0 → ⊥) → n ≡ 0
 
 -- a sample's level, where n low ones are far fewer than a count can be
-pub long-after : (n : ℕ) (s : Env) (on : Bool) (t : Float) (i : ℕ) → n ≤ maxSteps → Long n (s .run) → Long (lowsAfter n on) (advanceOf s on t i .run)
-unfolding advanceOf lengthenOf rejoinOf beginRunOf satAddOf lowsAfter
+pub long-after : (n : ℕ) (s : Env) (on : Bool) (t : Float) (i : ℕ) → n ≤ maxSteps → Long n (s .run) → Long (lowsAfter n on) (runAfter s on t i .run)
+unfolding advanceOf movedOf lengthenOf rejoinOf beginRunOf satAddOf lowsAfter
 long-after n s true t i h L = go (eqb 1 (s .run .level)) (eqb (s .run .confirmed) 0) refl
   where
-    go : (a b : Bool) → eqb 1 (s .run .level) ≡ a → Long 0 (cond a (lengthenOf s) (cond b (rejoinOf s true) (beginRunOf s t i true)) .run)
+    go : (a b : Bool) → eqb 1 (s .run .level) ≡ a → Long 0 (advanceOf a b s true t i .run)
     go true b q = record { flag = L .flag; low = λ e. omega arith; high = λ e. refl }
     go false true q = record { flag = omega arith; low = λ e. omega arith; high = λ e. refl }
     go false false q = record { flag = omega arith; low = λ e. omega arith; high = λ e. refl }
 long-after n s false t i h L = go (eqb 0 (s .run .level)) (eqb (s .run .confirmed) 0) refl
   where
-    go : (a b : Bool) → eqb 0 (s .run .level) ≡ a → Long (suc n) (cond a (lengthenOf s) (cond b (rejoinOf s false) (beginRunOf s t i false)) .run)
+    go : (a b : Bool) → eqb 0 (s .run .level) ≡ a → Long (suc n) (advanceOf a b s false t i .run)
     go true b q = record { flag = L .flag; low = λ e. omega (arith, L .low e, h); high = λ e. absurd (e (sym (eqb-true 0 (s .run .level) q))) }
     go false true q = let z : n ≡ 0 = L .high (λ e. eqb-false 0 (s .run .level) q (sym e)) in record { flag = omega arith; low = λ e. omega (arith, z); high = λ e. absurd (e refl) }
     go false false q = let z : n ≡ 0 = L .high (λ e. eqb-false 0 (s .run .level) q (sym e)) in record { flag = omega arith; low = λ e. omega (arith, z); high = λ e. absurd (e refl) }
@@ -95,7 +98,7 @@ pub record Counts (m : ℕ) (v : Run) (w : Run) : Type 0 where
   pub sure : m ≤ w .«run_len» → w .confirmed ≡ 1
   pub flag : w .confirmed ≤ 1
 
-pub confirmed-counts : (m : ℕ) (v : Env) → v .run .confirmed ≤ 1 → Counts m (v .run) (confirmIf (dueOf m (v .run)) v .run)
+pub confirmed-counts : (m : ℕ) (v : Env) → v .run .confirmed ≤ 1 → Counts m (v .run) (confirmIf (dueOf (v .run) m) v .run)
 unfolding confirmIf dueOf
 confirmed-counts m v h = go (eqb (v .run .confirmed) 0) (leb m (v .run .«run_len»)) refl refl
   where
@@ -116,8 +119,4 @@ pub tail-ends : (p : Settings) → InDomain p → (e high : Float) (r : Run) (a 
     → tailOf p false e r a high t out ook .0 .next ≡ Idle
 unfolding tailOf carrierOf goneOf waitOf gapOverOf
 tail-ends p D e high r a t out ook qc ql qp qf h =
-    rw (qc, ql, qp, qf, lt-ltb (p .«gap_steps») (r .«run_len») h, lt-ltb (p .«pre_timeout») (r .«run_len») (omega (arith, D .pre-timeout .1))) (go (hasPulsesOf t))
-  where
-    go : (b : Bool) → cond b (endBy Idle (endTrainOf t high out ook)) (record { next = Idle; train = withStarted 0 t; out = out }, ook) .0 .next ≡ Idle
-    go true = refl
-    go false = refl
+    rw (qc, ql, qp, qf, lt-ltb (p .«gap_steps») (r .«run_len») h, lt-ltb (p .«pre_timeout») (r .«run_len») (omega (arith, D .pre-timeout .1))) (either (λ (r : Done × List ℕ). r .0 .next ≡ Idle) (hasPulsesOf t) refl refl)

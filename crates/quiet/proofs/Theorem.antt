@@ -3,9 +3,9 @@ use mathlib.Core.Path.{_≡_, refl, sym, subst}
 use mathlib.Core.Bool.{Bool, true}
 use mathlib.Core.List.{List, [], _∷_}
 use Prim.Native.Nat.{ℕ}
-use Rattle.ook.specs.declared.Settings.{Settings}
-use Rattle.ook.specs.Tests.{both-true}
-use Rattle.refusals.specs.Domain.{InDomain}
+use Rattle.shared.specs.declared.Settings.{Settings}
+use Rattle.shared.proofs.Tests.{both-true}
+use Rattle.refusals.proofs.Domain.{InDomain}
 use Rattle.lane.specs.declared.StepArgs.{StepArgs}
 use Rattle.lane.specs.Idle.{idleLane}
 use Rattle.lane.specs.Advance.{advanceOf}

@@ -2,7 +2,7 @@
 use mathlib.Core.Path.{_≡_}
 use mathlib.Core.List.{List, [], _∷_, _++_, map}
 use Prim.Native.Nat.{ℕ, _+_}
-use Rattle.ook.specs.declared.Settings.{Settings}
+use Rattle.shared.specs.declared.Settings.{Settings}
 use Rattle.lane.specs.declared.Reply.the-variants.{Stay}
 use Rattle.pulses.specs.Yardstick.{Call, opening, Yardstick, unused}
 use Rattle.pulses.specs.Demand.{Program}
@@ -30,7 +30,7 @@ abbrev pub pulse : ℕ → ℕ → List Call
 pulse high low = first 10 (slots 8) ∷ his 11 high ++ los (11 + high) low
 
 -- with a call that is refused between any two of the low ones: a step whose index is not the next, a begin, an opening outside the domain
-abbrev pub interrupted : List Call
+abbrev interrupted : List Call
 interrupted = pulse 4 1 ++ lo 15 ∷ lo 16 ∷ first 17 (slots 8) ∷ lo 17 ∷ lo 19 ∷ lo 18 ∷ opening (withSteps 0 4 4 (settings 0 4 1000)) ∷ []
 
 abbrev pub table : List (List Call × Shown)

@@ -8,7 +8,7 @@ use Prim.Native.Nat.{ℕ, suc, _+_, _-_, _<_, max}
 use lib.Dec.{leb, eqb}
 use lib.ListN.{length}
 use Rattle.arith.specs.Leaves.{leadLenOf}
-use Rattle.ook.specs.declared.Settings.{Settings}
+use Rattle.shared.specs.declared.Settings.{Settings}
 use Rattle.lane.specs.declared.Reply.{Reply}
 use Rattle.lane.specs.Answers.{replyNumberOf}
 use Rattle.pulses.specs.Runs.{Sample, sample}

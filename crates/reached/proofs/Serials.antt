@@ -1,32 +1,29 @@
 -- An accepted call raises the serial by 1, whatever the lane, and puts it in both records; a refused one leaves the lane. So along a list the
--- serials count up. Assumes nothing.
+-- serials count up.
 use Prim.Native.Nat.{ℕ, zero, suc, _+_, _<_}
 use mathlib.Core.Bool.{Bool, true, false, cond, not}
 use mathlib.Core.Path.{_≡_, refl, sym, ap, _∙_, subst}
 use mathlib.Core.List.{List, [], _∷_, _++_}
 use native.Mathlib.Nat.{not-suc-le-zero}
 use native.Mathlib.Omega.{arith}
-use lib.Dec.{ltb, eqb}
-use lib.Ieee.{Float}
-use Rattle.arith.specs.Leaves.{leadLenOf}
-use Rattle.ook.specs.Limits.{either}
-use Rattle.ook.specs.declared.Next.{Next}
-use Rattle.ook.specs.declared.Next.the-variants as next
-use Rattle.burst.specs.declared.Lead.{Lead}
-use Rattle.burst.specs.Lead.{leadAddOf}
+use lib.Dec.{eqb}
+use Rattle.shared.specs.declared.Next.{Next}
+use Rattle.shared.specs.declared.Next.the-variants as next
 use lib.ListN.{length, getD}
 use Rattle.lane.specs.declared.Answer.{Answer}
 use Rattle.lane.specs.declared.Lane.{Lane}
 use Rattle.lane.specs.declared.StepArgs.{StepArgs}
-use Rattle.lane.specs.Advance.{advanceOf, leadStep, fillOf, replayStep, burstStep, settleOf}
+use Rattle.lane.specs.Advance.{advanceOf, fillOf, settleOf}
 use Rattle.lane.specs.Answers.{replyNumberOf, replyOf}
-use Rattle.lane.specs.Begin.{ringOf, leadLane}
+use Rattle.lane.specs.Begin.{leadLane}
 use Rattle.lane.specs.Idle.{idleLane}
-use Rattle.lane.specs.Part.{part-named}
+use Rattle.shared.proofs.Cases.{either}
+use Rattle.lane.proofs.PartLaws.{part-named}
 use Rattle.lane.specs.Refusals.{openRefusal, beginRefusal, stepRefusal, closeRefusal}
 use Rattle.lane.specs.Serial.{stampOf, stamped, stampedWith}
 use Rattle.lane.specs.Close.{idleWith, closeOf}
 use Rattle.lane.specs.Step.{newLane, refuse, stay, opened, begun, stepped, closed}
+use Rattle.reached.proofs.Accepted.{step-ways, close-ways}
 use Rattle.reached.specs.Serials.{Call, opening, begin, step, close, answerTo, accepted, serials, countFrom, Counted, NoTwoAlike, InBoth, BothFetched}
 
 -- a stamped answer to l, or a refusal of it
@@ -34,13 +31,14 @@ data Answers (l : Lane) (a : Answer) : Type 0 where
   raises : (b : Answer) → accepted b ≡ true → a ≡ stamped l b → Answers l a
   refuses : (k : ℕ) → a ≡ refuse k l → Answers l a
 
-either-way : (l : Lane) (c : Bool) (k : ℕ) (b : Answer) → accepted b ≡ true → Answers l (cond c (stamped l b) (refuse k l))
-either-way l true k b t = raises b t refl
-either-way l false k b t = refuses k refl
+abbrev Is : Answer × List ℕ × List ℕ → Type 0
+Is r = accepted (r .0) ≡ true
 
-step-way : (l : Lane) (c : Bool) (k : ℕ) (r : Answer × List ℕ × List ℕ) (ook fsk : List ℕ) → accepted (r .0) ≡ true → Answers l (cond c (stampedWith l r) (refuse k l, ook, fsk) .0)
-step-way l true k r ook fsk t = raises (r .0) t refl
-step-way l false k r ook fsk t = refuses k refl
+by-check : (l : Lane) (k : ℕ) (b : Answer) → accepted b ≡ true → Answers l (cond (eqb k 0) (stamped l b) (refuse k l))
+by-check l k b t = either (Answers l) (eqb k 0) (raises b t refl) (refuses k refl)
+
+by-check-with : (l : Lane) (k : ℕ) (r : Answer × List ℕ × List ℕ) (ook fsk : List ℕ) → Is r → Answers l (cond (eqb k 0) (stampedWith l r) (refuse k l, ook, fsk) .0)
+by-check-with l k r ook fsk t = either (λ (a : Answer × List ℕ × List ℕ). Answers l (a .0)) (eqb k 0) (raises (r .0) t refl) (refuses k refl)
 
 -- a sample is never answered by a refusal
 next-accepted : (n : Next) → not (eqb (replyNumberOf (replyOf n)) 3) ≡ true
@@ -49,31 +47,20 @@ next-accepted next.Stay = refl
 next-accepted next.Idle = refl
 next-accepted (next.IdleAt e) = refl
 
-advance-accepted : (l : Lane) (s : StepArgs) (ook fsk : List ℕ) → accepted (advanceOf l s ook fsk .0) ≡ true
-unfolding advanceOf leadStep fillOf replayStep burstStep settleOf
-advance-accepted l s ook fsk = go (eqb (l .phase) 1) (ltb (ld .«lead_n») (leadLenOf (l .settings .«min_steps»)))
-  where
-    ring : List Float
-    ring = ringOf (l .ring) (s .index) (s .envelope)
+advance-accepted : (l : Lane) (s : StepArgs) (ook fsk : List ℕ) → Is (advanceOf l s ook fsk)
+unfolding fillOf settleOf
+advance-accepted l s ook fsk = step-ways Is l s ook fsk (λ ld ring. refl) (λ ld ring r. next-accepted (r .0 .next))
 
-    ld : Lead
-    ld = leadAddOf (l .lead) (s .envelope) (s .x)
-
-    go : (b d : Bool) → accepted (cond b (cond d (fillOf l s ld ring, ook, fsk) (replayStep l s ld ring ook fsk)) (burstStep l s ring ook fsk) .0) ≡ true
-    go true true = refl
-    go true false = next-accepted _
-    go false d = next-accepted _
-
-close-accepted : (l : Lane) (ook fsk : List ℕ) → accepted (closeOf l ook fsk .0) ≡ true
-unfolding closeOf idleWith
-close-accepted l ook fsk = either (λ (r : Answer × List ℕ × List ℕ). accepted (r .0) ≡ true) (eqb (l .phase) 1) refl refl
+close-accepted : (l : Lane) (ook fsk : List ℕ) → Is (closeOf l ook fsk)
+unfolding idleWith
+close-accepted l ook fsk = close-ways Is l ook fsk (λ b o. refl)
 
 answers : (l : Lane) (c : Call) → Answers l (answerTo l c)
 unfolding opened begun stepped closed
-answers l (opening p) = either-way l (eqb (openRefusal l p) 0) (openRefusal l p) (stay (idleLane 1 p)) refl
-answers l (begin b ook fsk) = either-way l (eqb (beginRefusal l b (length ook) (length fsk)) 0) (beginRefusal l b (length ook) (length fsk)) (stay (leadLane l b)) refl
-answers l (step s ook fsk) = step-way l (eqb (stepRefusal l s (length ook) (length fsk)) 0) (stepRefusal l s (length ook) (length fsk)) (advanceOf l s ook fsk) ook fsk (advance-accepted l s ook fsk)
-answers l (close ook fsk) = step-way l (eqb (closeRefusal l (length ook) (length fsk)) 0) (closeRefusal l (length ook) (length fsk)) (closeOf l ook fsk) ook fsk (close-accepted l ook fsk)
+answers l (opening p) = by-check l (openRefusal l p) (stay (idleLane 1 p)) refl
+answers l (begin b ook fsk) = by-check l (beginRefusal l b (length ook) (length fsk)) (stay (leadLane l b)) refl
+answers l (step s ook fsk) = by-check-with l (stepRefusal l s (length ook) (length fsk)) (advanceOf l s ook fsk) ook fsk (advance-accepted l s ook fsk)
+answers l (close ook fsk) = by-check-with l (closeRefusal l (length ook) (length fsk)) (closeOf l ook fsk) ook fsk (close-accepted l ook fsk)
 
 -- ---- one call
 

@@ -1,5 +1,4 @@
--- Calls keep every lane within refusal 4's limits, and the records that they leave have at most max_pulses pairs.
-pub mod Kept
+-- Calls keep every lane within refusal 4's limits, and count the accepted ones of their list.
+pub mod Limits
 pub mod Reached
-pub mod Records
 pub mod Serials

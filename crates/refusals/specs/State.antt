@@ -5,10 +5,11 @@ use mathlib.Core.Bool.{Bool, not, _&&_, _||_}
 use lib.Dec.{leb, ltb, eqb}
 use Rattle.domain.specs.Limits.{maxIndex, maxCount, maxBound}
 use Rattle.arith.specs.Leaves.{leadLenOf}
-use Rattle.ook.specs.Params.{fskMinOf}
+use Rattle.shared.specs.Params.{fskMinOf}
+use Rattle.run.specs.declared.Run.{Run}
 use Rattle.ook.specs.declared.Env.{Env}
 use Rattle.ook.specs.declared.Train.{Train}
-use Rattle.ook.specs.declared.Out.{Out}
+use Rattle.shared.specs.declared.Out.{Out}
 use Rattle.fsk.specs.declared.Runs.{Runs}
 use Rattle.fsk.specs.declared.Committed.{Committed}
 use Rattle.fsk.specs.declared.Frame.{Frame}
@@ -20,18 +21,21 @@ use Rattle.refusals.specs.Serial.{serialOk}
 abbrev pub flag : ℕ → Bool
 flag n = leb n 1
 
+abbrev pub runOk : Run → Bool
+runOk r = flag (r .level) && flag (r .confirmed)
+
 abbrev pub envOk : Env → Bool
-envOk v = flag (v .run .level) && flag (v .run .confirmed) && flag (v .«ref_pending»)
+envOk v = runOk (v .run) && flag (v .«ref_pending»)
 
 -- pulses plus open at most max_pulses, and a held boundary at most 2^47 (R-1)
 abbrev pub trainOk : ℕ → Train → Bool
 trainOk max t = flag (t .started) && flag (t .«open») && flag (t .truncated) && leb (t .«ook_n» + t .«open») max && leb (t .bound) maxBound
 
 abbrev pub presOk : Pres → Bool
-presOk q = flag (q .«p_level») && flag (q .«p_confirmed»)
+presOk q = runOk (q .run)
 
 abbrev pub runsOk : Runs → Bool
-runsOk r = flag (r .«fsk_level») && flag (r .«fsk_confirmed») && flag (r .«fsk_has_prev»)
+runsOk r = runOk (r .run) && flag (r .«fsk_has_prev»)
 
 -- frame pairs plus open at most max_pulses, and fsk_runs at most maxCount
 abbrev pub committedOk : ℕ → Committed → Bool

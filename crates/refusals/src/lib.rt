@@ -4,7 +4,7 @@ ghost use Prim.Native.Nat.{_+_};
 ghost use lib.Dec.{leb};
 ghost use Rattle.refusals.specs.Serial.{serialOk, serialLeft, serialsMatch};
 ghost use Rattle.refusals.specs.Domain.{within, between, settingsOk, unsetOk, factorOk, envelopeOk, sampleOk, indexOk, roomOk};
-ghost use Rattle.refusals.specs.State.{flag, envOk, trainOk, presOk, runsOk, committedOk, frameOk, outOk, burstOk, leadOk, candOk};
+ghost use Rattle.refusals.specs.State.{flag, runOk, envOk, trainOk, presOk, runsOk, committedOk, frameOk, outOk, burstOk, leadOk, candOk};
 ghost use Rattle.refusals.specs.Order.{check, firstFailed};
 use arith::C32;
 use burst::Burst;
@@ -13,10 +13,11 @@ use fsk::Committed;
 use fsk::Frame;
 use fsk::Runs;
 use ook::Env;
-use ook::Out;
-use ook::Settings;
 use ook::Train;
 use presence::Pres;
+use run::Run;
+use shared::Out;
+use shared::Settings;
 
 fn within_range(lo: u32, hi: u32, n: u32) -> bool
     ensures { λ r. ⌜ r ≡ within lo hi n ⌝ }
@@ -57,10 +58,10 @@ pub fn unset_ok(p: Settings) -> bool
         & (p.pre_timeout == 0)
         & (p.long_steps == 0)
         & (p.max_pulses == 0)
-        & (arith::bits_of_f32(p.alpha) == 0)
-        & (arith::bits_of_f32(p.gap_ratio) == 0)
-        & (arith::bits_of_f32(p.fsk_delta) == 0)
-        & (arith::bits_of_f32(p.fsk_split) == 0)
+        & (ieee::bits_of_f32(p.alpha) == 0)
+        & (ieee::bits_of_f32(p.gap_ratio) == 0)
+        & (ieee::bits_of_f32(p.fsk_delta) == 0)
+        & (ieee::bits_of_f32(p.fsk_split) == 0)
         & (p.carry == 0)
 }
 
@@ -112,10 +113,17 @@ pub fn room_ok(p: Settings, ook: usize, fsk: usize) -> bool
 }
 
 // Refusal 4, part by part.
+fn run_ok(r: Run) -> bool
+    ensures { λ y. ⌜ y ≡ runOk r ⌝ }
+{
+    (r.level <= 1) & (r.confirmed <= 1)
+}
+
 fn env_ok(v: Env) -> bool
     ensures { λ r. ⌜ r ≡ envOk v ⌝ }
 {
-    (v.run.level <= 1) & (v.run.confirmed <= 1) & (v.ref_pending <= 1)
+    let r = v.run;
+    run_ok(r) & (v.ref_pending <= 1)
 }
 
 // a + b <= max, whatever the three are.
@@ -138,13 +146,15 @@ fn train_ok(max: u32, t: Train) -> bool
 fn pres_ok(q: Pres) -> bool
     ensures { λ r. ⌜ r ≡ presOk q ⌝ }
 {
-    (q.p_level <= 1) & (q.p_confirmed <= 1)
+    let r = q.run;
+    run_ok(r)
 }
 
 fn runs_ok(r: Runs) -> bool
     ensures { λ y. ⌜ y ≡ runsOk r ⌝ }
 {
-    (r.fsk_level <= 1) & (r.fsk_confirmed <= 1) & (r.fsk_has_prev <= 1)
+    let q = r.run;
+    run_ok(q) & (r.fsk_has_prev <= 1)
 }
 
 fn committed_ok(max: u32, c: Committed) -> bool
@@ -207,7 +217,7 @@ pub fn lead_ok(phase: u32, min_steps: u32, l: Lead) -> bool
 pub fn cand_ok(phase: u32, min_steps: u32, f: Frame) -> bool
     ensures { λ r. ⌜ r ≡ candOk phase «min_steps» f ⌝ }
 {
-    (phase != 2) | (f.fsk_phase != 0) | (f.cand.fsk_cand < ook::fsk_min(min_steps))
+    (phase != 2) | (f.fsk_phase != 0) | (f.cand.fsk_cand < shared::fsk_min(min_steps))
 }
 
 // k where a check fails, and else what the later checks give.

@@ -1,4 +1,4 @@
--- The search for the rule's number, from k down: it passes over k where the square of k is above n, and ends where it is not. Assumes nothing.
+-- The search for the rule's number, from k down: it passes over k where the square of k is above n, and ends where it is not.
 use mathlib.Core.Path.{_≡_, refl, ap}
 use mathlib.Core.Bool.{Bool, true, false, not}
 use Prim.Native.Nat.{ℕ, zero, suc, _-_, _*_, _≤_, _<_}

@@ -1,10 +1,10 @@
--- What the program prints is the table in the code: its entries are what `table::first_digits` gives, by that function's contract. Assumes nothing.
+-- What the program prints is the table in the code: its entries are what `table::first_digits` gives, by that function's contract.
 use mathlib.Core.Path.{_≡_, refl, ap, _∙_}
 use mathlib.Core.List.{List, _++_}
 use Prim.Native.Nat.{ℕ, zero, suc, _+_, _≤_, _<_}
 use native.Mathlib.Omega.{arith}
 use Rattle.table.specs.Rule.{ruleOf, entryOf}
-use Rattle.table.specs.Laws.{rule-is, entry-unique}
+use Rattle.table.proofs.Laws.{rule-is, entry-unique}
 use Rattle.roots.specs.Text.{line, linesOf, printed}
 
 same-lines : (k i : ℕ) → 256 ≤ i → i + k ≤ 1024 → linesOf ruleOf k i ≡ linesOf entryOf k i

@@ -1,4 +1,4 @@
--- A turn of the loop that writes the lines: what is left from i on is the line of i, and what is left from i + 1 on. Assumes nothing.
+-- A turn of the loop that writes the lines: what is left from i on is the line of i, and what is left from i + 1 on.
 use mathlib.Core.Path.{_≡_, refl, sym, ap, _∙_}
 use mathlib.Core.List.{List, [], _++_}
 use Prim.Native.Nat.{ℕ, suc, _+_, _-_, _≤_, _<_}
@@ -8,7 +8,7 @@ use native.Mathlib.Numerals.{add-one}
 use native.Mathlib.Omega.{arith}
 use Rattle.table.specs.Rule.{ruleOf}
 use Rattle.lines.specs.Line.{put, Put}
-use Rattle.lines.specs.Laws.{put-put, put-none}
+use Rattle.lines.proofs.Laws.{put-put, put-none}
 use Rattle.roots.specs.Text.{line, linesOf, printed, Printed}
 
 -- the lines that are left from i on

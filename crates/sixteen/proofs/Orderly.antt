@@ -1,11 +1,11 @@
 -- The program of sixteen antennas is one over a stream: what stands at the front of the bytes is the same whatever comes after it, once it is not
--- waited for. Assumes nothing.
-use Prim.Native.Nat.{ℕ, _+_, _≤_}
+-- waited for.
+use Prim.Native.Nat.{ℕ, _+_, _<_, _≤_}
 use mathlib.Core.Bool.{Bool, true, false, cond}
-use mathlib.Core.Path.{_≡_, refl, sym, _∙_, ap, subst}
-use mathlib.Core.List.{List, [], _∷_, _++_, append-nil}
+use mathlib.Core.Path.{_≡_, refl, sym, _∙_, ap}
+use mathlib.Core.List.{List, [], _∷_, _++_}
 use native.Mathlib.Omega.{arith}
-use lib.ListN.{length}
+use lib.ListN.{length, drop}
 use lib.Dec.{eqb, ltb}
 use borrow.Author.Tests.{eqb-true, eqb-false}
 use Rattle.lane.specs.declared.Reply.{Reply}
@@ -14,11 +14,13 @@ use Rattle.commands.specs.declared.Command.{Command}
 use Rattle.commands.specs.declared.Command.the-variants.{End, Open, Begin, Step, Unknown, Short, Close}
 use Rattle.commands.specs.Command.{sizeOf}
 use Rattle.commands.specs.Stream.{whole}
-use Rattle.turns.specs.Turn.{Called, unchanged, called, waits}
+use Rattle.calls.specs.Turn.{Called, unchanged, called, waits}
+use Rattle.calls.proofs.Orderly.{waits-whole, only-end}
 use Rattle.addressed.specs.Addressed.{addressedOf, antennaOf, addressedSize}
 use Rattle.addressed.proofs.Laws.{size-fits, addressed-more, antenna-more, some-there, none-there}
 use Rattle.among.specs.Among.{antennas, calledAmong, Lanes, putAt, laneAt, answerTo, afterCall}
-use Rattle.stream.specs.Machine.{May, Settled, Orderly}
+use Rattle.stream.specs.Machine.{Settled, Orderly}
+use Rattle.stream.proofs.Taken.{settles, some-left}
 use Rattle.sixteen.specs.Sixteen.{isHeardOf, spokenText, machine}
 use Rattle.sixteen.proofs.Rows.{put-own}
 
@@ -52,24 +54,6 @@ none-heard Close h = absurd (omega (arith, h))
 none-text : (i j : ℕ) (k : Command) (c d : Called) → sizeOf k ≡ 0 → spokenText i k c ≡ spokenText j k d
 none-text i j k c d h = simp (none-heard k h)
 
-waits-whole : (k : Command) → waits false k ≡ false → whole k ≡ true
-waits-whole End w = let z : _≡_ {A = Bool} true false = w in cc
-waits-whole (Open s carries) w = refl
-waits-whole (Begin b) w = refl
-waits-whole (Step s) w = refl
-waits-whole Unknown w = refl
-waits-whole Short w = let z : _≡_ {A = Bool} true false = w in cc
-waits-whole Close w = refl
-
-only-end : (k : Command) → waits true k ≡ true → k ≡ End
-only-end End w = refl
-only-end (Open s carries) w = let z : _≡_ {A = Bool} false true = w in cc
-only-end (Begin b) w = let z : _≡_ {A = Bool} false true = w in cc
-only-end (Step s) w = let z : _≡_ {A = Bool} false true = w in cc
-only-end Unknown w = let z : _≡_ {A = Bool} false true = w in cc
-only-end Short w = let z : _≡_ {A = Bool} false true = w in cc
-only-end Close w = let z : _≡_ {A = Bool} false true = w in cc
-
 size-none : (k : Command) → addressedSize k ≡ 0 → sizeOf k ≡ 0
 size-none k h = go (eqb (sizeOf k) 0) refl h
   where
@@ -102,13 +86,9 @@ module _ (s t : List ℕ) (w : whole (addressedOf s) ≡ true) where
   pub whole-settled : Settled machine s t
   whole-settled = record { size-same = ap addressedSize same; next-same = next-more; text-same = text-more }
 
-settles : (last : Bool) (s t : List ℕ) → May last t → waits last (addressedOf s) ≡ false → Settled machine s t
-settles true s t may w = subst (Settled machine s) (sym (may refl)) (record { size-same = ap (λ (u : List ℕ). addressedSize (addressedOf u)) (append-nil s); next-same = λ all. ap (λ (u : List ℕ). afterCall all (antennaOf u) (addressedOf u)) (append-nil s); text-same = λ all. ap (λ (u : List ℕ). spokenText (antennaOf u) (addressedOf u) (answerTo all (antennaOf u) (addressedOf u))) (append-nil s) })
-settles false s t may w = whole-settled s t (waits-whole (addressedOf s) w)
-
 used-all : (s : List ℕ) → waits true (addressedOf s) ≡ true → s ≡ []
 used-all [] w = refl
-used-all (b ∷ o) w = absurd (some-there b o (only-end (addressedOf (b ∷ o)) w))
+used-all (b ∷ o) w = absurd (only-end (addressedOf (b ∷ o)) (some-there b o) w)
 
 pub orderly : Orderly machine
 orderly =
@@ -118,5 +98,9 @@ orderly =
       none-printed = λ all. ap (λ (k : Command). spokenText 0 k (answerTo all 0 k)) none-there;
       all-used = used-all;
       stays = λ all s h. no-call all (antennaOf s) (addressedOf s) (size-none (addressedOf s) h);
-      settled = settles;
+      settled = settles machine (λ s t w. whole-settled s t (waits-whole (addressedOf s) w));
     }
+
+-- where a byte is, a command is there
+pub bytes-there : (s : List ℕ) (from : ℕ) (k : Command) → from < length s → k ≡ addressedOf (drop from s) → waits true k ≡ false
+bytes-there s from k inside is-k = ap (waits true) is-k ∙ some-left machine orderly s from inside

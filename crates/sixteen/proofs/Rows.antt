@@ -1,4 +1,4 @@
--- One lane in its row among sixteen: what it is after another was put there, and that the number of the others stays. Assumes nothing.
+-- One lane in its row among sixteen: what it is after another was put there, and that the number of the others stays.
 use Prim.Native.Nat.{ℕ, zero, suc, _+_, _-_, _<_, _≤_}
 use mathlib.Core.Bool.{Bool, true, false, cond}
 use mathlib.Core.Path.{_≡_, refl, sym, _∙_, ap}
@@ -12,11 +12,11 @@ use borrow.Author.Tests.{ltb-true}
 use Rattle.lane.specs.declared.Lane.{Lane}
 use Rattle.lane.specs.Step.{newLane}
 use Rattle.reached.specs.Reached.{Sound, unopened}
-use Rattle.turns.specs.Turn.{State}
-use Rattle.among.specs.Among.{antennas, Lanes, laneAt, putAt, outOf, outs, othersOut}
+use Rattle.calls.specs.Turn.{State}
+use Rattle.among.specs.Among.{antennas, Lanes, laneAt, putAt, outOf, outs, othersOut, Sized}
 use Rattle.among.proofs.Laws.{outs-at, outs-set, any-default}
 use Rattle.sixteen.specs.Sixteen.{rowOf}
-use Rattle.sixteen.specs.Spoken.{Sized, Among, AllSound}
+use Rattle.sixteen.specs.Spoken.{Among, AllSound}
 
 -- there is such a row
 pub row-in : (i : ℕ) → rowOf i < antennas

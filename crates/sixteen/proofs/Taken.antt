@@ -1,5 +1,5 @@
 -- What is said of an antenna's commands that were taken (`Heard`), of one and of steps one after another, and of their lines (`Told`). Among the
--- other lanes each is one command of the stream, since the lane is put back in its row. Assumes nothing.
+-- other lanes each is one command of the stream, since the lane is put back in its row.
 use Prim.Native.Nat.{ℕ, _+_, _-_, _≤_, _<_}
 use mathlib.Core.Bool.{Bool, true, false, not, cond, _&&_}
 use mathlib.Core.Path.{_≡_, refl, ap, sym, _∙_, subst}
@@ -9,30 +9,32 @@ use lib.ListN.{length, take, drop, length-drop}
 use lib.Seq.{sets, drop-append-le}
 use lib.Dec.{eqb, ltb, leb}
 use borrow.Author.Tests.{ltb-true, ltb-false, not-true}
-use Rattle.ook.specs.Tests.{both-true}
+use Rattle.shared.proofs.Tests.{both-true, clash}
 use Rattle.lane.specs.declared.Lane.{Lane}
 use Rattle.lane.specs.declared.Answer.{Answer}
 use Rattle.lane.specs.declared.Reply.{Reply}
 use Rattle.lane.specs.declared.Reply.the-variants as reply
 use Rattle.lane.specs.declared.StepArgs.{StepArgs}
-use Rattle.lane.specs.Core.{answerOf}
+use Rattle.lane.specs.Answers.{answerOf}
 use Rattle.lane.specs.Step.{refuse}
 use Rattle.reached.specs.Reached.{Sound}
 use Rattle.commands.specs.declared.Command.{Command}
 use Rattle.commands.specs.declared.Command.the-variants.{End, Open, Begin, Step, Unknown, Short, Close}
 use Rattle.commands.specs.Command.{sizeOf, isStepOf}
-use Rattle.commands.specs.Stream.{whole}
+use Rattle.commands.proofs.Stream.{a-step}
 use Rattle.lines.specs.Line.{callText, recordLine, trainRoom, callRoom, hasRoom, put, Put}
-use Rattle.lines.specs.Room.{room-there}
-use Rattle.lines.specs.Laws as lines
-use Rattle.turns.specs.Turn.{State, Called, unchanged, called, next, shownOf, recordText, waits, mostOf}
-use Rattle.turns.specs.Laws.{Shown, shown-most, too-few-left}
-use Rattle.turns.specs.Steps.{quietOf}
-use Rattle.turns.proofs.Taken.{Kept, coreStep, core-steps, step-settings}
+use Rattle.lines.proofs.Room.{room-there}
+use Rattle.lines.proofs.Laws as lines
+use Rattle.calls.specs.Turn.{State, Called, unchanged, called, next, shownOf, recordText, waits, mostOf}
+use Rattle.calls.specs.Turn.{Shown}
+use Rattle.calls.proofs.Laws.{shown-most, too-few-left}
+use Rattle.calls.specs.Steps.{quietOf}
+use Rattle.calls.proofs.Orderly.{step-whole}
+use Rattle.calls.proofs.Silent.{Quiet, Kept, kept-room, Steps, none, some, steps-sound, coreStep, gave}
 use Rattle.addressed.specs.Addressed.{addressedOf, antennaOf, addressedSize}
 use Rattle.addressed.proofs.Laws.{size-fits, step-there}
 use Rattle.tagged.specs.Tagged.{tagged, taggedText, taggedRoom}
-use Rattle.among.specs.Among.{antennas, places, calledAmong, Lanes, laneAt, putAt, othersOut, noAntenna, answerTo, afterCall}
+use Rattle.among.specs.Among.{antennas, places, calledAmong, Lanes, laneAt, putAt, othersOut, noAntenna, answerTo, afterCall, Sized}
 use Rattle.among.specs.Settled.{isBeginOf, lateOf, settledOf}
 use Rattle.among.proofs.Laws.{settled, among-sound}
 use Rattle.stream.specs.Machine.{Settled}
@@ -42,12 +44,12 @@ use Rattle.sixteen.specs.declared.Asked.{Asked}
 use Rattle.sixteen.specs.declared.Past.{Past}
 use Rattle.sixteen.specs.declared.Turned.{Turned}
 use Rattle.sixteen.specs.Sixteen.{heardText, isHeardOf, noneText, spokenText, rowOf, machine}
-use Rattle.sixteen.specs.Spoken.{Sized, Among, oneOf, Heard, spokenRoom, hasTaggedRoom, Told, Spoken}
+use Rattle.sixteen.specs.Spoken.{Among, oneOf, Heard, spokenRoom, hasTaggedRoom, Told, Spoken}
 use Rattle.sixteen.proofs.Rows.{put-own, put-again, among-after}
 use Rattle.sixteen.proofs.Orderly.{orderly, whole-settled}
 
-pub clash : {A : Type 0} → _≡_ {A = Bool} false true → A
-clash e = let z : _≡_ {A = Bool} false true = e in let y : _≡_ {A = ℕ} 0 1 = cc in absurd (omega arith)
+abbrev pub pastOf : Lane → ℕ → Reply → Past
+pastOf l used r = record { lane = l; used = used; reply = r }
 
 -- ---- the answer to one command
 
@@ -69,7 +71,7 @@ none-answers i Short p q = refl
 none-answers i Close p q = refused-text i 6 p q
 
 none-shown : (k : Command) (p : State) (most : ℕ) → waits true k ≡ false → Shown (unchanged (noAntenna k) p) most
-none-shown End p most w = let z : _≡_ {A = Bool} true false = w in let q : _≡_ {A = ℕ} 0 1 = cc in absurd (omega arith)
+none-shown End p most w = clash w
 none-shown (Open s carries) p most w = refused-shown 6 (p .0) (p .1) (p .2) most
 none-shown (Begin b) p most w = refused-shown 6 (p .0) (p .1) (p .2) most
 none-shown (Step s) p most w = refused-shown 6 (p .0) (p .1) (p .2) most
@@ -196,72 +198,33 @@ heard-one a p s from r q size inside sound is-k is-i ready is-size is-used is-c 
 -- a step that stays and decides no record prints nothing
 silent : (i : ℕ) (r : Reply) (l : Lane) (ook fsk : List ℕ) → quietOf r (l .burst .«out_fsk» .state) (l .burst .«out_ook» .state) ≡ true → heardText i (answerOf r l, ook, fsk) ≡ []
 unfolding heardText taggedText tagged callText recordLine
-silent i (reply.Refused k) l ook fsk h = let z : _≡_ {A = Bool} false true = h in cc
+silent i (reply.Refused k) l ook fsk h = clash (sym h)
 silent i reply.Stay l ook fsk h =
     let f = l .burst .«out_fsk» in
     let o = l .burst .«out_ook» in
     let b = both-true (not (eqb (f .state) 1)) (not (eqb (o .state) 1)) h in
     simp (not-true (eqb (f .state) 1) (b .0), not-true (eqb (o .state) 1) (b .1))
-silent i reply.Idle l ook fsk h = let z : _≡_ {A = Bool} false true = h in cc
-silent i (reply.IdleAt e) l ook fsk h = let z : _≡_ {A = Bool} false true = h in cc
-
-abbrev pub Quiet : Past → State → Type 0
-Quiet r q = quietOf (r .reply) (q .0 .burst .«out_fsk» .state) (q .0 .burst .«out_ook» .state) ≡ true
+silent i reply.Idle l ook fsk h = clash (sym h)
+silent i (reply.IdleAt e) l ook fsk h = clash (sym h)
 
 step-heard : (k : Command) → isStepOf k ≡ true → isHeardOf k ≡ true
-step-heard End h = let z : _≡_ {A = Bool} false true = h in cc
-step-heard (Open s carries) h = let z : _≡_ {A = Bool} false true = h in cc
-step-heard (Begin b) h = let z : _≡_ {A = Bool} false true = h in cc
-step-heard (Step s) h = refl
-step-heard Unknown h = let z : _≡_ {A = Bool} false true = h in cc
-step-heard Short h = let z : _≡_ {A = Bool} false true = h in cc
-step-heard Close h = let z : _≡_ {A = Bool} false true = h in cc
+step-heard k h = ap isHeardOf (a-step k h .is)
 
 step-text : (i : ℕ) (k : Command) (c : Called) → isStepOf k ≡ true → spokenText i k c ≡ heardText i c
 step-text i k c h = simp (step-heard k h)
 
-step-whole : (k : Command) → isStepOf k ≡ true → whole k ≡ true
-step-whole End h = let z : _≡_ {A = Bool} false true = h in cc
-step-whole (Open s carries) h = let z : _≡_ {A = Bool} false true = h in cc
-step-whole (Begin b) h = let z : _≡_ {A = Bool} false true = h in cc
-step-whole (Step s) h = refl
-step-whole Unknown h = let z : _≡_ {A = Bool} false true = h in cc
-step-whole Short h = let z : _≡_ {A = Bool} false true = h in cc
-step-whole Close h = let z : _≡_ {A = Bool} false true = h in cc
-
--- the steps so far: none, or some that printed nothing
-pub data Steps (a : Asked) (p : State) (s : List ℕ) (from : ℕ) (r : Past) (q : State) : Type 0 where
-  none : r .used ≡ from → q ≡ p → Steps a p s from r q
-  some : from < r .used → Quiet r q → Kept p q → Heard a p s from r q → Steps a p s from r q
-
-pub steps-sound : {a : Asked} {p : State} {s : List ℕ} {from : ℕ} {r : Past} {q : State} → Sound (p .0) → Steps a p s from r q → Sound (q .0)
-steps-sound h (none e d) = subst (λ (q : State). Sound (q .0)) (sym d) h
-steps-sound h (some up quiet keeps g) = g .sound
-
-pub steps-onward : {a : Asked} {p : State} {s : List ℕ} {from : ℕ} {r : Past} {q : State} → Steps a p s from r q → from ≤ r .used
-steps-onward (none e d) = omega (arith, e)
-steps-onward (some up quiet keeps g) = omega (arith, up)
-
-pub steps-kept : {a : Asked} {p : State} {s : List ℕ} {from : ℕ} {r : Past} {q : State} → Steps a p s from r q → Kept p q
-steps-kept (none e d) = record { settings = ap (λ (q : State). q .0 .settings) d; ook = ap (λ (q : State). length (q .1)) d; fsk = ap (λ (q : State). length (q .2)) d }
-steps-kept (some up quiet keeps g) = keeps
-
--- the steps end where no step is: one was there
-pub steps-end : {a : Asked} {p : State} {s : List ℕ} {from : ℕ} {r : Past} {q : State} → Steps a p s from r q → (r .used ≡ from → ⊥) → Heard a p s from r q
-steps-end (none e d) h = absurd (h e)
-steps-end (some up quiet keeps g) h = g
-
-kept-room : {p q : State} → Kept p q → mostOf q ≡ mostOf p
-kept-room h = simp (h .settings, h .ook, h .fsk)
+-- the steps so far, from p on
+abbrev pub StepsHeard : Asked → State → List ℕ → ℕ → ℕ → Reply → State → Type 0
+StepsHeard a p s from used r q = Steps (λ (u : ℕ) (z : Reply) (n : State). Heard a p s from (pastOf (n .0) u z) n) p from used r q
 
 -- the bytes of a step are there
 pub step-room : (s : List ℕ) (used : ℕ) (b : StepArgs) → Step b ≡ addressedOf (drop used s) → used + 26 ≤ length s
 step-room s used b e = omega (arith, step-there (drop used s) (ap isStepOf (sym e)), length-drop used s)
 
-module _ (a : Asked) (p : State) (s : List ℕ) (from : ℕ) (r : Past) (q : State) (b : StepArgs) (z : Past) (n : State)
-    (here : ltb (a .antenna) antennas ≡ true) (steps : isStepOf (a .command) ≡ true) (sound : Sound (p .0)) (so : Steps a p s from r q)
-    (inside : r .used < length s) (is-b : Step b ≡ addressedOf (drop (r .used) s)) (is-i : a .antenna ≡ antennaOf (drop (r .used) s)) (is-used : z .used ≡ r .used + 26)
-    (gives : (answerOf (z .reply) (n .0), n .1, n .2) ≡ coreStep (q .0) b (q .1) (q .2)) (is-ook : length (n .1) ≡ length (q .1)) (is-fsk : length (n .2) ≡ length (q .2)) where
+module _ (a : Asked) (p : State) (s : List ℕ) (from used : ℕ) (r : Reply) (q : State) (b : StepArgs) (end : ℕ) (z : Reply) (n : State)
+    (here : ltb (a .antenna) antennas ≡ true) (steps : isStepOf (a .command) ≡ true) (sound : Sound (p .0)) (so : StepsHeard a p s from used r q)
+    (inside : used < length s) (is-b : Step b ≡ addressedOf (drop used s)) (is-i : a .antenna ≡ antennaOf (drop used s)) (is-end : end ≡ used + 26)
+    (gives : (answerOf z (n .0), n .1, n .2) ≡ coreStep (q .0) b (q .1) (q .2)) (is-ook : length (n .1) ≡ length (q .1)) (is-fsk : length (n .2) ≡ length (q .2)) where
   abbrev asked : Asked
   asked = record { lane = q .0; others = a .others; antenna = a .antenna; command = Step b }
 
@@ -269,60 +232,52 @@ module _ (a : Asked) (p : State) (s : List ℕ) (from : ℕ) (r : Past) (q : Sta
   unfolding oneOf calledAmong
   lone = simp here
 
-  one : Heard asked q s (r .used) z n
-  one = heard-one asked q s (r .used) z n 26 (omega arith) (steps-sound sound so) is-b is-i refl refl is-used (gives ∙ core-steps q b (steps-sound sound so) ∙ lone) is-ook is-fsk
+  one : Heard asked q s used (pastOf (n .0) end z) n
+  one = heard-one asked q s used (pastOf (n .0) end z) n 26 (omega arith) (steps-sound sound so) is-b is-i refl refl is-end (gave b end z n sound so gives is-ook is-fsk ∙ lone) is-ook is-fsk
 
-  sees : (t : List ℕ) → Seen machine s (r .used) t
-  sees t = whole-settled (drop (r .used) s) t (step-whole (addressedOf (drop (r .used) s)) (ap isStepOf (sym is-b)))
+  sees : (t : List ℕ) → Seen machine s used t
+  sees t = whole-settled (drop used s) t (step-whole (addressedOf (drop used s)) (ap isStepOf (sym is-b)))
 
   -- its lines are those of the first command, which is a step too
   same-lines : (c : Called) → spokenText (a .antenna) (Step b) c ≡ spokenText (a .antenna) (a .command) c
   same-lines c = sym (step-text (a .antenna) (a .command) c steps)
 
   -- one step more
-  pub step-on : Heard a p s from z n
+  pub step-on : Heard a p s from (pastOf (n .0) end z) n
   step-on = go so
     where
       c : Called
-      c = (answerOf (z .reply) (n .0), n .1, n .2)
+      c = (answerOf z (n .0), n .1, n .2)
 
-      first : r .used ≡ from → q ≡ p → Heard a p s from z n
+      first : used ≡ from → q ≡ p → Heard a p s from (pastOf (n .0) end z) n
       first e d =
-          let f : Heard asked p s from z n = subst (λ (o : State). Heard asked o s from z n) d (subst (λ (m : ℕ). Heard asked q s m z n) e one) in
+          let f : Heard asked p s from (pastOf (n .0) end z) n = subst (λ (o : State). Heard asked o s from (pastOf (n .0) end z) n) d (subst (λ (m : ℕ). Heard asked q s m (pastOf (n .0) end z) n) e one) in
           record {
             onward = f .onward;
             inside = f .inside;
             sound = f .sound;
             shown = f .shown;
-            passes = λ all A. subst (λ (w : List ℕ). Passed machine all s from (z .used) w (putAt all (rowOf (a .antenna)) n)) (same-lines c) (f .passes all A);
+            passes = λ all A. subst (λ (w : List ℕ). Passed machine all s from end w (putAt all (rowOf (a .antenna)) n)) (same-lines c) (f .passes all A);
           }
 
-      further : from < r .used → Quiet r q → Kept p q → Heard a p s from r q → Heard a p s from z n
+      further : from < used → Quiet r q → Kept p q → Heard a p s from (pastOf (q .0) used r) q → Heard a p s from (pastOf (n .0) end z) n
       further up quiet keeps h =
           record {
-            onward = omega (arith, is-used);
+            onward = omega (arith, is-end);
             inside = one .inside;
             sound = one .sound;
             shown = subst (Shown c) (kept-room keeps) (one .shown);
             passes = λ all A.
-                subst (Passed machine all s from (z .used) (spokenText (a .antenna) (a .command) c)) (put-again all (rowOf (a .antenna)) q n)
-                (subst (λ (w : List ℕ). Passed machine all s from (z .used) w (putAt (putAt all (rowOf (a .antenna)) q) (rowOf (a .antenna)) n)) (same-lines c)
-                (passed-then machine orderly all s from (r .used) _ (putAt all (rowOf (a .antenna)) q) (z .used) _ _ (h .passes all A)
-                (step-text (a .antenna) (a .command) _ steps ∙ silent (a .antenna) (r .reply) (q .0) (q .1) (q .2) quiet) up sees (omega (arith, is-used))
+                subst (Passed machine all s from end (spokenText (a .antenna) (a .command) c)) (put-again all (rowOf (a .antenna)) q n)
+                (subst (λ (w : List ℕ). Passed machine all s from end w (putAt (putAt all (rowOf (a .antenna)) q) (rowOf (a .antenna)) n)) (same-lines c)
+                (passed-then machine orderly all s from used _ (putAt all (rowOf (a .antenna)) q) end _ _ (h .passes all A)
+                (step-text (a .antenna) (a .command) _ steps ∙ silent (a .antenna) r (q .0) (q .1) (q .2) quiet) up sees (omega (arith, is-end))
                 (one .passes (putAt all (rowOf (a .antenna)) q) (among-after all (a .antenna) (a .others) p q A))));
           }
 
-      go : Steps a p s from r q → Heard a p s from z n
+      go : StepsHeard a p s from used r q → Heard a p s from (pastOf (n .0) end z) n
       go (none e d) = first e d
-      go (some up quiet keeps h) = further up quiet keeps h
-
-  -- a step that printed nothing
-  pub steps-more : Quiet z n → Steps a p s from z n
-  unfolding called
-  steps-more quiet =
-      let k = steps-kept so in
-      let e : n .0 .settings ≡ q .0 .settings = ap (λ (c : Called). c .0 .lane .settings) (gives ∙ core-steps q b (steps-sound sound so)) ∙ step-settings (q .0) b (q .1) (q .2) in
-      some (omega (arith, steps-onward so, is-used)) quiet (record { settings = e ∙ k .settings; ook = is-ook ∙ k .ook; fsk = is-fsk ∙ k .fsk }) step-on
+      go (some up quiet keeps still h) = further up quiet keeps h
 
 -- ---- commands with their lines
 
@@ -352,21 +307,13 @@ heard-spoken i k c h = simp h
 pub quiet-spoken : (i : ℕ) (k : Command) (r : Reply) (l : Lane) (ook fsk : List ℕ) → isHeardOf k ≡ true → quietOf r (l .burst .«out_fsk» .state) (l .burst .«out_ook» .state) ≡ true → [] ≡ spokenText i k (answerOf r l, ook, fsk)
 quiet-spoken i k r l ook fsk h q = sym (silent i r l ook fsk q) ∙ heard-spoken i k (answerOf r l, ook, fsk) h
 
--- where a byte is, a command is there
-pub bytes-there : (s : List ℕ) (from : ℕ) (k : Command) → from < length s → k ≡ addressedOf (drop from s) → waits true k ≡ false
-bytes-there s from k inside is-k = go (waits true (addressedOf (drop from s))) refl
-  where
-    go : (b : Bool) → waits true (addressedOf (drop from s)) ≡ b → waits true k ≡ false
-    go true q = absurd (omega (arith, ap length (orderly .all-used (drop from s) q), length-drop from s))
-    go false q = ap (waits true) is-k ∙ q
-
 -- the room that a turn has is room for the lines of its call
 pub room-spoken : (n len at : ℕ) (r : Reply) (l : Lane) (ook fsk : List ℕ) → hasTaggedRoom n len at ≡ true → Shown (answerOf r l, ook, fsk) n → at + spokenRoom r l ook fsk ≤ len
 unfolding hasTaggedRoom
 room-spoken n len at r l ook fsk h g = go (ltb len 63) refl h
   where
     go : (b : Bool) → ltb len 63 ≡ b → cond b false (hasRoom n (len - 63) at) ≡ true → at + spokenRoom r l ook fsk ≤ len
-    go true q e = let z : _≡_ {A = Bool} false true = e in let y : _≡_ {A = ℕ} 0 1 = cc in absurd (omega arith)
+    go true q e = clash (sym e)
     go false q e = omega (arith, ltb-false len 63 q, room-there n (len - 63) at e .1, g .fsk-shown, g .ook-shown)
 
 -- and a text without it has too few bytes left

@@ -10,7 +10,7 @@ use Rattle.lane.specs.Step.{newLane}
 use Rattle.commands.specs.declared.Command.{Command}
 use Rattle.commands.specs.declared.Command.the-variants.{End, Open, Begin, Step, Unknown, Short, Close}
 use Rattle.lines.specs.Line.{refusedLine}
-use Rattle.turns.specs.Turn.{Called, recordText, waits, mostOf}
+use Rattle.calls.specs.Turn.{Called, recordText, waits, mostOf}
 use Rattle.addressed.specs.Addressed.{addressedOf, antennaOf, addressedSize}
 use Rattle.tagged.specs.Tagged.{taggedText, taggedRoom}
 use Rattle.among.specs.Among.{antennas, Lanes, laneAt, answerTo, afterCall}

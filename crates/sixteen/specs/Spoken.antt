@@ -7,27 +7,21 @@ use mathlib.Core.List.{List, [], _∷_, _++_}
 use lib.ListN.{length, take, drop, set, getD}
 use lib.Dec.{ltb}
 use Rattle.lane.specs.declared.Lane.{Lane}
-use Rattle.lane.specs.Core.{answerOf}
+use Rattle.lane.specs.Answers.{answerOf}
 use Rattle.reached.specs.Reached.{Sound}
 use Rattle.lane.specs.declared.Reply.{Reply}
 use Rattle.lines.specs.Line.{trainRoom, hasRoom}
 use Rattle.commands.specs.declared.Command.{Command}
-use Rattle.turns.specs.Turn.{State, Called, unchanged, shownOf, mostOf}
-use Rattle.turns.specs.Laws.{Shown}
+use Rattle.calls.specs.Turn.{State, Called, unchanged, shownOf, mostOf}
+use Rattle.calls.specs.Turn.{Shown}
 use Rattle.tagged.specs.Tagged.{taggedRoom}
-use Rattle.among.specs.Among.{antennas, calledAmong, Lanes, laneAt, putAt, othersOut, noAntenna}
+use Rattle.among.specs.Among.{antennas, calledAmong, Lanes, laneAt, putAt, othersOut, noAntenna, Sized}
 use Rattle.stream.specs.Blocks.{Left, Passed}
 use Rattle.sixteen.specs.declared.Asked.{Asked}
 use Rattle.sixteen.specs.declared.Past.{Past}
 use Rattle.sixteen.specs.declared.Turned.{Turned}
 use Rattle.sixteen.specs.declared.Ran.{Ran}
 use Rattle.sixteen.specs.Sixteen.{spokenText, rowOf, machine}
-
--- sixteen of each
-pub record Sized (p : Lanes) : Type 0 where
-  pub lanes : length (p .0) ≡ antennas
-  pub ooks : length (p .1) ≡ antennas
-  pub fsks : length (p .2) ≡ antennas
 
 -- sixteen lanes among which antenna i is asked: this is its lane, with its buffers, and so many others are out of idle
 pub record Among (all : Lanes) (i others : ℕ) (p : State) : Type 0 where

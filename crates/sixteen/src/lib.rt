@@ -8,13 +8,13 @@ ghost use lib.ListN.{length, drop};
 ghost use Rattle.commands.specs.Command.{isStepOf};
 ghost use Rattle.lines.specs.Line.{Put};
 ghost use Rattle.reached.specs.Reached.{Sound};
-ghost use Rattle.turns.specs.Turn.{Called};
-ghost use Rattle.lane.specs.Core.{answerOf};
+ghost use Rattle.calls.specs.Turn.{Called};
+ghost use Rattle.lane.specs.Answers.{answerOf};
 ghost use Rattle.addressed.specs.Addressed.{addressedOf, antennaOf};
-ghost use Rattle.among.specs.Among.{antennas};
+ghost use Rattle.among.specs.Among.{antennas, Sized};
 ghost use Rattle.stream.specs.Blocks.{Streamed};
 ghost use Rattle.sixteen.specs.Sixteen.{heardText, isHeardOf, noneText, spokenText, rowOf, machine};
-ghost use Rattle.sixteen.specs.Spoken.{Sized, oneOf, Heard, spokenRoom, hasTaggedRoom, Spoken, InRow, leftBy, AllSound};
+ghost use Rattle.sixteen.specs.Spoken.{oneOf, Heard, spokenRoom, hasTaggedRoom, Spoken, InRow, leftBy, AllSound};
 use commands::Command;
 use lane::Answer;
 use lane::Lane;
@@ -48,17 +48,17 @@ pub struct Turned {
 // ---- one antenna
 
 // The step at a place of the bytes and those of the same antenna that follow it, up to the first that
-// prints: core and arrays are changed in place (as `turns::steps` does).
+// prints: core and arrays are changed in place (as `calls::steps` does).
 fn steps(q: Asked, s: &[u8], from: usize, ook: &mut [u32], fsk: &mut [u32]) -> Past
     requires { ⌜ (from < length (now s)) × (q .command ≡ addressedOf (drop from (now s))) × (q .antenna ≡ antennaOf (drop from (now s))) × (isStepOf (q .command) ≡ true) × (q .antenna < antennas) × Sound (q .lane) ⌝ }
     ensures { λ r. ⌜ Heard q (q .lane, now (ook .entry), now (fsk .entry)) (now (s .entry)) from r (r .lane, now (ook .exit), now (fsk .exit)) ⌝ }
 {
     let lane = q.lane;
     let i = q.antenna;
-    let mut c = lane::core_of(lane);
-    let mut es = lane::envelopes(lane);
-    let mut re = lane::reals(lane);
-    let mut im = lane::imaginaries(lane);
+    let mut c = step::core_of(lane);
+    let mut es = step::envelopes(lane);
+    let mut re = step::reals(lane);
+    let mut im = step::imaginaries(lane);
     let mut ring = lane.ring;
     let mut cs = lane.burst.frame.cand.cand_f;
     let mut used = from;
@@ -69,7 +69,7 @@ fn steps(q: Asked, s: &[u8], from: usize, ook: &mut [u32], fsk: &mut [u32]) -> P
             break;
         }
         let b = addressed::step_at(s, used);
-        let a = lane::step_core(
+        let a = step::step_core(
             c,
             b,
             &mut es,
@@ -83,12 +83,12 @@ fn steps(q: Asked, s: &[u8], from: usize, ook: &mut [u32], fsk: &mut [u32]) -> P
         reply = a.reply;
         c = a.core;
         used += 26;
-        let quiet = turns::is_quiet(reply, c.burst.out_fsk.state, c.burst.out_ook.state);
+        let quiet = calls::is_quiet(reply, c.burst.out_fsk.state, c.burst.out_ook.state);
         if !quiet {
             break;
         }
     }
-    let l = lane::joined(c, es, re, im, ring, cs);
+    let l = step::joined(c, es, re, im, ring, cs);
     Past {
         lane: l,
         used,
@@ -104,7 +104,7 @@ fn call_one(q: Asked, ook: &mut [u32], fsk: &[u32]) -> Answer
     let k = q.command;
     let there = q.antenna < 16;
     if there {
-        let a = turns::call_other(l, k, ook, fsk);
+        let a = calls::call_other(l, k, ook, fsk);
         return among::settle(l, a, k, q.others);
     }
     let reply = among::no_antenna(k);
@@ -118,7 +118,7 @@ fn pass(q: Asked, s: &[u8], from: usize, ook: &mut [u32], fsk: &mut [u32]) -> Pa
     ensures { λ r. ⌜ Heard q (q .lane, now (ook .entry), now (fsk .entry)) (now (s .entry)) from r (r .lane, now (ook .exit), now (fsk .exit)) ⌝ }
 {
     let k = q.command;
-    let is = turns::is_step(k);
+    let is = calls::is_step(k);
     let fast = is & (q.antenna < 16);
     if fast {
         return steps(q, s, from, ook, fsk);
@@ -149,8 +149,8 @@ fn put_heard<'a>(
 {
     let f = l.burst.out_fsk;
     let o = l.burst.out_ook;
-    let fs = turns::shown(r, l, f, ook, fsk);
-    let os = turns::shown(r, l, o, ook, fsk);
+    let fs = calls::shown(r, l, f, ook, fsk);
+    let os = calls::shown(r, l, o, ook, fsk);
     tagged::put_call(i, r, f, fs, o, os, l.last, text, at)
 }
 
@@ -214,7 +214,7 @@ fn put_answer<'a>(
     if !heard {
         return put_none(k, text, at);
     }
-    let quiet = turns::is_quiet(r, l.burst.out_fsk.state, l.burst.out_ook.state);
+    let quiet = calls::is_quiet(r, l.burst.out_fsk.state, l.burst.out_ook.state);
     if quiet {
         return at;
     }
@@ -235,7 +235,7 @@ fn turn(
     ensures { λ r. ⌜ Spoken q (q .lane, now (ook .entry), now (fsk .entry)) (now (s .entry)) from at (now (text .entry)) r (r .lane, now (ook .exit), now (fsk .exit)) (now (text .exit)) ⌝ }
 {
     let l = q.lane;
-    let most = turns::most_of(l.settings.max_pulses, ook.len(), fsk.len());
+    let most = calls::most_of(l.settings.max_pulses, ook.len(), fsk.len());
     let room = has_room(most, text.len(), at);
     if !room {
         return Turned {
@@ -320,7 +320,7 @@ pub fn block(
     let mut full = false;
     while used < s.len() {
         let command = addressed::command_at(s, used);
-        let waiting = turns::waits(last, command);
+        let waiting = calls::waits(last, command);
         if waiting {
             break;
         }

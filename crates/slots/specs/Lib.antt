@@ -1,3 +1,3 @@
--- The slots of a train from its edges, in either mode, and that carried widths add up. Laws alone.
+-- The slots of a train from its edges, in either mode, and the sum of carried widths.
 pub mod Slots
 pub mod Sum

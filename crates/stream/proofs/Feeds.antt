@@ -1,5 +1,5 @@
 -- Feed after feed is block after block, and a feed that says that the stream is over says so rightly: it is over where the block ended it, and
--- where no byte will come and the text had room nothing is left to wait for. Assumes nothing.
+-- where no byte will come and the text had room nothing is left to wait for.
 use Prim.Native.Nat.{ℕ, _≤_}
 use mathlib.Core.Bool.{Bool, true, false, not, _&&_, _||_}
 use mathlib.Core.Path.{_≡_, refl, sym, _∙_, ap, subst}

@@ -1,3 +1,4 @@
 pub mod Printed
 pub mod Taken
+pub mod Running
 pub mod Feeds

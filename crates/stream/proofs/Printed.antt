@@ -1,5 +1,5 @@
 -- Block after block, with the tail carried over, prints the lines of the unbroken stream: a command that is not waited for is decoded from a
--- part as from the whole, and more turns than bytes change nothing. Assumes nothing.
+-- part as from the whole, and more turns than bytes change nothing.
 use Prim.Native.Nat.{ℕ, zero, suc, _+_, _<_, _≤_}
 use mathlib.Core.Bool.{Bool, true, false, cond}
 use mathlib.Core.Path.{_≡_, refl, sym, _∙_, ap}

@@ -1,10 +1,10 @@
--- What is said of commands that were taken (`Passed`), of one and of several, and of their lines in a block's text. Assumes nothing.
+-- What is said of commands that were taken (`Passed`), of one and of several.
 use Prim.Native.Nat.{ℕ, _+_, _<_, _≤_}
 use mathlib.Core.Bool.{Bool, true, false, cond}
 use mathlib.Core.Path.{_≡_, refl, ap, sym, _∙_, subst}
-use mathlib.Core.List.{List, [], _++_, append-assoc}
+use mathlib.Core.List.{List, [], _++_, append-nil}
 use native.Mathlib.Omega.{arith}
-use lib.ListN.{length, take, drop, length-take, length-drop, length-append, drop-of-length-le}
+use lib.ListN.{length, take, drop, length-take, length-drop, length-append}
 use lib.Seq.{sets, sets-eq, take-at, drop-drop, drop-append-le}
 use lib.Dec.{eqb}
 use borrow.Author.Tests.{eqb-true, eqb-false, eq-eqb, ne-eqb}
@@ -84,38 +84,19 @@ module _ (M : Machine) (O : Orderly M) where
           ∙ sym (ap (λ (x : List ℕ). x ++ cond (eqb used from) [] (printedOf M q (drop used s ++ t))) quiet ∙ ap (λ (b : Bool). cond b [] (printedOf M q (drop used s ++ t))) (ne-eqb used from (λ e. omega (arith, e))))
           ∙ h .same t seen
 
-  -- ---- one turn of a block: y has the lines w of the commands taken after those of x
-  module _ (last : Bool) (p₀ p : M .State) (s x y : List ℕ) (used at end at′ : ℕ) (w : List ℕ) (q : M .State)
-      (ready : M .waits last (drop used s) ≡ false) (turn : Passed M p s used end w q) (puts : take at′ y ≡ take at x ++ w) where
-    sees : (t : List ℕ) → May last t → Seen M s used t
-    sees t may = O .settled last (drop used s) t may ready
+  -- where a byte is, a command is there
+  pub some-left : (s : List ℕ) (from : ℕ) → from < length s → M .waits true (drop from s) ≡ false
+  some-left s from inside = go (M .waits true (drop from s)) refl
+    where
+      go : (b : Bool) → M .waits true (drop from s) ≡ b → b ≡ false
+      go true q = absurd (omega (arith, ap length (O .all-used (drop from s) q), length-drop from s))
+      go false q = refl
 
-    joined : (t : List ℕ) → May last t → take at x ++ printedOf M p (drop used s ++ t) ≡ printedOf M p₀ (s ++ t)
-        → take at′ y ++ cond (eqb end used) [] (printedOf M q (drop end s ++ t)) ≡ printedOf M p₀ (s ++ t)
-    joined t may h =
-        ap (λ (v : List ℕ). v ++ cond (eqb end used) [] (printedOf M q (drop end s ++ t))) puts
-        ∙ append-assoc (take at x) w (cond (eqb end used) [] (printedOf M q (drop end s ++ t)))
-        ∙ ap (λ (v : List ℕ). take at x ++ v) (turn .same t (sees t may)) ∙ h
+-- ---- what comes after a command
 
-    -- the stream goes on
-    pub again : (end ≡ used → ⊥) → (t : List ℕ) → May last t → take at x ++ printedOf M p (drop used s ++ t) ≡ printedOf M p₀ (s ++ t)
-        → take at′ y ++ printedOf M q (drop end s ++ t) ≡ printedOf M p₀ (s ++ t)
-    again n t may h = ap (λ (b : Bool). take at′ y ++ cond b [] (printedOf M q (drop end s ++ t))) (sym (ne-eqb end used n)) ∙ joined t may h
-
-    pub leads : (end ≡ used → ⊥) → (t : List ℕ) → May last t → Turns M p₀ (s ++ t) used p → Turns M p₀ (s ++ t) end q
-    leads n t may h = turn .left p₀ t (sees t may) n h
-
-    -- the stream ends
-    pub over : end ≡ used → (t : List ℕ) → May last t → take at x ++ printedOf M p (drop used s ++ t) ≡ printedOf M p₀ (s ++ t) → take at′ y ++ [] ≡ printedOf M p₀ (s ++ t)
-    over n t may h = ap (λ (b : Bool). take at′ y ++ cond b [] (printedOf M q (drop end s ++ t))) (sym (eq-eqb end used n)) ∙ joined t may h
-
-    pub leads-nowhere : end ≡ used → (t : List ℕ) → Turns M p₀ (s ++ t) used p → Turns M p₀ (s ++ t) used q
-    leads-nowhere n t h = subst (Turns M p₀ (s ++ t) used) (sym (turn .ended n .1)) h
-
-  -- nothing is left to wait for where all bytes are used
-  pub none-left : (last : Bool) (s : List ℕ) (used : ℕ) → length s ≤ used → M .waits last (drop used s) ≡ true
-  none-left last s used h = ap (M .waits last) (drop-of-length-le s h) ∙ O .none-waits last
-
--- a block that was not ended
-pub stays-on : (b : Bool) (a w v : List ℕ) → b ≡ false → a ++ w ≡ v → a ++ cond b [] w ≡ v
-stays-on b a w v e h = ap (λ (c : Bool). a ++ cond c [] w) e ∙ h
+-- a command is the same whatever comes after it, where no byte will come, and else where one that is not waited for is
+pub settles : (M : Machine) → ((s t : List ℕ) → M .waits false s ≡ false → Settled M s t) → (last : Bool) (s t : List ℕ) → May last t → M .waits last s ≡ false → Settled M s t
+settles M whole true s t may w =
+    subst (Settled M s) (sym (may refl))
+    (record { size-same = ap (M .size) (append-nil s); next-same = λ p. ap (M .next p) (append-nil s); text-same = λ p. ap (M .text p) (append-nil s) })
+settles M whole false s t may w = whole s t w

@@ -1,4 +1,4 @@
--- Entries worked out from the rule: the first, the last, and where 180 ends. Assumes nothing.
+-- Entries worked out from the rule: the first, the last, and where 180 ends.
 use mathlib.Core.Path.{_≡_, refl}
 use mathlib.Core.List.{[], _∷_, map}
 use Rattle.table.specs.Rule.{largest, entryOf}

@@ -1,3 +1,4 @@
 pub mod Others
 pub mod Lifted
 pub mod Examples
+pub mod Laws

@@ -1,4 +1,4 @@
--- The test that passes at the words is the rule at every entry: one law, by induction over the bytes of a word. Assumes nothing.
+-- The test that passes at the words is the rule at every entry: one law, by induction over the bytes of a word.
 use mathlib.Core.Path.{_≡_, sym, ap, _∙_, subst}
 use mathlib.Core.Bool.{Bool, true, false, _&&_, cond}
 use Prim.Native.Nat.{ℕ, zero, suc, _+_, _*_, _/_, _%_, _^_, _≤_, _<_}
@@ -8,7 +8,7 @@ use native.Mathlib.Omega.{arith}
 use lib.Pow.{pow-add}
 use lib.Dec.{T, leb, ltb, eqb, leb→le, ltb→lt, le→leb, lt→ltb, eqb→eq}
 use Rattle.table.specs.Rule.{Rule, entryOf, entryRuled, bytesRuled, Word}
-use Rattle.table.specs.Laws.{entry-unique, entry-none}
+use Rattle.table.proofs.Laws.{entry-unique, entry-none}
 
 both-left : (a b : Bool) → T (a && b) → T a
 both-left true b t = tt

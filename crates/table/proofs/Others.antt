@@ -1,4 +1,4 @@
--- A number that is none of 32 to 127 has no word: the arm of a match that is left. Assumes nothing.
+-- A number that is none of 32 to 127 has no word: the arm of a match that is left.
 use mathlib.Core.Path.{_≡_}
 use mathlib.Core.Bool.{Bool, true, false, _&&_, cond}
 use Prim.Native.Nat.{ℕ, zero, suc, _+_, _*_, _≤_, _<_}

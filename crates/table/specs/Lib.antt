@@ -1,3 +1,2 @@
 -- The table's rule, and what follows from it.
 pub mod Rule
-pub mod Laws

@@ -1,4 +1,4 @@
--- Every row of the table is right: computed from the definitions. Assumes nothing.
+-- Every row of the table is right: computed from the definitions.
 use mathlib.Core.Path.{refl}
 use Rattle.lines.specs.Line.{leading, decimal, idleLine, refusedLine}
 use Rattle.tagged.specs.Tagged.{tagged}

@@ -1,4 +1,4 @@
--- A line of the listing has a byte, so with its tag it is the number, a blank and the line. Assumes nothing.
+-- A line of the listing has a byte, so with its tag it is the number, a blank and the line.
 use Prim.Native.Nat.{ℕ, _<_}
 use mathlib.Core.Bool.{Bool, true, false, cond}
 use mathlib.Core.Path.{_≡_, refl, ap, sym, _∙_}
@@ -8,7 +8,7 @@ use native.Mathlib.Nat.{not-suc-le-zero}
 use lib.ListN.{length}
 use lib.Dec.{eqb}
 use lib.Ieee.{Float}
-use Rattle.ook.specs.declared.Out.{Out}
+use Rattle.shared.specs.declared.Out.{Out}
 use Rattle.lane.specs.declared.Reply.{Reply}
 use Rattle.lane.specs.declared.Reply.the-variants.{Refused, Stay, Idle, IdleAt}
 use Rattle.lane.specs.Answers.{replyNumberOf}

@@ -10,7 +10,7 @@ ghost use Rattle.lane.specs.Answers.{replyNumberOf};
 ghost use Rattle.lines.specs.Line.{decimal, recordLine, callText, trainRoom, Put};
 ghost use Rattle.tagged.specs.Tagged.{tagged, taggedText};
 use lane::Reply;
-use ook::Out;
+use shared::Out;
 
 // The antenna's number and a blank.
 fn put_tag(i: usize, text: &mut [u8], at: usize) -> usize

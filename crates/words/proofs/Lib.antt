@@ -1,3 +1,4 @@
 -- The laws that the proofs cite.
 mod Places
 mod WordLoops
+pub mod Laws

@@ -1,14 +1,13 @@
--- A byte at a place, the bytes of a number, and how many bytes words have. Assumes nothing.
-use Prim.Native.Nat.{ℕ, suc, _+_, _*_, _/_, _%_, _-_, _≤_}
+-- A byte at a place, the bytes of a number, and how many bytes words have.
+use Prim.Native.Nat.{ℕ, suc, _+_, _*_, _/_, _%_, _-_}
 use mathlib.Core.Bool.{Bool, true, false, cond, _&&_}
 use mathlib.Core.List.{List}
-use mathlib.Core.Path.{_≡_, refl, sym}
+use mathlib.Core.Path.{_≡_, refl, sym, _∙_}
 use native.Mathlib.Omega.{arith}
 use lib.ListN.{getD, set}
-use lib.Seq.{sets}
 use lib.Dec.{eqb}
 use borrow.Author.Tests.{eqb-true, eqb-false, eq-eqb, ne-eqb}
-use Rattle.words.specs.Words.{joined, u32At, u64At, word, putAt}
+use Rattle.words.specs.Words.{joined, u32At, u64At, putAt}
 
 -- four bytes read at the places j, j + 1, j + 2 and j + 3 are the word there
 pub four-at : (o : List ℕ) (j p q r s : ℕ) {a b c d w : ℕ} → p ≡ j → q ≡ j + 1 → r ≡ j + 2 → s ≡ j + 3
@@ -39,6 +38,10 @@ in-fours b n = go (eqb (b % 4) 0) (eqb (b / 4) n) refl refl
     go true true ex ey = sym (eq-eqb b (4 * n) (omega (arith, eqb-true (b % 4) 0 ex, eqb-true (b / 4) n ey)))
     go true false ex ey = sym (ne-eqb b (4 * n) (λ e. eqb-false (b / 4) n ey (omega arith)))
     go false y ex ey = sym (ne-eqb b (4 * n) (λ e. eqb-false (b % 4) 0 ex (omega arith)))
+
+-- what the test of the lengths tells
+pub as-many : {a b : ℕ} {t : Bool} → t ≡ eqb a b → t ≡ true → a ≡ b
+as-many {a} {b} e h = eqb-true a b (sym e ∙ h)
 
 -- what a test chooses between two lists
 pub chosen : (a b : List ℕ) {t u : Bool} {x : List ℕ} → t ≡ u → t ≡ true → x ≡ a → x ≡ cond u a b

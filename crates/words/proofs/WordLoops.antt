@@ -1,4 +1,4 @@
--- The loops that read words from bytes and write them there: a turn and the end of each. Assumes nothing.
+-- The loops that read words from bytes and write them there: a turn and the end of each.
 use Prim.Native.Nat.{ℕ, suc, _+_, _*_, _<_, _≤_}
 use mathlib.Core.List.{List, _∷_, _++_, append-assoc, append-nil}
 use mathlib.Core.Path.{_≡_, refl, ap, _∙_}
@@ -7,7 +7,7 @@ use native.Mathlib.Numerals.{add-one}
 use lib.ListN.{length, take, drop, getD, set, length-append, drop-of-length-le}
 use lib.Seq.{drop-cons, take-suc-set, append-snoc, take-all, take-at, length-take-le, length-sets, sets-eq}
 use Rattle.words.specs.Words.{u32At, decode, word, encode, putAt}
-use Rattle.words.specs.Laws.{byte-at}
+use Rattle.words.proofs.Laws.{byte-at}
 
 -- ---- one word read
 decode-at : (l : List ℕ) (p : ℕ) → p + 3 < length l → decode (drop p l) ≡ u32At l p ∷ decode (drop (p + 4) l)

@@ -1,3 +1,2 @@
 -- Little-endian numbers in bytes.
 pub mod Words
-pub mod Laws

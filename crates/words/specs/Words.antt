@@ -1,5 +1,5 @@
 -- Little-endian numbers in bytes (document 01, "Commands").
-use Prim.Native.Nat.{ℕ, _+_, _*_, _/_, _%_}
+use Prim.Native.Nat.{ℕ, _+_, _*_, _/_, _%_, _<_}
 use mathlib.Core.Bool.{cond}
 use mathlib.Core.List.{List, [], _∷_, _++_}
 use lib.ListN.{length, getD}
@@ -65,3 +65,7 @@ readOf bytes buf = cond (eqb (length bytes) (4 * length buf)) (decode bytes) buf
 -- the bytes of the words in place of some bytes
 unfoldable pub writtenOf : List ℕ → List ℕ → List ℕ
 writtenOf bytes buf = cond (eqb (length bytes) (4 * length buf)) (encode buf) bytes
+
+-- the numbers of four bytes
+abbrev pub Word : ℕ → Type 0
+Word n = n < 0x1_0000_0000

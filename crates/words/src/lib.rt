@@ -7,6 +7,7 @@ ghost use Rattle.words.specs.Words.{joined, u32At, u64At, f32At, decode,
 
 // ---- a number at a place
 
+// Four bytes as a number, the least significant first.
 fn join(a: u8, b: u8, c: u8, d: u8) -> u32
     ensures { λ r. ⌜ r ≡ joined a b c d ⌝ }
 {
@@ -22,6 +23,7 @@ pub fn u32_at(o: &[u8], i: usize) -> u32
     join(o[i], o[i + 1], o[i + 2], o[i + 3])
 }
 
+// The eight bytes from i on.
 pub fn u64_at(o: &[u8], i: usize) -> u64
     requires { ⌜ i + 8 ≤ length (now o) ⌝ }
     ensures { λ r. ⌜ r ≡ u64At (now (o .entry)) i ⌝ }
@@ -31,15 +33,17 @@ pub fn u64_at(o: &[u8], i: usize) -> u64
     low + high * 0x1_0000_0000
 }
 
+// The float of the four bytes from i on.
 pub fn f32_at(o: &[u8], i: usize) -> f32
     requires { ⌜ i + 4 ≤ length (now o) ⌝ }
     ensures { λ r. ⌜ r ≡ f32At (now (o .entry)) i ⌝ }
 {
-    arith::f32_of_bits(u32_at(o, i))
+    ieee::f32_of_bits(u32_at(o, i))
 }
 
 // ---- lists of words
 
+// The words of the bytes, into a buffer of exactly that many.
 fn read_all(bytes: &[u8], buf: &mut [u32])
     requires { ⌜ length (now bytes) ≡ 4 * length (now buf) ⌝ }
     ensures { λ _. ⌜ now (buf .exit) ≡ decode (now (bytes .entry)) ⌝ }
@@ -58,7 +62,7 @@ fn are_words(bytes: usize, n: usize) -> bool
     (bytes % 4 == 0) & (bytes / 4 == n)
 }
 
-// The words of the bytes, into a buffer of that many.
+// The words of the bytes, into a buffer of that many; nothing where it has another length.
 pub fn read_words(bytes: &[u8], buf: &mut [u32])
     ensures { λ _. ⌜ now (buf .exit) ≡ readOf (now (bytes .entry)) (now (buf .entry)) ⌝ }
 {
@@ -67,12 +71,14 @@ pub fn read_words(bytes: &[u8], buf: &mut [u32])
     }
 }
 
+// The lowest byte.
 fn low(v: u32) -> u8
     ensures { λ r. ⌜ r ≡ v % 256 ⌝ }
 {
     (v % 256) as u8
 }
 
+// The four bytes of v at p, the least significant first.
 fn put_word(bytes: &mut [u8], p: usize, v: u32)
     requires { ⌜ p + 3 < length (now bytes) ⌝ }
     ensures { λ _. ⌜ now (bytes .exit) ≡ putAt (now (bytes .entry)) p v ⌝ }
@@ -83,6 +89,7 @@ fn put_word(bytes: &mut [u8], p: usize, v: u32)
     bytes[p + 3] = low(v / 0x100_0000);
 }
 
+// The bytes of the words, into a buffer of exactly that many.
 fn write_all(bytes: &mut [u8], buf: &[u32])
     requires { ⌜ length (now bytes) ≡ 4 * length (now buf) ⌝ }
     ensures { λ _. ⌜ now (bytes .exit) ≡ encode (now (buf .entry)) ⌝ }
@@ -94,7 +101,7 @@ fn write_all(bytes: &mut [u8], buf: &[u32])
     }
 }
 
-// The bytes of the words, into a buffer of that many.
+// The bytes of the words, into a buffer of that many; nothing where it has another length.
 pub fn write_words(bytes: &mut [u8], buf: &[u32])
     ensures { λ _. ⌜ now (bytes .exit) ≡ writtenOf (now (bytes .entry)) (now (buf .entry)) ⌝ }
 {

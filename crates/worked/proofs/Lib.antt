@@ -1,4 +1,5 @@
--- The proofs of the worked examples of refusal 4 at its limits, and of the serials.
+-- Every row of every table holds, by computation from the definitions that the contracts cite.
 pub mod Table
 pub mod Limits
 pub mod Serials
+pub mod Edges

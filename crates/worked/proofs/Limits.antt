@@ -1,4 +1,3 @@
--- Refusal 4 at its limits, by computation from the definition that the contracts cite. Assumes nothing.
 use mathlib.Core.Path.{refl}
 use Rattle.worked.specs.Limits.{passes, Limited, limits, others}
 

@@ -1,4 +1,3 @@
--- The rows of the serials, by computation from the definitions that the contracts cite. Assumes nothing.
 use mathlib.Core.Path.{refl}
 use Rattle.worked.specs.Serials.{after, fetched, Counted, calls, parts}
 

@@ -5,17 +5,18 @@ use Prim.Native.Nat.{ℕ, _+_}
 use mathlib.Core.List.{List, [], _∷_, _++_}
 use lib.ListN.{replicate}
 use lib.Ieee.{add, sub, mul, div, neg, lt, le, eq, ofBits, toBits, ofInt, toUnsigned, isNan}
-use Rattle.arith.specs.Rounding.{roundOf, narrowOf}
-use Rattle.arith.specs.Root.{wholeRoot, roundExact, exactOf, sqrtOf}
+use Rattle.ieee.specs.Rounding.{roundOf, narrowOf}
+use Rattle.root.specs.Root.{wholeRoot, roundExact, exactOf, sqrtOf}
 use Rattle.arith.specs.Leaves.{absOf, midpointOf, flushOf, crossOf, nearestIn}
 use Rattle.arith.specs.Carry.{widthBy, carriedAt, boundOf}
-use Rattle.ook.specs.Counts.{satAddOf, inc}
+use Rattle.shared.specs.Counts.{satAddOf, inc}
 use Rattle.ook.specs.Refine.{refineLevelOf, refineLoOf, excessOf, splitFrom, refineInOf, refineOf}
-use Rattle.ook.specs.Run.{lengthenOf, rejoinOf, beginRunOf, beginsOf, advanceOf as advanceRunOf, zeroIf, pacRunOf, beginEnvOf}
+use Rattle.run.specs.Run.{beginsOf, lengthenOf, rejoinOf, beginRunOf, movedOf, dueOf, startRunOf}
+use Rattle.ook.specs.Run.{advanceOf as advanceRunOf, zeroIf, pacRunOf, beginEnvOf}
 use Rattle.ook.specs.Train.{pushPulseOf, closeGapOf, emptyTrainOf, finishOf, endTrainOf, pulseDoneOf, gapRatioExceededOf}
-use Rattle.stages.specs.Act.{dueOf, confirmIf, riseOf, fallOf, confirmOf, actOf}
-use Rattle.stages.specs.See.{thresholdOf, onOf, refineDueOf, highOf, pacOf, seeOf}
-use Rattle.stages.specs.Tail.{carrierOf, goneOf, hasPulsesOf, gapOverOf, waitOf, tailOf}
+use Rattle.envelope.specs.Act.{confirmIf, riseOf, fallOf, confirmOf, actOf}
+use Rattle.envelope.specs.See.{thresholdOf, onOf, refineDueOf, highOf, pacOf, seeOf}
+use Rattle.envelope.specs.Tail.{carrierOf, goneOf, hasPulsesOf, gapOverOf, waitOf, tailOf}
 use Rattle.burst.specs.Lead.{leadAddOf, largestFrom, beginBurstOf, leadAtOf, replayFrom, replayOf, leadFullOf}
 use Rattle.burst.specs.Sample.{snapIfOf, lastOf, restOf, sampleOf}
 use Rattle.presence.specs.Presence.{snapOf, nearStartOf}
@@ -34,8 +35,9 @@ use Rattle.lane.specs.Step.{newLane, opened, begun, stepped, closed}
 use Rattle.words.specs.Words.{u32At, u64At, encode}
 use Rattle.commands.specs.Command.{settingsOf, carrySettingsOf, historyOf as historyBytes, beginArgsOf, stepArgsOf, decoded}
 use Rattle.lines.specs.Line.{leading, decimal, hex8, widths, trainLine, recordLine, idleLine, carrierLine, refusedLine, callText}
-use Rattle.turns.specs.Turn.{called, answerText}
-use Rattle.turns.specs.Stream.{listed, listing}
+use Rattle.calls.specs.Turn.{called, answerText}
+use Rattle.calls.specs.Stream.{listing}
+use Rattle.stream.specs.Machine.{listed, printedOf}
 
 abbrev float1 : ℕ
 float1 = 0x3f80_0000
@@ -92,5 +94,5 @@ burstWith e es = burstBy 1000 4 e es
 
 -- what is printed of commands, with the program's buffers
 unfoldable pub printed : List ℕ → List ℕ
-unfolding listed listing called answerText decoded settingsOf carrySettingsOf beginArgsOf stepArgsOf historyBytes u32At u64At encode callText recordLine trainLine widths idleLine carrierLine refusedLine decimal leading hex8 snapOf nearStartOf roundOf narrowOf wholeRoot roundExact exactOf sqrtOf absOf midpointOf flushOf crossOf nearestIn widthBy carriedAt boundOf satAddOf inc refineLevelOf refineLoOf excessOf splitFrom refineInOf refineOf lengthenOf rejoinOf beginRunOf beginsOf advanceRunOf zeroIf pacRunOf beginEnvOf pushPulseOf closeGapOf emptyTrainOf finishOf endTrainOf pulseDoneOf gapRatioExceededOf dueOf confirmIf riseOf fallOf confirmOf actOf thresholdOf onOf refineDueOf highOf pacOf seeOf carrierOf goneOf hasPulsesOf gapOverOf waitOf tailOf leadAddOf largestFrom beginBurstOf leadAtOf replayFrom replayOf leadFullOf snapIfOf lastOf restOf sampleOf settingsOk unsetOk firstFailed frameOk burstOk leadOk candOk settleOf fillOf replayStep leadStep burstStep advanceOf replyOf phaseOf historyOf beginLeadOf clearedOf leadLane noBurst idleLane front namedOf partOf openedOk laneOk historyOk beginFloatsOk stepFloatsOk followsOf openRefusal beginRefusal stepRefusal closeRefusal stampOf idleWith endBurstOf closeOf newLane opened begun stepped closed add sub mul div neg lt le eq ofBits toBits ofInt toUnsigned isNan
+unfolding listed printedOf called answerText decoded settingsOf carrySettingsOf beginArgsOf stepArgsOf historyBytes u32At u64At encode callText recordLine trainLine widths idleLine carrierLine refusedLine decimal leading hex8 snapOf nearStartOf roundOf narrowOf wholeRoot roundExact exactOf sqrtOf absOf midpointOf flushOf crossOf nearestIn widthBy carriedAt boundOf satAddOf inc refineLevelOf refineLoOf excessOf splitFrom refineInOf refineOf lengthenOf rejoinOf beginRunOf movedOf startRunOf beginsOf advanceRunOf zeroIf pacRunOf beginEnvOf pushPulseOf closeGapOf emptyTrainOf finishOf endTrainOf pulseDoneOf gapRatioExceededOf dueOf confirmIf riseOf fallOf confirmOf actOf thresholdOf onOf refineDueOf highOf pacOf seeOf carrierOf goneOf hasPulsesOf gapOverOf waitOf tailOf leadAddOf largestFrom beginBurstOf leadAtOf replayFrom replayOf leadFullOf snapIfOf lastOf restOf sampleOf settingsOk unsetOk firstFailed frameOk burstOk leadOk candOk settleOf fillOf replayStep leadStep burstStep advanceOf replyOf phaseOf historyOf beginLeadOf clearedOf leadLane noBurst idleLane front namedOf partOf openedOk laneOk historyOk beginFloatsOk stepFloatsOk followsOf openRefusal beginRefusal stepRefusal closeRefusal stampOf idleWith endBurstOf closeOf newLane opened begun stepped closed add sub mul div neg lt le eq ofBits toBits ofInt toUnsigned isNan
 printed commands = listing (newLane, replicate 4096 0, replicate 4096 0) commands

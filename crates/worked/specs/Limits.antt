@@ -5,11 +5,12 @@ use mathlib.Core.Path.{_≡_}
 use mathlib.Core.List.{List, [], _∷_, _++_, map}
 use lib.ListN.{getD, set, replicate}
 use lib.Ieee.{Float, binary32, le, ofBits, toBits}
-use Rattle.arith.specs.Leaves.{zero32, zero64}
-use Rattle.ook.specs.Counts.{zeroC32}
+use Rattle.ieee.specs.Constants.{zero32, zero64}
+use Rattle.shared.specs.Counts.{zeroC32}
+use Rattle.run.specs.declared.Run.{Run}
 use Rattle.ook.specs.Train.{zeroSteps}
-use Rattle.ook.specs.declared.Out.{Out}
-use Rattle.ook.specs.declared.Carrier.the-variants.{Angle}
+use Rattle.shared.specs.declared.Out.{Out}
+use Rattle.shared.specs.declared.Carrier.the-variants.{Angle}
 use Rattle.refusals.specs.Domain.{settingsOk, unsetOk}
 use Rattle.refusals.specs.State.{frameOk, burstOk, leadOk, candOk}
 use Rattle.lane.specs.declared.Lane.{Lane}
@@ -85,6 +86,9 @@ place «fsk_serial» = 45
 abbrev outAt : (Field → ℕ) → ℕ → Field → Out
 outAt v k f = record { index = 0; end = 0; state = v (flag k); cut = v (flag (k + 1)); pairs = 0; level = zero32; fsk = v (flag (k + 2)); carrier = Angle zero32; serial = v f }
 
+abbrev runAt : ℕ → ℕ → Run
+runAt level confirmed = record { level = level; «run_len» = 0; confirmed = confirmed; «prev_len» = 0; «t_run» = zero64; «t_prev» = zero64 }
+
 -- the settings' floats are given by their patterns; every other float and every number without a limit is 0
 unfoldable pub laneOf : List ℕ → Lane
 laneOf ns =
@@ -102,8 +106,9 @@ laneOf ns =
         high = zero32;
         «e_prev» = zero32;
         env = record {
-          run = record { level = v (flag 0); «run_len» = 0; confirmed = v (flag 1); «prev_len» = 0 };
-          times = record { «t_run» = zero64; «t_prev» = zero64; «c_run» = zero64; «c_prev» = zero64 };
+          run = runAt (v (flag 0)) (v (flag 1));
+          «c_run» = zero64;
+          «c_prev» = zero64;
           «ref_idx» = 0;
           «ref_pending» = v (flag 2);
         };
@@ -111,7 +116,7 @@ laneOf ns =
         train = record { start = 0; «pulse_end» = 0; started = v (flag 3); «ook_n» = v «ook_n»; «open» = v «open»; longest = zeroSteps; truncated = v (flag 4); acc = zeroC32; origin = zero64; bound = v bound };
         «out_ook» = outAt v 5 «ook_serial»;
         frames = 0;
-        pres = record { «p_t_run» = zero64; «p_t_prev» = zero64; «p_factor» = zero32; «p_level» = v (flag 8); «p_run» = 0; «p_confirmed» = v (flag 9); «p_prev» = 0 };
+        pres = record { run = runAt (v (flag 8)) (v (flag 9)); «p_factor» = zero32 };
         frame = record {
           tone = record { fm = zeroC32; «f_prev» = zero32 };
           «fsk_phase» = v «fsk_phase»;
@@ -119,7 +124,7 @@ laneOf ns =
           cand = record { «cand_f» = replicate 8 zero32; «cand_before» = zero32; «fsk_cand» = v «fsk_cand» };
           early = record { «f_early» = zero32; «t_early» = zero64; early = v (flag 10) };
           levels = record { «f_hi» = zero32; «f_lo» = zero32 };
-          runs = record { «ft_run» = zero64; «ft_prev» = zero64; «fsk_level» = v (flag 11); «fsk_run» = 0; «fsk_confirmed» = v (flag 12); «fsk_prev» = 0; «fsk_has_prev» = v (flag 13) };
+          runs = record { run = runAt (v (flag 11)) (v (flag 12)); «fsk_has_prev» = v (flag 13) };
           done = record { «f_origin» = zero64; «f_last» = zero64; «fsk_open» = v «fsk_open»; «fsk_n» = v «fsk_n»; «fsk_runs» = v «fsk_runs»; «fsk_full» = v (flag 14) };
         };
         «out_fsk» = outAt v 15 «fsk_serial»;
@@ -147,7 +152,7 @@ passes cs = laneOk (laneOf (changed cs))
 pub data Limit : Type 0 where
   limit : List (Field × ℕ) → Field → ℕ → Limit
 
-abbrev pub around : Limit → Bool × Bool
+abbrev around : Limit → Bool × Bool
 around (limit cs f n) = (passes ((f, n) ∷ cs), passes ((f, n + 1) ∷ cs))
 
 -- the flags with a number below n

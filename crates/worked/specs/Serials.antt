@@ -1,17 +1,16 @@
 -- Document 02, R-6 and R-13, in rows: which calls refusal 13 meets and in which order, the serials that an accepted call leaves, and which record
 -- gives its part to which lane.
 use Prim.Native.Nat.{ℕ, _+_, _-_, _^_}
-use mathlib.Core.Bool.{Bool, true, false}
 use mathlib.Core.Path.{_≡_}
 use mathlib.Core.List.{List, [], _∷_, map}
-use lib.ListN.{length, replicate}
+use lib.ListN.{replicate}
 use lib.Ieee.{neg, le, ofBits, toBits}
-use Rattle.arith.specs.Leaves.{zero32}
-use Rattle.ook.specs.Counts.{zeroC32, inc}
-use Rattle.ook.specs.Core.{numbered}
-use Rattle.ook.specs.declared.Out.{Out}
-use Rattle.ook.specs.declared.Settings.{Settings}
-use Rattle.ook.specs.declared.Carrier.the-variants.{Angle}
+use Rattle.ieee.specs.Constants.{zero32}
+use Rattle.shared.specs.Counts.{zeroC32, inc}
+use Rattle.shared.specs.Core.{numbered}
+use Rattle.shared.specs.declared.Out.{Out}
+use Rattle.shared.specs.declared.Settings.{Settings}
+use Rattle.shared.specs.declared.Carrier.the-variants.{Angle}
 use Rattle.burst.specs.Lead.{leadAddOf}
 use Rattle.refusals.specs.Domain.{settingsOk, unsetOk}
 use Rattle.refusals.specs.Order.{firstFailed}
@@ -157,10 +156,10 @@ parts =
     ∷ []
 
 -- the statement: each call leaves what its row says, and each fetch gives it
-abbrev pub got : Row → List ℕ
+abbrev got : Row → List ℕ
 got (row l c ns) = after l c
 
-abbrev pub says : Row → List ℕ
+abbrev says : Row → List ℕ
 says (row l c ns) = ns
 
 abbrev pub Counted : List Row → List ((ℕ × ℕ) × (List ℕ × ℕ)) → Type 0

@@ -1,4 +1,4 @@
--- `addressed::antenna_at` meets its contract: a byte past the end counts as 0. Assumes nothing.
+-- A byte past the end counts as 0.
 use Prim.Native.Nat.{ℕ, _<_}
 use mathlib.Core.Path.{_≡_, ap, sym, _∙_}
 use mathlib.Core.List.{List}

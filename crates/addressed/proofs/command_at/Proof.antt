@@ -1,4 +1,3 @@
--- `addressed::command_at` meets its contract: by its test and what the calls ensure. Assumes nothing.
 use Prim.Native.Nat.{ℕ, _<_, _≤_}
 use mathlib.Core.Path.{_≡_, ap, sym, _∙_}
 use mathlib.Core.List.{List, _∷_}

@@ -1,4 +1,4 @@
--- `addressed::is_step_for` meets its contract: 26 bytes and the command byte 3 make a step, and then its second byte decides. Assumes nothing.
+-- 26 bytes and the command byte 3 make a step, and then its second byte decides.
 use Prim.Native.Nat.{ℕ, _<_, _≤_}
 use mathlib.Core.Bool.{Bool, true, false, _&&_}
 use mathlib.Core.Path.{_≡_, ap, sym, _∙_}

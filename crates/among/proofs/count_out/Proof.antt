@@ -1,4 +1,4 @@
--- `among::count_out` counts lane after lane: what is counted, with what is left, is the whole. Assumes nothing.
+-- `among::count_out` counts lane after lane: what is counted, with what is left, is the whole.
 use Prim.Native.Nat.{ℕ, _+_, _-_, _<_, _≤_}
 use mathlib.Core.Path.{_≡_}
 use mathlib.Core.List.{List}
@@ -36,9 +36,6 @@ add-n c = record { fits = omega (arith, c .out-of .ensures, counts-one _ _ (c .o
 add-i : tie.Need-add-i Inv-loop μ-loop
 add-i c = record { fits = omega (arith, c .before .before .before .loop .inv .2) }
 
-loop-less : tie.Need-loop-less Inv-loop μ-loop
-loop-less c = omega (arith, c .before .before .loop-test .taken)
-
 loop-again : tie.Need-loop-again Inv-loop μ-loop
 loop-again c =
     let v = c .before .before .before .loop in (
@@ -51,4 +48,4 @@ returns : tie.Need-returns Inv-loop μ-loop
 returns c = let v = c .before .loop in counts-all _ (v .n) (v .i) (v .inv .0) (omega (arith, c .loop-test .left))
 
 pub count-out-spec : {M : Type 1} → statement M
-count-out-spec = tie.close (tie.spec Inv-loop μ-loop loop-holds (search needs) (search needs) (search needs) add-n add-i loop-less loop-again returns)
+count-out-spec = tie.close (tie.spec Inv-loop μ-loop loop-holds (search needs) (search needs) (search needs) add-n add-i (λ c. omega (arith, c .before .before .loop-test .taken)) loop-again returns)

@@ -1,8 +1,8 @@
--- `arith::a_gain` meets its contract: a square above 1e-30 is no NaN, so its pattern has an exponent's field; from 254 on nothing is left of 254 less the field. Assumes nothing.
-use Rattle.arith.proofs.Values.{plain-bits-plus}
-use Rattle.arith.proofs.Signs.{above-plain}
-use Rattle.arith.specs.Leaves.{gainOf, exponentOf}
-use lib.Ieee.{binary32, ofBits, toBits, mul}
+-- A square above FLUSH is no NaN, so its pattern has an exponent's field; from 254 on nothing is left of 254 less the field.
+use Rattle.ieee.proofs.Values.{plain-bits-plus}
+use Rattle.ieee.proofs.Signs.{above-plain}
+use Rattle.arith.specs.Leaves.{flush, gainOf, exponentOf}
+use lib.Ieee.{binary32, toBits, mul}
 use native.Mathlib.Omega.{arith}
 use Prim.Native.Nat.{ℕ, _-_, _*_, _≤_}
 use mathlib.Core.Path.{_≡_}
@@ -13,24 +13,11 @@ use Rattle.arith.proofs.a_gain.Tie as tie
 nothing : (x : ℕ) → 254 ≤ x → (254 - x) * 0x80_0000 ≡ 0
 nothing x h = omega arith
 
-float-to-bits-exp : tie.Need-float-to-bits-exp
-float-to-bits-exp c = above-plain (ofBits binary32 0x0da2_4260) (mul binary32 (c .before .args .e) (c .before .args .e)) (c .if1 .taken)
-
-float-from-bits-result : tie.Need-float-from-bits-result
-float-from-bits-result c = plain-bits-plus _ (omega arith)
-
-returns : tie.Need-returns
-unfolding gainOf
-returns c = simp (c .before .if1 .taken)
-
-returns-2 : tie.Need-returns-2
-unfolding gainOf
-returns-2 c = simp (c .before .if1 .taken, nothing (exponentOf (toBits binary32 (mul binary32 (c .before .before .args .e) (c .before .before .args .e)))) (c .if2 .left))
-
-returns-3 : tie.Need-returns-3
-unfolding gainOf
-returns-3 c = simp (c .if1 .left)
-
 pub a-gain-spec : {M : Type 1} → statement M
+unfolding gainOf
 a-gain-spec =
-    tie.close (tie.spec float-to-bits-exp (search needs) (search needs) float-from-bits-result returns returns-2 returns-3)
+    tie.close
+    (tie.spec (λ c. let e = c .before .args .e in above-plain flush (mul binary32 e e) (c .if1 .taken)) (search needs) (search needs)
+    (λ c. plain-bits-plus _ (omega arith)) (λ c. simp (c .before .if1 .taken))
+    (λ c. let e = c .before .before .args .e in simp (c .before .if1 .taken, nothing (exponentOf (toBits binary32 (mul binary32 e e))) (c .if2 .left)))
+    (λ c. simp (c .if1 .left)))

@@ -1,23 +1,12 @@
--- `arith::abs64` meets its contract: a number's pattern without the sign's digit. Assumes nothing.
+-- A number's pattern without the sign's digit is the magnitude's.
 use lib.Ieee.{binary64}
-use lib.Dec.{T}
-use mathlib.Core.Path.{sym, subst}
-use Rattle.arith.proofs.Nan.{is-nan, no-nan}
-use Rattle.arith.proofs.Magnitude.{abs-nan, abs-plain, abs-bits}
+use borrow.Author.Needs.{needs}
+use Rattle.arith.proofs.Magnitude.{abs-bits}
 use Rattle.arith.proofs.abs64.Statement.{statement}
 use Rattle.arith.proofs.abs64.Tie as tie
 
-returns : tie.Need-returns
-returns c = abs-nan (c .before .args .x) (is-nan (c .before .args .x) (c .if1 .taken))
-
-float-to-bits-result : tie.Need-float-to-bits-result
-float-to-bits-result c = no-nan (c .before .args .x) (c .if1 .left)
-
-float-from-bits-result : tie.Need-float-from-bits-result
-float-from-bits-result c = abs-plain binary64 (c .before .args .x) (subst T (sym (c .before .good .0 .1)) tt) (no-nan (c .before .args .x) (c .if1 .left))
-
-returns-2 : tie.Need-returns-2
-returns-2 c = abs-bits binary64 (c .before .args .x) (subst T (sym (c .before .good .0 .1)) tt)
-
 pub abs64-spec : {M : Type 1} → statement M
-abs64-spec = tie.close (tie.spec returns float-to-bits-result float-from-bits-result returns-2)
+abs64-spec =
+    tie.close
+    (tie.spec (search needs) (search needs)
+    (λ c. let s = c .before .before in simp (c .f64-of-bits .ensures, c .before .bits-of-f64 .ensures) (abs-bits binary64 (s .args .x) (s .good .0 .1))))

@@ -1,4 +1,3 @@
--- `arith::edge` meets its contract: what the call ensures. Assumes nothing.
 use borrow.Author.Needs.{needs}
 use Rattle.arith.proofs.edge.Statement.{statement}
 use Rattle.arith.proofs.edge.Tie as tie

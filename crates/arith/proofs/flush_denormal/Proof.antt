@@ -1,4 +1,3 @@
--- `arith::flush_denormal` meets its contract: the test of each return. Assumes nothing.
 use Rattle.arith.specs.Leaves.{flushOf}
 use borrow.Author.Needs.{needs}
 use Rattle.arith.proofs.flush_denormal.Statement.{statement}

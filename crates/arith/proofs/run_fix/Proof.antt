@@ -1,4 +1,3 @@
--- `arith::run_fix` meets its contract: what the call ensures. Assumes nothing.
 use borrow.Author.Needs.{needs}
 use Rattle.arith.proofs.run_fix.Statement.{statement}
 use Rattle.arith.proofs.run_fix.Tie as tie

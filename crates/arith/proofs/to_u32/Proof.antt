@@ -1,5 +1,5 @@
--- `arith::to_u32` meets its contract: the wider cast, held to the narrower range (`Ends.antt`). Assumes nothing.
-use Rattle.arith.proofs.Ends.{to32}
+-- The wider cast, held to the narrower range (`Ends.antt`).
+use Rattle.ieee.proofs.Ends.{to32}
 use native.Mathlib.Omega.{arith}
 use borrow.Author.Needs.{needs}
 use Rattle.arith.proofs.to_u32.Statement.{statement}

@@ -1,14 +1,10 @@
--- `arith::whole` meets its contract: a cast of the rounded number is the whole number, held to the range (`Cast.antt`). Assumes nothing.
-use mathlib.Core.Path.{sym, ap, _∙_, subst}
-use lib.Dec.{T}
-use lib.Ieee.{toUnsigned}
-use Rattle.arith.proofs.Cast.{cast-roundOf}
+-- A cast of the rounded number is the whole number, held to the range.
+use Rattle.arith.proofs.Cast.{cast-of-round}
 use borrow.Author.Needs.{needs}
 use Rattle.arith.proofs.whole.Statement.{statement}
 use Rattle.arith.proofs.whole.Tie as tie
 
-returns : tie.Need-returns
-returns c = c .to-u32 .ensures ∙ ap (toUnsigned 32) (c .before .round .ensures) ∙ cast-roundOf 32 (c .before .before .args .x) (subst T (sym (c .before .before .good .0 .1)) tt)
-
 pub whole-spec : {M : Type 1} → statement M
-whole-spec = tie.close (tie.spec (search needs) (search needs) returns)
+whole-spec =
+    tie.close
+    (tie.spec (search needs) (search needs) (λ c. let s = c .before .before in cast-of-round 32 (s .args .x) (s .good .0 .1) (c .before .round .ensures) (c .to-u32 .ensures)))

@@ -1,4 +1,3 @@
--- `arith::width` meets its contract: what the call ensures. Assumes nothing.
 use borrow.Author.Needs.{needs}
 use Rattle.arith.proofs.width.Statement.{statement}
 use Rattle.arith.proofs.width.Tie as tie

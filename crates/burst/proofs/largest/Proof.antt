@@ -1,10 +1,11 @@
--- `burst::largest` meets its contract: by its loop's law, what is left from here gives the whole. Assumes nothing.
+-- By its loop's law, what is left from here gives the whole.
 use Prim.Native.Nat.{_-_, _≤_}
 use mathlib.Core.Path.{_≡_, _∙_, sym}
 use native.Mathlib.Nat.{sub-zero}
 use borrow.Author.Needs.{needs}
-use Rattle.arith.specs.Leaves.{zero32}
-use Rattle.burst.specs.Lead.{largestFrom, largest-turn, largest-end}
+use Rattle.ieee.specs.Constants.{zero32}
+use Rattle.burst.specs.Lead.{largestFrom}
+use Rattle.burst.proofs.LeadLaws.{largest-turn, largest-end}
 use Rattle.burst.proofs.largest.Statement.{statement}
 use Rattle.burst.proofs.largest.Tie as tie
 
@@ -14,17 +15,9 @@ Inv-loop es len m₀ i₀ m i = (largestFrom es (len - i) i m ≡ largestFrom es
 abbrev μ-loop : tie.MeasureT-loop
 μ-loop es len m₀ i₀ m i = len - i
 
-loop-holds : tie.Need-loop-holds Inv-loop μ-loop
-loop-holds c = (simp sub-zero, search needs)
-
-loop-again : tie.Need-loop-again Inv-loop μ-loop
-loop-again c = (simp (c .pick .ensures) (sym (largest-turn _ _ _ _ (c .before .before .loop-test .taken)) ∙ c .before .before .before .loop .inv .0), search needs)
-
-returns : tie.Need-returns Inv-loop μ-loop
-returns c = sym (largest-end _ _ _ _ (c .loop-test .left)) ∙ c .before .loop .inv .0
-
 pub largest-spec : {M : Type 1} → statement M
 largest-spec =
     tie.close
-    (tie.spec Inv-loop μ-loop loop-holds (search needs) (search needs) (search needs) (search needs) (search needs)
-    loop-again returns)
+    (tie.spec Inv-loop μ-loop (λ c. (simp sub-zero, search needs)) (search needs) (search needs) (search needs) (search needs) (search needs)
+    (λ c. (simp (c .pick .ensures) (sym (largest-turn _ _ _ _ (c .before .before .loop-test .taken)) ∙ c .before .before .before .loop .inv .0), search needs))
+    (λ c. sym (largest-end _ _ _ _ (c .loop-test .left)) ∙ c .before .loop .inv .0))

@@ -1,5 +1,5 @@
--- `burst::rest` meets its contract. The code takes presence first, in OOK mode none, and then the end of the burst in one place; the
--- definition has the end twice, in OOK mode and after presence: `rest-beside`, by the mode. Assumes nothing.
+-- The code takes presence first, in OOK mode none, and then the end of the burst in one place; the
+-- definition has the end twice, in OOK mode and after presence: `rest-beside`, by the mode.
 use Prim.Native.Nat.{ℕ}
 use mathlib.Core.Bool.{Bool, true, false, cond}
 use mathlib.Core.Path.{_≡_, refl}
@@ -7,13 +7,13 @@ use mathlib.Core.List.{List}
 use native.Mathlib.Omega.{arith}
 use lib.Dec.{eqb}
 use lib.Ieee.{Float}
-use Rattle.ook.specs.Answers.{isStayOf}
-use Rattle.ook.specs.declared.Settings.{Settings}
+use Rattle.shared.specs.Answers.{isStayOf}
+use Rattle.shared.specs.declared.Settings.{Settings}
 use Rattle.ook.specs.declared.Done.{Done}
 use Rattle.presence.specs.Presence.{presenceOf}
-use Rattle.stages.specs.Tail.{tailOf}
-use Rattle.stages.specs.declared.At.{At}
-use Rattle.stages.specs.declared.Seen.{Seen}
+use Rattle.envelope.specs.Tail.{tailOf}
+use Rattle.envelope.specs.declared.At.{At}
+use Rattle.envelope.specs.declared.Seen.{Seen}
 use Rattle.burst.specs.Makers.{bodyIn, doneIn}
 use Rattle.burst.specs.Sample.{absenceOf, inputsOf, lastOf, presentOf, restOf}
 use Rattle.burst.specs.Lead.{staying}
@@ -46,20 +46,14 @@ module _ (p : Settings) (a : At) (ep : Float) (s : Seen) (b : Burst) (ook fsk : 
   rest-ends : (w, ook₁, fsk₁) ≡ besideOf p a ep s b ook fsk → stay ≡ isStayOf (w .next) → stay ≡ false → (w, ook₁, fsk₁) ≡ restOf p a ep s b ook fsk
   rest-ends e₁ e₂ e₃ = simp (rest-beside p a ep s b ook fsk, ← e₁, ← e₂, e₃)
 
-same-length : tie.Need-same-length
-same-length c = omega (arith, c .before .before .before .tail .kept .1 .1 .1 .1 .1 .1 .1 .1 .0, c .before .before .before .before .before .before .before .before .before .before .before .before .before .before .before .present .kept .1 .1 .1 .1 .1 .1 .0)
-
-same-length-2 : tie.Need-same-length-2
-same-length-2 c = omega (arith, c .before .before .before .before .before .before .before .before .before .before .before .before .before .before .before .present .kept .1 .1 .1 .1 .1 .1 .1 .0)
-
 returns : tie.Need-returns
 returns c = rest-stays _ _ _ _ _ _ _ _ _ _ _ _ _ _ (c .before .before .before .before .before .before .before .before .before .before .before .before .before .before .before .present .ensures) (c .before .before .before .before .before .before .before .before .before .is-stay .ensures) (c .before .before .before .before .before .before .before .before .if1 .taken) (c .before .before .before .tail .ensures) (c .with-done .ensures _)
-
-returns-2 : tie.Need-returns-2
-returns-2 c = rest-ends _ _ _ _ _ _ _ _ _ _ _ (c .before .before .before .before .before .before .before .present .ensures) (c .before .is-stay .ensures) (c .if1 .left)
 
 pub rest-spec : {M : Type 1} → statement M
 rest-spec =
     tie.close
-    (tie.spec (search needs) (search needs) (search needs) (search needs) same-length same-length-2 returns (search needs)
-    (search needs) returns-2)
+    (tie.spec (search needs) (search needs) (search needs) (search needs)
+    (λ c. omega (arith, c .before .before .before .tail .kept .1 .1 .1 .1 .1 .1 .1 .1 .0, c .before .before .before .before .before .before .before .before .before .before .before .before .before .before .before .present .kept .1 .1 .1 .1 .1 .1 .0))
+    (λ c. omega (arith, c .before .before .before .before .before .before .before .before .before .before .before .before .before .before .before .present .kept .1 .1 .1 .1 .1 .1 .1 .0))
+    returns (search needs) (search needs)
+    (λ c. rest-ends _ _ _ _ _ _ _ _ _ _ _ (c .before .before .before .before .before .before .before .present .ensures) (c .before .is-stay .ensures) (c .if1 .left)))

@@ -1,4 +1,3 @@
--- `burst::sample` meets its contract: at each branch the definition gives what the calls ensure. Assumes nothing.
 use Rattle.burst.specs.Sample.{sampleOf}
 use borrow.Author.Needs.{needs}
 use Rattle.burst.proofs.sample.Statement.{statement}

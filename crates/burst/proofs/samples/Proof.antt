@@ -1,5 +1,5 @@
--- `burst::samples` meets its contract: by its loop's law, what is left from here gives the whole. An end stays the end (`samples-stop`), so that
--- the loop may stop there. Assumes nothing.
+-- By its loop's law, what is left from here gives the whole. An end stays the end (`samples-stop`), so that
+-- the loop may stop there.
 use Prim.Native.Nat.{ℕ, zero, suc, _+_, _-_, _<_, _≤_}
 use mathlib.Core.Bool.{true, false}
 use mathlib.Core.Path.{_≡_, refl, ap, sym, _∙_}
@@ -10,9 +10,9 @@ use lib.ListN.{length}
 use lib.Ieee.{Float}
 use borrow.Author.Needs.{needs}
 use borrow.Author.Tests.{not-true, not-false}
-use Rattle.ook.specs.Answers.{isStayOf}
-use Rattle.ook.specs.declared.Settings.{Settings}
-use Rattle.stages.specs.declared.At.{At}
+use Rattle.shared.specs.Answers.{isStayOf}
+use Rattle.shared.specs.declared.Settings.{Settings}
+use Rattle.envelope.specs.declared.At.{At}
 use Rattle.burst.specs.Sample.{sampleOf}
 use Rattle.burst.specs.Lead.{onward, staying}
 use Rattle.burst.specs.Core.{wholeBurst, atInOf, samplesFrom}
@@ -46,14 +46,8 @@ Inv-loop p replays q n es re im ring cs₀ ook₀ fsk₀ next₀ cur₀ i₀ cs 
 abbrev μ-loop : tie.MeasureT-loop
 μ-loop p replays q n es re im ring cs₀ ook₀ fsk₀ next₀ cur₀ i₀ cs ook fsk next cur i = n - i
 
-loop-holds : tie.Need-loop-holds Inv-loop μ-loop
-loop-holds c = (simp sub-zero, refl, search needs, refl, refl)
-
 loop-again : tie.Need-loop-again Inv-loop μ-loop
 loop-again c = (samples-turn _ _ _ _ _ _ _ _ (c .before .before .before .before .before .before .before .before .before .before .before .before .loop-test .taken) (c .before .before .before .before .before .before .before .before .before .before .before .before .before .loop .inv .1) (c .before .before .before .before .before .before .before .before .before .before .before .at-in .ensures) (c .before .before .before .before .before .before .before .sample .ensures) ∙ c .before .before .before .before .before .before .before .before .before .before .before .before .before .loop .inv .0, sym (c .before .is-stay .ensures) ∙ not-false _ (c .if1 .left), search needs, search needs, search needs)
-
-returns : tie.Need-returns Inv-loop μ-loop
-returns c = sym (samples-end _ _ _ _ _ _ (c .loop-test .left)) ∙ c .before .loop .inv .0
 
 returns-2 : tie.Need-returns-2 Inv-loop μ-loop
 returns-2 c = sym (samples-stop _ _ _ _ _ _ (sym (c .before .is-stay .ensures) ∙ not-true _ (c .if1 .taken))) ∙ samples-turn _ _ _ _ _ _ _ _ (c .before .before .before .before .before .before .before .before .before .before .before .before .loop-test .taken) (c .before .before .before .before .before .before .before .before .before .before .before .before .before .loop .inv .1) (c .before .before .before .before .before .before .before .before .before .before .before .at-in .ensures) (c .before .before .before .before .before .before .before .sample .ensures) ∙ c .before .before .before .before .before .before .before .before .before .before .before .before .before .loop .inv .0
@@ -61,5 +55,6 @@ returns-2 c = sym (samples-stop _ _ _ _ _ _ (sym (c .before .is-stay .ensures) �
 pub samples-spec : {M : Type 1} → statement M
 samples-spec =
     tie.close
-    (tie.spec Inv-loop μ-loop loop-holds (search needs) (search needs) (search needs) (search needs) (search needs)
-    loop-again (search needs) (search needs) returns (search needs) (search needs) returns-2)
+    (tie.spec Inv-loop μ-loop (λ c. (simp sub-zero, refl, search needs, refl, refl)) (search needs) (search needs) (search needs) (search needs)
+    (search needs) loop-again (search needs) (search needs) (λ c. sym (samples-end _ _ _ _ _ _ (c .loop-test .left)) ∙ c .before .loop .inv .0)
+    (search needs) (search needs) returns-2)

@@ -1,4 +1,4 @@
--- `commands::decode` meets its contract: bytes that are some are their first and those after it. Assumes nothing.
+-- Bytes that are some are their first and those after it.
 use Prim.Native.Nat.{ℕ, _≤_}
 use mathlib.Core.Path.{_≡_, refl, ap, _∙_}
 use mathlib.Core.List.{List, [], _∷_}
@@ -21,9 +21,6 @@ returns : tie.Need-returns
 unfolding decoded
 returns c = simp (lt-ltb _ _ (c .if1 .taken))
 
-returns-2 : tie.Need-returns-2
-returns-2 c = c .decode-by .ensures ∙ front _ _ (c .before .before .before .if1 .left) (c .before .after .ensures)
-
 pub decode-spec : {M : Type 1} → statement M
 decode-spec =
-    tie.close (tie.spec returns (search needs) (search needs) (search needs) returns-2)
+    tie.close (tie.spec returns (search needs) (search needs) (search needs) (λ c. c .decode-by .ensures ∙ front _ _ (c .before .before .before .if1 .left) (c .before .after .ensures)))

@@ -1,4 +1,4 @@
--- `commands::decode_by` meets its contract: by its tests and what the calls ensure; with a command byte the bytes are some. Assumes nothing.
+-- By its tests and what the calls ensure; with a command byte the bytes are some.
 use Prim.Native.Nat.{ℕ, suc}
 use mathlib.Core.Bool.{false}
 use mathlib.Core.Path.{_≡_}

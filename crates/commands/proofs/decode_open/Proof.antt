@@ -1,4 +1,4 @@
--- `commands::decode_open` meets its contract: by its tests and what the calls ensure, 01 and 04 apart. Assumes nothing.
+-- By its tests and what the calls ensure, 01 and 04 apart.
 use mathlib.Core.Bool.{Bool, true, false}
 use mathlib.Core.Path.{_≡_, sym, ap, _∙_}
 use mathlib.Core.List.{List}
@@ -7,9 +7,10 @@ use native.Mathlib.Omega.{arith}
 use lib.ListN.{length, getD}
 use borrow.Author.Tests.{lt-ltb, le-ltb}
 use borrow.Author.Needs.{needs}
-use Rattle.ook.specs.declared.Settings.{Settings}
+use Rattle.shared.specs.declared.Settings.{Settings}
 use Rattle.commands.specs.declared.Command.the-variants.{Open, Short}
-use Rattle.commands.specs.Command.{withCarry, settingsOf, carrySettingsOf, openingOf}
+use Rattle.shared.specs.Settings.{withCarry}
+use Rattle.commands.specs.Command.{settingsOf, carrySettingsOf, openingOf}
 use Rattle.commands.proofs.decode_open.Statement.{statement}
 use Rattle.commands.proofs.decode_open.Tie as tie
 

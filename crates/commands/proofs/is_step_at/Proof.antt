@@ -2,7 +2,7 @@ use mathlib.Core.List.{List}
 use mathlib.Core.Path.{ap, sym, _∙_}
 use Prim.Native.Nat.{ℕ}
 use Rattle.commands.specs.Command.{decoded, isStepOf}
-use Rattle.commands.specs.Stream.{short-front, long-front}
+use Rattle.commands.proofs.Stream.{short-front, long-front}
 use borrow.Author.Needs.{needs}
 use Rattle.commands.proofs.is_step_at.Statement.{statement}
 use Rattle.commands.proofs.is_step_at.Tie as tie

@@ -5,7 +5,9 @@ use Rattle.commands.proofs.settings_of.Tie as tie
 
 returns : tie.Need-returns
 unfolding settingsOf
-returns c = simp (← c .before .before .before .before .before .before .before .before .before .wide .ensures .0, ← c .before .before .before .before .before .before .before .before .u32-at .ensures, ← c .before .before .before .before .before .before .before .u32-at2 .ensures, ← c .before .before .before .before .before .before .u32-at3 .ensures, ← c .before .before .before .before .before .u32-at4 .ensures, ← c .before .before .before .before .u32-at5 .ensures, ← c .before .before .before .f32-at .ensures, ← c .before .before .f32-at2 .ensures, ← c .before .f32-at3 .ensures, ← c .f32-at4 .ensures)
+returns c =
+    let split = c .before .before .before .before .before .before .before in
+    simp (← split .before .before .before .f32-at .ensures, ← split .before .before .f32-at2 .ensures, ← split .before .f32-at3 .ensures, ← split .f32-at4 .ensures, ← c .before .before .before .before .before .wide .ensures .0, ← c .before .before .before .before .u32-at .ensures, ← c .before .before .before .u32-at2 .ensures, ← c .before .before .u32-at3 .ensures, ← c .before .u32-at4 .ensures, ← c .u32-at5 .ensures)
 
 pub settings-of-spec : {M : Type 1} → statement M
 settings-of-spec =

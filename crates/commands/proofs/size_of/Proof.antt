@@ -1,14 +1,11 @@
--- `commands::size_of` meets its contract: an opening's size is what `open_size` ensures. Assumes nothing.
+-- An opening's size is what `open_size` ensures.
 use mathlib.Core.Path.{_∙_}
 use borrow.Author.Needs.{needs}
 use Rattle.commands.proofs.size_of.Statement.{statement}
 use Rattle.commands.proofs.size_of.Tie as tie
 
-returns-2 : tie.Need-returns-2
-returns-2 c = c .open-size .ensures ∙ simp (c .before .before .k .given .1)
-
 pub size-of-spec : {M : Type 1} → statement M
 size-of-spec =
     tie.close
-    (tie.spec (search needs) (search needs) (search needs) (search needs) (search needs) (search needs) (search needs) (search needs) (λ c. search needs) returns-2 (λ c. search needs) (λ c. search needs) (λ c. search needs) (λ c. search needs)
+    (tie.spec (search needs) (search needs) (search needs) (search needs) (search needs) (search needs) (search needs) (search needs) (λ c. search needs) (λ c. c .open-size .ensures ∙ simp (c .before .before .k .given .1)) (λ c. search needs) (λ c. search needs) (λ c. search needs) (λ c. search needs)
     (λ c. search needs))

@@ -5,7 +5,7 @@ use native.Mathlib.Omega.{arith}
 use lib.ListN.{length, drop, length-drop}
 use Rattle.commands.specs.declared.Command.the-variants.{Step}
 use Rattle.commands.specs.Command.{stepArgsOf}
-use Rattle.commands.specs.Stream.{step-there}
+use Rattle.commands.proofs.Stream.{step-there}
 use borrow.Author.Needs.{needs}
 use Rattle.commands.proofs.step_at.Statement.{statement}
 use Rattle.commands.proofs.step_at.Tie as tie

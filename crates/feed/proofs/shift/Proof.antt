@@ -1,3 +1,4 @@
+-- The front holds what was moved so far, and the rest of the buffer is as it was.
 use Rattle.feed.proofs.Laws.{moved, kept, part}
 use Prim.Native.Nat.{ℕ, _-_, _≤_}
 use mathlib.Core.Path.{_≡_, refl, sym, ap, _∙_}
@@ -14,26 +15,8 @@ Inv-loop buf₀ from end n i₀ buf i =
 abbrev μ-loop : tie.MeasureT-loop
 μ-loop buf₀ from end n i₀ buf i = n - i
 
-sub-n : tie.Need-sub-n Inv-loop μ-loop
-sub-n c = search needs
-
 loop-holds : tie.Need-loop-holds Inv-loop μ-loop
 loop-holds c = (refl, search needs, refl, refl)
-
-add-buf : tie.Need-add-buf Inv-loop μ-loop
-add-buf c = search needs
-
-slice-read-buf : tie.Need-slice-read-buf Inv-loop μ-loop
-slice-read-buf c = search needs
-
-slice-write-buf : tie.Need-slice-write-buf Inv-loop μ-loop
-slice-write-buf c = search needs
-
-add-i : tie.Need-add-i Inv-loop μ-loop
-add-i c = search needs
-
-loop-less : tie.Need-loop-less Inv-loop μ-loop
-loop-less c = search needs
 
 loop-again : tie.Need-loop-again Inv-loop μ-loop
 loop-again c =
@@ -45,9 +28,6 @@ loop-again c =
       kept (v .buf) (a .buf .now) (a .from) (v .i) (omega arith) (v .inv .0) (v .inv .2) (v .inv .3) _,
     )
 
-same-length : tie.Need-same-length Inv-loop μ-loop
-same-length c = search needs
-
 returns : tie.Need-returns Inv-loop μ-loop
 returns c =
     let v = c .before .loop in
@@ -58,16 +38,4 @@ returns c =
 pub shift-spec : {M : Type 1} → statement M
 shift-spec =
     tie.close
-    (tie.spec
-    Inv-loop
-    μ-loop
-    sub-n
-    loop-holds
-    add-buf
-    slice-read-buf
-    slice-write-buf
-    add-i
-    loop-less
-    loop-again
-    same-length
-    returns)
+    (tie.spec Inv-loop μ-loop (search needs) loop-holds (search needs) (search needs) (search needs) (search needs) (search needs) loop-again (search needs) returns)

@@ -1,4 +1,3 @@
--- `fsk::begin_frame` meets its contract: the definition, field by field. Assumes nothing.
 use Rattle.fsk.specs.Resolve.{beginFrameOf}
 use borrow.Author.Needs.{needs}
 use Rattle.fsk.proofs.begin_frame.Statement.{statement}

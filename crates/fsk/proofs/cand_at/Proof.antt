@@ -1,4 +1,3 @@
--- `fsk::cand_at` meets its contract: by its tests. Assumes nothing.
 use borrow.Author.Tests.{lt-ltb, le-ltb}
 use Rattle.fsk.specs.Resolve.{candAtOf}
 use borrow.Author.Needs.{needs}

@@ -1,4 +1,3 @@
--- `fsk::close_pair` meets its contract: the calls give what the definition says. Assumes nothing.
 use borrow.Author.Needs.{needs}
 use Rattle.fsk.proofs.close_pair.Statement.{statement}
 use Rattle.fsk.proofs.close_pair.Tie as tie

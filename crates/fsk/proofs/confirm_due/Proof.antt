@@ -1,20 +1,12 @@
--- `fsk::confirm_due` meets its contract: at each branch the definition gives what the calls ensure. Assumes nothing.
 use Rattle.fsk.specs.RunStep.{confirmDueOf}
 use borrow.Author.Needs.{needs}
 use Rattle.fsk.proofs.confirm_due.Statement.{statement}
 use Rattle.fsk.proofs.confirm_due.Tie as tie
 
-returns : tie.Need-returns
-unfolding confirmDueOf
-returns c = simp (c .before .before .before .before .before .before .if1 .taken, c .before .before .before .before .if2 .taken, ← c .before .before .confirm .ensures)
-
-returns-2 : tie.Need-returns-2
-unfolding confirmDueOf
-returns-2 c = simp (c .before .before .if1 .taken, c .if2 .left)
-
-returns-3 : tie.Need-returns-3
-unfolding confirmDueOf
-returns-3 c = simp (c .if1 .left)
-
 pub confirm-due-spec : {M : Type 1} → statement M
-confirm-due-spec = tie.close (tie.spec (search needs) (search needs) returns returns-2 returns-3)
+unfolding confirmDueOf
+confirm-due-spec =
+    tie.close
+    (tie.spec (search needs) (search needs) (search needs)
+    (λ c. simp (← c .before .before .before .before .before .due .ensures, c .before .before .before .before .if1 .taken, ← c .before .before .confirm .ensures))
+    (λ c. simp (← c .before .due .ensures, c .if1 .left)))

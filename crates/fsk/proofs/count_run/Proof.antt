@@ -1,4 +1,3 @@
--- `fsk::count_run` meets its contract: the definition over what the calls ensure. Assumes nothing.
 use Rattle.fsk.specs.Commit.{countRunOf}
 use borrow.Author.Needs.{needs}
 use Rattle.fsk.proofs.count_run.Statement.{statement}

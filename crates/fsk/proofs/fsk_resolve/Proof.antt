@@ -1,4 +1,3 @@
--- `fsk::fsk_resolve` meets its contract: the definition over what the calls ensure. Assumes nothing.
 use Rattle.fsk.specs.Resolve.{fskResolveOf}
 use borrow.Author.Needs.{needs}
 use Rattle.fsk.proofs.fsk_resolve.Statement.{statement}

@@ -1,4 +1,3 @@
--- `fsk::hi_lo` meets its contract: by its tests. Assumes nothing.
 use Rattle.fsk.specs.Resolve.{hiLoOf}
 use Rattle.fsk.proofs.hi_lo.Statement.{statement}
 use Rattle.fsk.proofs.hi_lo.Tie as tie

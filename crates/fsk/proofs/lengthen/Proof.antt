@@ -1,4 +1,3 @@
--- `fsk::lengthen` meets its contract: the definition over what the calls ensure. Assumes nothing.
 use Rattle.fsk.specs.RunStep.{lengthenOf}
 use borrow.Author.Needs.{needs}
 use Rattle.fsk.proofs.lengthen.Statement.{statement}
@@ -6,4 +5,4 @@ use Rattle.fsk.proofs.lengthen.Tie as tie
 
 pub lengthen-spec : {M : Type 1} → statement M
 unfolding lengthenOf
-lengthen-spec = tie.close (tie.spec (search needs) (λ c. simp (← c .sat-add .ensures)))
+lengthen-spec = tie.close (tie.spec (search needs) (λ c. simp (← c .lengthen .ensures)))

@@ -1,4 +1,3 @@
--- `fsk::origin_of` meets its contract: by its tests. Assumes nothing.
 use Rattle.fsk.specs.Commit.{originOf}
 use Rattle.fsk.proofs.origin_of.Statement.{statement}
 use Rattle.fsk.proofs.origin_of.Tie as tie

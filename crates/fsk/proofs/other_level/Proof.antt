@@ -1,4 +1,3 @@
--- `fsk::other_level` meets its contract: by its tests. Assumes nothing.
 use Rattle.fsk.specs.Resolve.{otherLevelOf}
 use Rattle.fsk.proofs.other_level.Statement.{statement}
 use Rattle.fsk.proofs.other_level.Tie as tie

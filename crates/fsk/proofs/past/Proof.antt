@@ -1,4 +1,3 @@
--- `fsk::past` meets its contract: by its tests. Assumes nothing.
 use Rattle.fsk.specs.Resolve.{pastOf}
 use Rattle.fsk.proofs.past.Statement.{statement}
 use Rattle.fsk.proofs.past.Tie as tie

@@ -1,4 +1,3 @@
--- `fsk::second_run` meets its contract: the definition, field by field. Assumes nothing.
 use borrow.Author.Needs.{needs}
 use Rattle.fsk.proofs.second_run.Statement.{statement}
 use Rattle.fsk.proofs.second_run.Tie as tie

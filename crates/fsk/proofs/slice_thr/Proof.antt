@@ -1,4 +1,3 @@
--- `fsk::slice_thr` meets its contract: at each branch the definition gives what the calls ensure. Assumes nothing.
 use Rattle.fsk.specs.Resolve.{sliceThrOf}
 use borrow.Author.Needs.{needs}
 use Rattle.fsk.proofs.slice_thr.Statement.{statement}

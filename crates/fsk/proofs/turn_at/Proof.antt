@@ -1,4 +1,3 @@
--- `fsk::turn_at` meets its contract: the definition over what the calls ensure. Assumes nothing.
 use Rattle.fsk.specs.Resolve.{turnAtOf}
 use borrow.Author.Needs.{needs}
 use Rattle.fsk.proofs.turn_at.Statement.{statement}

@@ -1,7 +1,7 @@
--- `grid::measured` meets its contract: the widths written so far and those of the rest are the whole list's. Assumes nothing.
+-- The widths written so far and those of the rest are the whole list's.
 use Rattle.grid.proofs.Writes.{Written, write-start, write-turn, write-end}
 use Rattle.arith.specs.declared.Steps.{Steps}
-use Rattle.arith.specs.Rounding.{roundOf}
+use Rattle.ieee.specs.Rounding.{roundOf}
 use Rattle.arith.specs.Leaves.{widthOf}
 use native.Mathlib.Omega.{arith}
 use lib.ListN.{length, length-set}
@@ -9,7 +9,7 @@ use lib.Ieee.{Float}
 use Prim.Native.Nat.{ℕ, _-_}
 use borrow.Author.Needs.{needs}
 use mathlib.Core.Path.{refl, ap, _∙_}
-use Rattle.grid.specs.Slots.{timeOf, fix}
+use Rattle.fit.specs.Slots.{timeOf, fix}
 use Rattle.grid.specs.Widths.{measuredOf}
 use Rattle.grid.proofs.measured.Statement.{statement}
 use Rattle.grid.proofs.measured.Tie as tie

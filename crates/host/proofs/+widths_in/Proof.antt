@@ -1,4 +1,4 @@
--- `host::widths_in` meets its contract. It calls itself with a longer buffer, of at most maxSlots slots. Assumes nothing.
+-- It calls itself with a longer buffer, of at most maxSlots slots.
 use Prim.Native.Nat.{ℕ, _*_, _-_, _<_}
 use borrow.Author.Needs.{needs}
 use lib.ListN.{length}

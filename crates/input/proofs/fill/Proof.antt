@@ -1,4 +1,4 @@
--- `input::fill` meets its contract: a read leaves the bytes before its place. Assumes nothing.
+-- A read leaves the bytes before its place.
 use native.Mathlib.Omega.{arith}
 use Rattle.input.proofs.Laws.{front}
 use borrow.Author.Needs.{needs}
@@ -6,10 +6,14 @@ use Rattle.input.proofs.fill.Statement.{statement}
 use Rattle.input.proofs.fill.Tie as tie
 
 returns : tie.Need-returns
-returns c = record { inside = search needs; front = front (c .before .before .before .before .before .before .before .before .args .have) (c .before .before .before .before .before .before .before .before .args .buf .now) _ (omega arith) }
+returns c =
+    let start = c .before .before .before .before .before .before .before .before in
+    record { inside = search needs; front = front (start .args .have) (start .args .buf .now) _ (omega arith) }
 
 returns-2 : tie.Need-returns-2
-returns-2 c = record { inside = search needs; front = front (c .before .before .before .before .before .before .before .before .before .before .args .have) (c .before .before .before .before .before .before .before .before .before .before .args .buf .now) _ (omega arith) }
+returns-2 c =
+    let start = c .before .before .before .before .before .before .before .before .before .before in
+    record { inside = search needs; front = front (start .args .have) (start .args .buf .now) _ (omega arith) }
 
 pub fill-spec : {M : Type 1} → statement M
 fill-spec =

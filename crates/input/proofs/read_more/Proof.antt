@@ -1,4 +1,4 @@
--- `input::read_more` meets its contract: it reads only where the input has not ended and all that is there is answered. Assumes nothing.
+-- It reads only where the input has not ended and all that is there is answered.
 use mathlib.Core.Path.{refl}
 use native.Mathlib.Omega.{arith}
 use Rattle.input.proofs.Laws.{quiet, reading}

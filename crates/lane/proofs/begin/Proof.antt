@@ -1,4 +1,3 @@
--- `lane::begin` meets its contract: at each branch the definition gives what the calls ensure. Assumes nothing.
 use Prim.Native.Nat.{ℕ, _<_}
 use mathlib.Core.Bool.{true, not}
 use mathlib.Core.Path.{_≡_, sym, _∙_}
@@ -7,7 +6,7 @@ use borrow.Author.Tests.{eqb-true, ltb-true}
 use lib.Dec.{eqb}
 use Rattle.domain.specs.Limits.{spentSerial}
 use Rattle.refusals.specs.Domain.{indexOk, roomOk}
-use Rattle.refusals.specs.Order.{none-failed}
+use Rattle.refusals.proofs.Order.{none-failed}
 use Rattle.lane.specs.declared.BeginArgs.{BeginArgs}
 use Rattle.lane.specs.declared.Lane.{Lane}
 use Rattle.refusals.specs.Serial.{serialLeft}
@@ -24,16 +23,11 @@ left l b ook fsk k q ok =
     ltb-true (l .serial) spentSerial
     (none-failed (not (eqb (l .opened) 0)) (laneOk l) (eqb (l .phase) 0) (serialLeft (l .serial)) (indexOk (b .index)) (beginFloatsOk b) (roomOk (l .settings) ook fsk) (sym q ∙ eqb-true k 0 ok) .serial-ok)
 
-add-lead-lane : tie.Need-add-lead-lane
-add-lead-lane c = omega (arith, left (c .before .before .before .before .before .args .l) _ _ _ _ (c .before .before .begin-refusal .ensures) (c .before .if1 .taken))
-
-returns : tie.Need-returns
-unfolding begun
-returns c = simp (← c .before .before .before .begin-refusal .ensures, c .before .before .if1 .taken, ← c .lead-lane .ensures)
-
-returns-2 : tie.Need-returns-2
-unfolding begun
-returns-2 c = simp (← c .before .begin-refusal .ensures, c .if1 .left)
-
 pub begin-spec : {M : Type 1} → statement M
-begin-spec = tie.close (tie.spec (search needs) add-lead-lane (search needs) returns returns-2)
+unfolding begun
+begin-spec =
+    tie.close
+    (tie.spec (search needs)
+    (λ c. omega (arith, left (c .before .before .before .before .before .args .l) _ _ _ _ (c .before .before .begin-refusal .ensures) (c .before .if1 .taken)))
+    (search needs) (λ c. simp (← c .before .before .before .begin-refusal .ensures, c .before .before .if1 .taken, ← c .lead-lane .ensures))
+    (λ c. simp (← c .before .begin-refusal .ensures, c .if1 .left)))

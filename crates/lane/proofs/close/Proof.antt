@@ -1,4 +1,4 @@
--- `lane::close` meets its contract: refused, in lead or in a burst, the definition with the same tests gives the answer. Assumes nothing.
+-- Refused, in lead or in a burst, the definition with the same tests gives the answer.
 use Prim.Native.Nat.{ℕ, _+_, _≤_}
 use mathlib.Core.Bool.{true, false, not}
 use mathlib.Core.Path.{_≡_, ap, sym, _∙_}
@@ -10,13 +10,14 @@ use lib.Dec.{eqb}
 use Rattle.domain.specs.Limits.{maxSerial}
 use Rattle.burst.specs.declared.Burst.{Burst}
 use Rattle.refusals.specs.Domain.{roomOk}
-use Rattle.refusals.specs.Order.{none-failed}
+use Rattle.refusals.proofs.Order.{none-failed}
 use Rattle.lane.specs.declared.Lane.{Lane}
 use Rattle.lane.specs.declared.Reply.the-variants as reply
 use Rattle.lane.specs.Begin.{clearedOf}
 use Rattle.lane.specs.Close.{idleWith, endBurstOf, closeOf}
-use Rattle.lane.specs.Core.{answerOf}
-use Rattle.lane.specs.Refusals.{laneOk, lane-passes, closeRefusal}
+use Rattle.lane.specs.Answers.{answerOf}
+use Rattle.lane.specs.Refusals.{laneOk, closeRefusal}
+use Rattle.lane.proofs.Refusals.{lane-passes}
 use Rattle.lane.specs.Serial.{stampOf}
 use Rattle.lane.specs.Step.{closed}
 use borrow.Author.Needs.{needs}
@@ -44,12 +45,6 @@ module _ (l : Lane) (ook fsk : List ℕ) (k : ℕ) (num : k ≡ closeRefusal l (
     unfolding closed closeOf idleWith
     close-ends lane ook′ leads is-lane is-ook = simp (← num, ok, leads, is-lane, is-ook)
 
-add-serial : tie.Need-add-serial
-add-serial c =
-    let asked = c .before .before in
-    let args = asked .before .before .before .args in
-    omega (arith, counts (args .l) (args .ook .now) (args .fsk .now) (asked .close-refusal .result) (asked .close-refusal .ensures) (c .before .if1 .taken))
-
 returns : tie.Need-returns
 returns c =
     let branch = c .before .before in
@@ -72,13 +67,10 @@ returns-2 c =
     close-ends l (args .ook .now) (args .fsk .now) (asked .close-refusal .result) (asked .close-refusal .ensures) (taken .if1 .taken)
     _ _ (branch .if2 .left) (c .idle-with2 .ensures (endBurstOf (l .burst) (args .ook .now) .0) (ap (λ (x : Burst × List ℕ). x .0) both)) (ap (λ (x : Burst × List ℕ). x .1) both)
 
-returns-3 : tie.Need-returns-3
-returns-3 c =
-    let asked = c .before in
-    let args = asked .before .before .before .args in
-    close-refused (args .l) (args .ook .now) (args .fsk .now) (asked .close-refusal .result) (asked .close-refusal .ensures) (c .if1 .left)
-
 pub close-spec : {M : Type 1} → statement M
 close-spec =
     tie.close
-    (tie.spec (search needs) add-serial (search needs) (search needs) returns (search needs) (search needs) (search needs) returns-2 returns-3)
+    (tie.spec (search needs)
+    (λ c. let asked = c .before .before in let args = asked .before .before .before .args in omega (arith, counts (args .l) (args .ook .now) (args .fsk .now) (asked .close-refusal .result) (asked .close-refusal .ensures) (c .before .if1 .taken)))
+    (search needs) (search needs) returns (search needs) (search needs) (search needs) returns-2
+    (λ c. let asked = c .before in let args = asked .before .before .before .args in close-refused (args .l) (args .ook .now) (args .fsk .now) (asked .close-refusal .result) (asked .close-refusal .ensures) (c .if1 .left)))

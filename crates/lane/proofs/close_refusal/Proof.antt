@@ -1,12 +1,11 @@
--- `lane::close_refusal` meets its contract: the definition over what the calls ensure. Assumes nothing.
 use Rattle.lane.specs.Refusals.{closeRefusal}
 use borrow.Author.Needs.{needs}
 use Rattle.lane.proofs.close_refusal.Statement.{statement}
 use Rattle.lane.proofs.close_refusal.Tie as tie
 
-returns : tie.Need-returns
-unfolding closeRefusal
-returns c = simp (← c .before .before .before .lane-ok .ensures, ← c .before .room-ok .ensures, ← c .first-failed .ensures)
-
 pub close-refusal-spec : {M : Type 1} → statement M
-close-refusal-spec = tie.close (tie.spec (search needs) (search needs) (search needs) returns)
+unfolding closeRefusal
+close-refusal-spec =
+    tie.close
+    (tie.spec (search needs) (search needs) (search needs)
+    (λ c. simp (← c .before .before .before .lane-ok .ensures, ← c .before .room-ok .ensures, ← c .first-failed .ensures)))

@@ -1,4 +1,3 @@
--- `lane::fill_history` meets its contract: the definition over what the calls ensure. Assumes nothing.
 use Rattle.lane.specs.Begin.{historyOf}
 use borrow.Author.Needs.{needs}
 use Rattle.lane.proofs.fill_history.Statement.{statement}

@@ -1,4 +1,3 @@
--- `lane::history_ok` meets its contract: the definition over what the calls ensure. Assumes nothing.
 use Rattle.lane.specs.Refusals.{historyOk}
 use borrow.Author.Needs.{needs}
 use Rattle.lane.proofs.history_ok.Statement.{statement}

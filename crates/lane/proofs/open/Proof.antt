@@ -1,4 +1,3 @@
--- `lane::open` meets its contract: at each branch the definition gives what the calls ensure. Assumes nothing.
 use Prim.Native.Nat.{ℕ, _<_}
 use mathlib.Core.Bool.{true}
 use mathlib.Core.Path.{_≡_, sym, _∙_}
@@ -6,9 +5,9 @@ use native.Mathlib.Omega.{arith}
 use borrow.Author.Tests.{eqb-true, ltb-true}
 use lib.Dec.{lit<, eqb}
 use Rattle.domain.specs.Limits.{spentSerial}
-use Rattle.ook.specs.declared.Settings.{Settings}
+use Rattle.shared.specs.declared.Settings.{Settings}
 use Rattle.refusals.specs.Domain.{settingsOk}
-use Rattle.refusals.specs.Order.{passed}
+use Rattle.refusals.proofs.Order.{passed}
 use Rattle.lane.specs.declared.Lane.{Lane}
 use Rattle.refusals.specs.Serial.{serialLeft}
 use Rattle.lane.specs.Refusals.{openRefusal}
@@ -24,16 +23,10 @@ left l p k q ok =
     let a = passed 3 (settingsOk p) _ (lit< tt) (sym q ∙ eqb-true k 0 ok) in
     ltb-true (l .serial) spentSerial (passed 13 (serialLeft (l .serial)) 0 (lit< tt) (a .1) .0)
 
-add-idle-lane : tie.Need-add-idle-lane
-add-idle-lane c = omega (arith, left _ _ _ (c .before .before .open-refusal .ensures) (c .before .if1 .taken))
-
-returns : tie.Need-returns
-unfolding opened
-returns c = simp (← c .before .before .before .open-refusal .ensures, c .before .before .if1 .taken, ← c .idle-lane .ensures)
-
-returns-2 : tie.Need-returns-2
-unfolding opened
-returns-2 c = simp (← c .before .open-refusal .ensures, c .if1 .left)
-
 pub open-spec : {M : Type 1} → statement M
-open-spec = tie.close (tie.spec (search needs) add-idle-lane (search needs) returns returns-2)
+unfolding opened
+open-spec =
+    tie.close
+    (tie.spec (search needs) (λ c. omega (arith, left _ _ _ (c .before .before .open-refusal .ensures) (c .before .if1 .taken))) (search needs)
+    (λ c. simp (← c .before .before .before .open-refusal .ensures, c .before .before .if1 .taken, ← c .idle-lane .ensures))
+    (λ c. simp (← c .before .open-refusal .ensures, c .if1 .left)))

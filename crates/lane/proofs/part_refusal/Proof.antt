@@ -1,10 +1,6 @@
--- `lane::part_refusal` meets its contract: the definition over what the calls ensure. Assumes nothing.
 use borrow.Author.Needs.{needs}
 use Rattle.lane.proofs.part_refusal.Statement.{statement}
 use Rattle.lane.proofs.part_refusal.Tie as tie
 
-returns : tie.Need-returns
-returns c = simp (← c .before .serials-match .ensures, ← c .check .ensures)
-
 pub part-refusal-spec : {M : Type 1} → statement M
-part-refusal-spec = tie.close (tie.spec (search needs) (search needs) returns)
+part-refusal-spec = tie.close (tie.spec (search needs) (search needs) (λ c. simp (← c .before .serials-match .ensures, ← c .check .ensures)))

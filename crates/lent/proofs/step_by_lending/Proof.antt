@@ -1,5 +1,5 @@
--- `lent::step_by_lending` meets its contract: the walk over any types (`Lending.antt`), at a lane's. Both buffers are given up to `step_lent` for good. Assumes nothing.
-use mathlib.Core.Path.{_≡_, refl, subst}
+-- The walk over any types (`Lending.antt`), at a lane's. Both buffers are given up to `step_lent` for good.
+use mathlib.Core.Path.{_≡_, refl}
 use Prim.Native.Nat.{ℕ, zero}
 use mathlib.Core.List.{[], _∷_, List}
 use lib.ListN.{length}
@@ -29,12 +29,12 @@ use denote.Struct.Laws as LL
 use denote.Triple.Statement.{Contract, Triple}
 use denote.Triple.Entry.{onEntry}
 use denote.Triple.Spec.{Meets, tripleOf}
-use denote.Triple.Table.{entered, cited}
+use denote.Triple.Table.{cited}
 use denote.Triple.Walked.{says, Stays, stay-none, gave-slice, walkOf, AllGo, goes-none, goes-gave-slice, ends-at, walked, walk-meets}
 use denote.Exit.{yes}
 use Rattle.lane.specs.Step.{stepped}
 use Rattle.lent.specs.Lent.{answerOf}
-use Rattle.lent.proofs.Held.{fits, gives}
+use Rattle.lent.proofs.Held.{fits, gives, enters}
 use Rattle.lent.proofs.Rows.{Buf, laneVal, argsVal, bufVal, Toks, Bufs, args-makes, lane-makes, lane-held, answer-held, args-held, reply-held}
 use Rattle.lent.proofs.Lending.{lending, walk}
 use Rattle.lane.specs.declared.Lane.{Lane}
@@ -152,9 +152,7 @@ module _ {M : Type 1} (𝓤 : URA M) (H : Heap 𝓤) (A : Atoms 𝓤) (W : Given
 pub step-by-lending-spec : {M : Type 1} → stated.statement M
 unfolding code.routine tablesOf
 step-by-lending-spec 𝓤 H 𝓜 𝓖 𝓡 =
-    entered 𝓤 H (tripleOf 𝓤 H (𝓖 .A) f.signature (f.spec 𝓤 H (𝓖 .A) (𝓜 .mem) (𝓡 .run)))
-    (tables 𝓤 H 𝓜 𝓡 code.env .C) (tables 𝓤 H 𝓜 𝓡 code.env .Λ) #lent·step-by-lending code.function (code.unfolded 𝓤 H 𝓜 𝓡)
-    (subst (λ (e : Fn). Meets 𝓤 H (𝓖 .A) f.signature (WpFn 𝓤 H (tables 𝓤 H 𝓜 𝓡 code.env .C) (tables 𝓤 H 𝓜 𝓡 code.env .Λ) e) (f.spec 𝓤 H (𝓖 .A) (𝓜 .mem) (𝓡 .run))) same
+    enters 𝓤 H 𝓜 𝓡 code.env (tripleOf 𝓤 H (𝓖 .A) f.signature (f.spec 𝓤 H (𝓖 .A) (𝓜 .mem) (𝓡 .run))) #lent·step-by-lending code-of code.function same (code.unfolded 𝓤 H 𝓜 𝓡)
     (step-by-lending-meets 𝓤 H (𝓖 .A) (givenOf 𝓤 H 𝓜 𝓖) (𝓜 .mem) (𝓡 .run) (tablesOf 𝓤 H 𝓜 (tables 𝓤 H 𝓜 𝓡 code.env))
     (cited 𝓤 H (StepLent 𝓤 H (𝓖 .A) (givenOf 𝓤 H 𝓜 𝓖) (𝓜 .mem) (𝓡 .run)) 𝓜 𝓡 code.env #lent·step-lent lent-def.routine code.calls-lent·step-lent (lent-thm.met 𝓤 H 𝓜 𝓖 𝓡))
-    (cited 𝓤 H (AnswerOf 𝓤 H (𝓖 .A) (givenOf 𝓤 H 𝓜 𝓖) (𝓜 .mem) (𝓡 .run)) 𝓜 𝓡 code.env #lent·answer-of answer-of-def.routine code.calls-lent·answer-of (answer-of-thm.met 𝓤 H 𝓜 𝓖 𝓡))))
+    (cited 𝓤 H (AnswerOf 𝓤 H (𝓖 .A) (givenOf 𝓤 H 𝓜 𝓖) (𝓜 .mem) (𝓡 .run)) 𝓜 𝓡 code.env #lent·answer-of answer-of-def.routine code.calls-lent·answer-of (answer-of-thm.met 𝓤 H 𝓜 𝓖 𝓡)))

@@ -1,5 +1,5 @@
--- `lent::step_lent` meets its contract: the walk over any types (`Entry.antt`), at a lane's. Both buffers are given up to `step` for good. Assumes nothing.
-use mathlib.Core.Path.{_≡_, refl, subst}
+-- The walk over any types (`Entry.antt`), at a lane's. Both buffers are given up to `step` for good.
+use mathlib.Core.Path.{_≡_, refl}
 use Prim.Native.Nat.{ℕ}
 use mathlib.Core.List.{[], _∷_, List}
 use lib.ListN.{length}
@@ -29,12 +29,12 @@ use denote.Struct.Laws as LL
 use denote.Triple.Statement.{Contract, Triple}
 use denote.Triple.Entry.{onEntry}
 use denote.Triple.Spec.{Meets, tripleOf}
-use denote.Triple.Table.{entered, cited}
+use denote.Triple.Table.{cited}
 use denote.Triple.Walked.{says, Stays, stay-ref, stay-none, gave-slice, walkOf, AllGo, goes-none, goes-ref, goes-gave-slice, ends-at, walked, walk-meets}
 use denote.Exit.{yes}
 use denote.Triple.Clauses.{ensured, lasts}
 use Rattle.lane.specs.Step.{stepped}
-use Rattle.lent.proofs.Held.{fits, gives}
+use Rattle.lent.proofs.Held.{fits, gives, enters}
 use Rattle.lent.proofs.Rows.{Buf, laneVal, argsVal, bufVal, Toks, Bufs, args-makes, lane-makes, lane-held, answer-held, args-held, reply-held}
 use Rattle.lent.proofs.Entry.{entry, walk}
 use Rattle.lane.specs.declared.Lane.{Lane}
@@ -48,10 +48,10 @@ use Rattle.lane.proofs.Answer as N
 use Rattle.lane.proofs.Answer.Laws as N′
 use Rattle.lane.proofs.Reply as Y
 use Rattle.lane.proofs.Reply.Laws as Y′
-use Rattle.lane.proofs.step as step
-use Rattle.lane.proofs.step.Symbol as step-def
-use Rattle.lane.proofs.step.Symbol.{name as #lane·step}
-use Rattle.lane.proofs.step.Met as step-thm
+use Rattle.step.proofs.step as step
+use Rattle.step.proofs.step.Symbol as step-def
+use Rattle.step.proofs.step.Symbol.{name as #step·step}
+use Rattle.step.proofs.step.Met as step-thm
 use Rattle.lent.proofs.lane_of as lane-of
 use Rattle.lent.proofs.lane_of.Symbol as lane-of-def
 use Rattle.lent.proofs.lane_of.Symbol.{name as #lent·lane-of}
@@ -67,7 +67,7 @@ use Rattle.lent.proofs.step_lent.Code as code
 
 -- the function's MIR is the walked code at the four types
 abbrev code-of : Fn
-code-of = entry (pointee (T.the-row .written)) T′.mir X′.mir N′.mir Y′.mir #lane·step #lent·lane-of #lent·reply-of
+code-of = entry (pointee (T.the-row .written)) T′.mir X′.mir N′.mir Y′.mir #step·step #lent·lane-of #lent·reply-of
 
 same : code-of ≡ code.function
 same = refl
@@ -130,13 +130,13 @@ module _ {M : Type 1} (𝓤 : URA M) (H : Heap 𝓤) (A : Atoms 𝓤) (W : Given
         fjoin ! $ move ! (1 ∷ 0 ∷ []) $ fjoin ! $ owned ! X.the-row (Is X.the-row) (args-makes 𝓤 H A W) c _ c-is $ fjoin ! $
         move ! (1 ∷ 2 ∷ []) $ feqI ! (List Val) (vptr (l .ptr .0) (l .ptr .1) ∷ []) (vptr (l .ptr .0) (l .ptr .1) ∷ []) refl $ fjoin3 ! $ fjoin ! $ join ! $ done !))))
 
-    goes-through : (C : Calls 𝓤 H) (Λ : Loops 𝓤 H) → FmC 𝓤 H (W .laws) C → Triple 𝓤 (C #lane·step) Step → Triple 𝓤 (C #lent·lane-of) LaneOf → Triple 𝓤 (C #lent·reply-of) ReplyOf → Room u32 (length (x₁ .now)) → Room u32 (length (x₂ .now))
+    goes-through : (C : Calls 𝓤 H) (Λ : Loops 𝓤 H) → FmC 𝓤 H (W .laws) C → Triple 𝓤 (C #step·step) Step → Triple 𝓤 (C #lent·lane-of) LaneOf → Triple 𝓤 (C #lent·reply-of) ReplyOf → Room u32 (length (x₁ .now)) → Room u32 (length (x₂ .now))
         → ent 𝓤 (onEntry 𝓤 H A f.signature (κ₀, (κ₁, (κ₂, tt))) (q₀, (q₁, (q₂, tt))) x at) (WpFn 𝓤 H C Λ code-of (vptr (l .ptr .0) (l .ptr .1) ∷ argsVal c ∷ bufVal x₁ ∷ bufVal x₂ ∷ []) Post)
     goes-through C Λ fm met-step met-lane met-reply room₁ room₂ =
         qed W ((‵ (flft κ₀ q₀) ⊛ Toks 𝓤 κ₁ κ₂ q₁ q₂) ∷ ‵ (owns (MutRef (named 0) κ₀ T.the-row ∷ X.the-row ∷ MutSlice (named 1) κ₁ u32 ∷ MutSlice (named 2) κ₂ u32 ∷ []) x at) ∷ []) ∵
         split ! $ move ! (2 ∷ []) $ fsplit ! $ fsplit3 ! $ drop ! $ move ! (2 ∷ []) $ fsplit ! $ drop ! $ fsplit ! $ move ! (1 ∷ []) $ fsplit ! $ move ! (2 ∷ 0 ∷ []) $ join ! $ move ! (5 ∷ 0 ∷ []) $ join ! $ keep ! (2 ∷ 3 ∷ 4 ∷ 0 ∷ []) $
         by ! (walk 𝓤 H A W T.the-row N.the-row Y.the-row (pointee (T.the-row .written)) T′.mir X′.mir N′.mir Y′.mir (lane-held 𝓤 H A W) (answer-held 𝓤 H A W) (reply-held 𝓤 H A W)
-        (LL.val T.the-type T′.the-laws) (LL.tells T.the-type T′.the-laws) ((LL.makes N.the-type N′.the-plain) 𝓤 H A) (λ (r : Answer). r .lane) (λ (r : Answer). r .reply) #lane·step #lent·lane-of #lent·reply-of
+        (LL.val T.the-type T′.the-laws) (LL.tells T.the-type T′.the-laws) ((LL.makes N.the-type N′.the-plain) 𝓤 H A) (λ (r : Answer). r .lane) (λ (r : Answer). r .reply) #step·step #lent·lane-of #lent·reply-of
         κ₀ q₀ (l .ptr .0) (l .ptr .1) (l .name) (l .now) (argsVal c) (x₁ .ptr .0) (x₁ .ptr .1) (length (x₁ .now)) (x₂ .ptr .0) (x₂ .ptr .1) (length (x₂ .now)) (Bufs 𝓤 κ₁ κ₂ q₁ q₂ x₁ x₂) (Toks 𝓤 κ₁ κ₂ q₁ q₂) O Post C Λ fm
         (fits 𝓤 H A (args-held 𝓤 H A W) c (argsVal c) c-is) (room₁ .0) (room₂ .0)
         (λ was. via 𝓤 (Step .pre to-step) (goes-step was) (met-step to-step))
@@ -147,7 +147,7 @@ module _ {M : Type 1} (𝓤 : URA M) (H : Heap 𝓤) (A : Atoms 𝓤) (W : Given
   goes : AllGo 𝓤 H A W 3 (f.signature .params) (f.ended .kept) stayed
   goes = (goes-ref 𝓤 H A W 3 0 tt (plain (λ _. T.the-row)), (goes-none 𝓤 H A W 3 (λ _. X.the-row) yes (λ κs x f. refl), (goes-gave-slice 𝓤 H A W 3 1 tt (plain (λ _. u32)), (goes-gave-slice 𝓤 H A W 3 2 tt (plain (λ _. u32)), tt))))
 
-  step-lent-meets : (𝓣 : Tables 𝓤 H) → Triple 𝓤 (𝓣 .C #lane·step) Step → Triple 𝓤 (𝓣 .C #lent·lane-of) LaneOf → Triple 𝓤 (𝓣 .C #lent·reply-of) ReplyOf → Meets 𝓤 H A f.signature (WpFn 𝓤 H (𝓣 .C) (𝓣 .Λ) code-of) (f.spec 𝓤 H A at-mem run)
+  step-lent-meets : (𝓣 : Tables 𝓤 H) → Triple 𝓤 (𝓣 .C #step·step) Step → Triple 𝓤 (𝓣 .C #lent·lane-of) LaneOf → Triple 𝓤 (𝓣 .C #lent·reply-of) ReplyOf → Meets 𝓤 H A f.signature (WpFn 𝓤 H (𝓣 .C) (𝓣 .Λ) code-of) (f.spec 𝓤 H A at-mem run)
   step-lent-meets 𝓣 met-step met-lane met-reply = walk-meets 𝓤 H A f.ended stayed W goes (f.clauses 𝓤 H A at-mem run) (WpFn 𝓤 H (𝓣 .C) (𝓣 .Λ) code-of) (WpFn-mono 𝓤 H (W .laws) 𝓣 code-of)
       (walked 𝓤 H A f.ended stayed (f.clauses 𝓤 H A at-mem run) (WpFn 𝓤 H (𝓣 .C) (𝓣 .Λ) code-of)
       (λ κs. (ptr-vals, (LL.vals X.the-type X′.the-laws, (slice-vals, (slice-vals, tt)))))
@@ -158,10 +158,8 @@ module _ {M : Type 1} (𝓤 : URA M) (H : Heap 𝓤) (A : Atoms 𝓤) (W : Given
 pub step-lent-spec : {M : Type 1} → stated.statement M
 unfolding code.routine tablesOf
 step-lent-spec 𝓤 H 𝓜 𝓖 𝓡 =
-    entered 𝓤 H (tripleOf 𝓤 H (𝓖 .A) f.signature (f.spec 𝓤 H (𝓖 .A) (𝓜 .mem) (𝓡 .run)))
-    (tables 𝓤 H 𝓜 𝓡 code.env .C) (tables 𝓤 H 𝓜 𝓡 code.env .Λ) #lent·step-lent code.function (code.unfolded 𝓤 H 𝓜 𝓡)
-    (subst (λ (e : Fn). Meets 𝓤 H (𝓖 .A) f.signature (WpFn 𝓤 H (tables 𝓤 H 𝓜 𝓡 code.env .C) (tables 𝓤 H 𝓜 𝓡 code.env .Λ) e) (f.spec 𝓤 H (𝓖 .A) (𝓜 .mem) (𝓡 .run))) same
+    enters 𝓤 H 𝓜 𝓡 code.env (tripleOf 𝓤 H (𝓖 .A) f.signature (f.spec 𝓤 H (𝓖 .A) (𝓜 .mem) (𝓡 .run))) #lent·step-lent code-of code.function same (code.unfolded 𝓤 H 𝓜 𝓡)
     (step-lent-meets 𝓤 H (𝓖 .A) (givenOf 𝓤 H 𝓜 𝓖) (𝓜 .mem) (𝓡 .run) (tablesOf 𝓤 H 𝓜 (tables 𝓤 H 𝓜 𝓡 code.env))
-    (cited 𝓤 H (Step 𝓤 H (𝓖 .A) (givenOf 𝓤 H 𝓜 𝓖) (𝓜 .mem) (𝓡 .run)) 𝓜 𝓡 code.env #lane·step step-def.routine code.calls-lane·step (step-thm.met 𝓤 H 𝓜 𝓖 𝓡))
+    (cited 𝓤 H (Step 𝓤 H (𝓖 .A) (givenOf 𝓤 H 𝓜 𝓖) (𝓜 .mem) (𝓡 .run)) 𝓜 𝓡 code.env #step·step step-def.routine code.calls-step·step (step-thm.met 𝓤 H 𝓜 𝓖 𝓡))
     (cited 𝓤 H (LaneOf 𝓤 H (𝓖 .A) (givenOf 𝓤 H 𝓜 𝓖) (𝓜 .mem) (𝓡 .run)) 𝓜 𝓡 code.env #lent·lane-of lane-of-def.routine code.calls-lent·lane-of (lane-of-thm.met 𝓤 H 𝓜 𝓖 𝓡))
-    (cited 𝓤 H (ReplyOf 𝓤 H (𝓖 .A) (givenOf 𝓤 H 𝓜 𝓖) (𝓜 .mem) (𝓡 .run)) 𝓜 𝓡 code.env #lent·reply-of reply-of-def.routine code.calls-lent·reply-of (reply-of-thm.met 𝓤 H 𝓜 𝓖 𝓡))))
+    (cited 𝓤 H (ReplyOf 𝓤 H (𝓖 .A) (givenOf 𝓤 H 𝓜 𝓖) (𝓜 .mem) (𝓡 .run)) 𝓜 𝓡 code.env #lent·reply-of reply-of-def.routine code.calls-lent·reply-of (reply-of-thm.met 𝓤 H 𝓜 𝓖 𝓡)))

@@ -1,6 +1,6 @@
-use Rattle.lines.specs.Laws.{written-in}
+use Rattle.lines.proofs.Laws.{written-in}
 use lib.ListN.{length}
-use Rattle.lines.specs.Room.{parts-fit}
+use Rattle.lines.proofs.Room.{parts-fit}
 use Rattle.lines.specs.Line.{largerOf, hasRoom, writtenCall}
 use borrow.Author.Needs.{needs}
 use Rattle.lines.proofs.call_lines.Statement.{statement}

@@ -1,4 +1,4 @@
-use Rattle.lines.specs.Laws.{then, within}
+use Rattle.lines.proofs.Laws.{then, within}
 use borrow.Author.Needs.{needs}
 use Rattle.lines.proofs.put_angle.Statement.{statement}
 use Rattle.lines.proofs.put_angle.Tie as tie

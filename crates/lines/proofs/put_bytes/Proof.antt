@@ -7,7 +7,7 @@ use lib.ListN.{length, drop, length-set}
 use lib.Seq.{sets}
 use borrow.Author.Needs.{needs}
 use Rattle.lines.specs.Line.{put}
-use Rattle.lines.specs.Laws.{put-turn, put-end}
+use Rattle.lines.proofs.Laws.{put-turn, put-end}
 use mathlib.Core.Path.{refl}
 use Rattle.lines.proofs.put_bytes.Statement.{statement}
 use Rattle.lines.proofs.put_bytes.Tie as tie

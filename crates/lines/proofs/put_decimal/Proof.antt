@@ -1,4 +1,4 @@
-use Rattle.lines.specs.Laws.{spelled-part, length-decimal, within, said}
+use Rattle.lines.proofs.Laws.{spelled-part, length-decimal, within, said}
 use borrow.Author.Needs.{needs}
 use Rattle.lines.proofs.put_decimal.Statement.{statement}
 use Rattle.lines.proofs.put_decimal.Tie as tie

@@ -1,4 +1,4 @@
-use Rattle.lines.specs.Laws.{then}
+use Rattle.lines.proofs.Laws.{then}
 use borrow.Author.Needs.{needs}
 use Rattle.lines.proofs.put_number.Statement.{statement}
 use Rattle.lines.proofs.put_number.Tie as tie

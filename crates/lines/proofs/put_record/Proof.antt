@@ -1,4 +1,4 @@
-use Rattle.lines.specs.Laws.{same, put-none}
+use Rattle.lines.proofs.Laws.{same, put-none}
 use Rattle.lines.specs.Line.{recordLine}
 use borrow.Author.Needs.{needs}
 use Rattle.lines.proofs.put_record.Statement.{statement}

@@ -4,7 +4,7 @@ use mathlib.Core.List.{_++_}
 use native.Mathlib.Omega.{arith}
 use lib.ListN.{length}
 use Rattle.lines.specs.Line.{trainHead, trainTail, trainLine}
-use Rattle.lines.specs.Laws.{then, within, same}
+use Rattle.lines.proofs.Laws.{then, within, same}
 use borrow.Author.Needs.{needs}
 use Rattle.lines.proofs.put_train.Statement.{statement}
 use Rattle.lines.proofs.put_train.Tie as tie

@@ -4,7 +4,7 @@ use native.Mathlib.Omega.{arith}
 use lib.ListN.{length, drop}
 use borrow.Author.Needs.{needs}
 use Rattle.lines.specs.Line.{put, widths}
-use Rattle.lines.specs.Laws.{widths-turn, widths-end}
+use Rattle.lines.proofs.Laws.{widths-turn, widths-end}
 use Rattle.lines.proofs.put_widths.Statement.{statement}
 use Rattle.lines.proofs.put_widths.Tie as tie
 

@@ -5,7 +5,7 @@ use native.Mathlib.Omega.{arith}
 use lib.ListN.{length, drop, length-set}
 use borrow.Author.Needs.{needs}
 use Rattle.lines.specs.Line.{leading}
-use Rattle.lines.specs.Laws.{spell-turn, spell-start, spell-none, spell-full}
+use Rattle.lines.proofs.Laws.{spell-turn, spell-start, spell-none, spell-full}
 use Rattle.lines.specs.Line.{decimal}
 use Rattle.lines.proofs.spell.Statement.{statement}
 use Rattle.lines.proofs.spell.Tie as tie

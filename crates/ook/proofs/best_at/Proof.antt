@@ -1,4 +1,3 @@
--- `ook::best_at` meets its contract: by its tests. Assumes nothing.
 use Rattle.ook.proofs.best_at.Statement.{statement}
 use Rattle.ook.proofs.best_at.Tie as tie
 

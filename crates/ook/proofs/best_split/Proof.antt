@@ -1,9 +1,10 @@
--- `ook::best_split` meets its contract: the invariant: the turns that are left from step j give the whole split; a turn and the end are `split-turn` and `split-end`. Assumes nothing.
+-- The invariant: the turns that are left from step j give the whole split; a turn and the end are `split-turn` and `split-end`.
 use Prim.Native.Nat.{_-_}
 use mathlib.Core.Path.{_≡_, _∙_, sym}
 use lib.Ieee.{nanBits}
 use borrow.Author.Needs.{needs}
-use Rattle.ook.specs.Refine.{bestSplitOf, splitFrom, split-turn, split-end}
+use Rattle.ook.specs.Refine.{bestSplitOf, splitFrom}
+use Rattle.ook.proofs.RefineLaws.{split-turn, split-end}
 use Rattle.ook.proofs.best_split.Statement.{statement}
 use Rattle.ook.proofs.best_split.Tie as tie
 
@@ -13,18 +14,11 @@ Inv-loop ring t on lo idx sum₀ best₀ split₀ j₀ sum best split j = splitF
 abbrev μ-loop : tie.MeasureT-loop
 μ-loop ring t on lo idx sum₀ best₀ split₀ j₀ sum best split j = j - lo
 
-float-from-bits-best : tie.Need-float-from-bits-best Inv-loop μ-loop
-unfolding nanBits
-float-from-bits-best c = search needs
-
-loop-again : tie.Need-loop-again Inv-loop μ-loop
-loop-again c = simp (c .best-at .ensures, c .before .split-at .ensures, c .before .before .excess .ensures) (sym (split-turn _ _ _ _ _ _ _ _ (c .before .before .before .before .loop-test .taken)) ∙ c .before .before .before .before .before .loop .inv)
-
-returns : tie.Need-returns Inv-loop μ-loop
-returns c = sym (split-end _ _ _ _ _ _ _ _ (c .loop-test .left)) ∙ c .before .loop .inv
-
 pub best-split-spec : {M : Type 1} → statement M
+unfolding nanBits
 best-split-spec =
     tie.close
-    (tie.spec Inv-loop μ-loop float-from-bits-best (search needs) (search needs) (search needs) (search needs) (search needs) (search needs)
-    (search needs) (search needs) loop-again returns)
+    (tie.spec Inv-loop μ-loop (search needs) (search needs) (search needs) (search needs) (search needs) (search needs) (search needs) (search needs)
+    (search needs)
+    (λ c. simp (c .best-at .ensures, c .before .split-at .ensures, c .before .before .excess .ensures) (sym (split-turn _ _ _ _ _ _ _ _ (c .before .before .before .before .loop-test .taken)) ∙ c .before .before .before .before .before .loop .inv))
+    (λ c. sym (split-end _ _ _ _ _ _ _ _ (c .loop-test .left)) ∙ c .before .loop .inv))

@@ -1,4 +1,3 @@
--- `ook::empty_train` meets its contract: the definition, field by field. Assumes nothing.
 use mathlib.Core.Path.{refl}
 use Rattle.ook.specs.Train.{emptyTrainOf}
 use Rattle.ook.proofs.empty_train.Statement.{statement}

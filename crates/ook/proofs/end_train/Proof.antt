@@ -1,4 +1,3 @@
--- `ook::end_train` meets its contract: what the calls ensure. Assumes nothing.
 use Rattle.ook.specs.Train.{endTrainOf}
 use borrow.Author.Needs.{needs}
 use Rattle.ook.proofs.end_train.Statement.{statement}

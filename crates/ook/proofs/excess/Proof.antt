@@ -1,4 +1,3 @@
--- `ook::excess` meets its contract: by its tests. Assumes nothing.
 use Rattle.ook.specs.Refine.{excessOf}
 use Rattle.ook.proofs.excess.Statement.{statement}
 use Rattle.ook.proofs.excess.Tie as tie

@@ -1,4 +1,3 @@
--- `ook::longer` meets its contract: by its tests. Assumes nothing.
 use Rattle.ook.proofs.longer.Statement.{statement}
 use Rattle.ook.proofs.longer.Tie as tie
 

@@ -1,4 +1,3 @@
--- `ook::refine_level` meets its contract: what the calls ensure. Assumes nothing.
 use Rattle.ook.specs.Refine.{refineLevelOf}
 use borrow.Author.Needs.{needs}
 use Rattle.ook.proofs.refine_level.Statement.{statement}

@@ -1,4 +1,3 @@
--- `ook::refine_lo` meets its contract: what the calls ensure. Assumes nothing.
 use Rattle.ook.specs.Refine.{refineLoOf}
 use borrow.Author.Needs.{needs}
 use Rattle.ook.proofs.refine_lo.Statement.{statement}

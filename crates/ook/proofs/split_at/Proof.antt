@@ -1,4 +1,3 @@
--- `ook::split_at` meets its contract: by its tests. Assumes nothing.
 use Rattle.ook.proofs.split_at.Statement.{statement}
 use Rattle.ook.proofs.split_at.Tie as tie
 

@@ -1,4 +1,3 @@
--- `ook::zero_if` meets its contract: by its tests. Assumes nothing.
 use Rattle.ook.specs.Run.{zeroIf}
 use Rattle.ook.proofs.zero_if.Statement.{statement}
 use Rattle.ook.proofs.zero_if.Tie as tie

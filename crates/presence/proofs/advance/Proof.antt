@@ -1,15 +1,12 @@
--- `presence::advance` meets its contract: the definition over what the calls ensure. Assumes nothing.
 use Rattle.presence.specs.Presence.{advanceOf}
+use Rattle.run.specs.Run.{edgeAt}
 use borrow.Author.Needs.{needs}
 use Rattle.presence.proofs.advance.Statement.{statement}
 use Rattle.presence.proofs.advance.Tie as tie
 
-returns : tie.Need-returns
-unfolding advanceOf
-returns c = simp (← c .before .before .before .before .before .before .before .before .before .pres-thr .ensures, ← c .before .before .before .before .before .before .before .before .upper-of .ensures, ← c .before .before .before .before .before .before .before .bit .ensures, ← c .before .before .before .before .before .before .move-pres .ensures, ← c .before .before .before .before .before .move-frame .ensures, ← c .before .before .slice-if .ensures)
-
 pub advance-spec : {M : Type 1} → statement M
+unfolding advanceOf edgeAt
 advance-spec =
     tie.close
     (tie.spec (search needs) (search needs) (search needs) (search needs) (search needs) (search needs) (search needs)
-    returns)
+    (λ c. let h = c .before .before .before .before .before in let k = h .before .before .before .before in simp (← k .before .before .pres-thr .ensures, ← k .before .upper-of .ensures, ← k .bit .ensures, ← h .before .move-pres .ensures, ← h .move-frame .ensures, ← c .before .before .slice-if .ensures)))

@@ -1,4 +1,3 @@
--- `presence::end_carrier` meets its contract: the definition over what the calls ensure. Assumes nothing.
 use Rattle.presence.specs.Presence.{endCarrierOf}
 use borrow.Author.Needs.{needs}
 use Rattle.presence.proofs.end_carrier.Statement.{statement}

@@ -1,10 +1,6 @@
--- `refusals::out_ok` meets its contract: the definition over what the calls ensure. Assumes nothing.
 use borrow.Author.Needs.{needs}
 use Rattle.refusals.proofs.out_ok.Statement.{statement}
 use Rattle.refusals.proofs.out_ok.Tie as tie
 
-returns : tie.Need-returns
-returns c = simp (← c .serial-ok .ensures)
-
 pub out-ok-spec : {M : Type 1} → statement M
-out-ok-spec = tie.close (tie.spec (search needs) returns)
+out-ok-spec = tie.close (tie.spec (search needs) (λ c. simp (← c .serial-ok .ensures)))

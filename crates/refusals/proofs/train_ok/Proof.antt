@@ -1,10 +1,6 @@
--- `refusals::train_ok` meets its contract: the definition over what the calls ensure. Assumes nothing.
 use borrow.Author.Needs.{needs}
 use Rattle.refusals.proofs.train_ok.Statement.{statement}
 use Rattle.refusals.proofs.train_ok.Tie as tie
 
-returns : tie.Need-returns
-returns c = simp (← c .before .sum-within .ensures)
-
 pub train-ok-spec : {M : Type 1} → statement M
-train-ok-spec = tie.close (tie.spec (search needs) returns)
+train-ok-spec = tie.close (tie.spec (search needs) (λ c. simp (← c .before .sum-within .ensures)))

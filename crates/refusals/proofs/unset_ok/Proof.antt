@@ -1,12 +1,11 @@
--- `refusals::unset_ok` meets its contract: the definition over what the calls ensure. Assumes nothing.
 use Rattle.refusals.specs.Domain.{unsetOk}
 use borrow.Author.Needs.{needs}
 use Rattle.refusals.proofs.unset_ok.Statement.{statement}
 use Rattle.refusals.proofs.unset_ok.Tie as tie
 
-returns : tie.Need-returns
-unfolding unsetOk
-returns c = simp (← c .before .before .before .before .bits-of-f32 .ensures, ← c .before .before .before .bits-of-f322 .ensures, ← c .before .before .bits-of-f323 .ensures, ← c .before .bits-of-f324 .ensures)
-
 pub unset-ok-spec : {M : Type 1} → statement M
-unset-ok-spec = tie.close (tie.spec (search needs) (search needs) (search needs) (search needs) returns)
+unfolding unsetOk
+unset-ok-spec =
+    tie.close
+    (tie.spec (search needs) (search needs) (search needs) (search needs)
+    (λ c. let first = c .before .before .before in simp (← first .before .bits-of-f32 .ensures, ← first .bits-of-f322 .ensures, ← c .before .before .bits-of-f323 .ensures, ← c .before .bits-of-f324 .ensures)))

@@ -1,4 +1,4 @@
-use Rattle.lines.specs.Laws.{then}
+use Rattle.lines.proofs.Laws.{then}
 use borrow.Author.Needs.{needs}
 use Rattle.roots.proofs.put_line.Statement.{statement}
 use Rattle.roots.proofs.put_line.Tie as tie

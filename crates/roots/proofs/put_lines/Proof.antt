@@ -1,4 +1,4 @@
--- `roots::put_lines` meets its contract. The invariant of its loop: to put what is left from i on is to put all lines at the start (`Written.antt`). The measure is 1024 - i. Assumes nothing.
+-- The invariant of its loop: to put what is left from i on is to put all lines at the start (`Written.antt`). The measure is 1024 - i.
 use Prim.Native.Nat.{_+_, _*_, _-_, _≤_}
 use mathlib.Core.Path.{_≡_, refl, _∙_}
 use native.Mathlib.Omega.{arith}
@@ -30,14 +30,5 @@ returns c =
 pub put-lines-spec : {M : Type 1} → statement M
 put-lines-spec =
     tie.close
-    (tie.spec
-    Inv-loop
-    μ-loop
-    (λ c. (refl, search needs, search needs, search needs, refl))
-    (λ c κs. search needs)
-    (λ c κs. search needs)
-    (λ c. search needs)
-    (λ c. search needs)
-    loop-again
-    (λ c. search needs)
-    returns)
+    (tie.spec Inv-loop μ-loop (λ c. (refl, search needs, search needs, search needs, refl)) (λ c κs. search needs) (λ c κs. search needs)
+    (λ c. search needs) (λ c. search needs) loop-again (λ c. search needs) returns)

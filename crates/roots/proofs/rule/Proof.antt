@@ -1,4 +1,4 @@
--- `roots::rule` meets its contract. The invariant of its loop: the number looked for from r down is the rule's, which is looked for from 255 down (`Search.antt`). The measure is r. Assumes nothing.
+-- The invariant of its loop: the number looked for from r down is the rule's, which is looked for from 255 down (`Search.antt`). The measure is r.
 use Prim.Native.Nat.{_*_, _≤_, _<_}
 use mathlib.Core.Path.{_≡_, refl, sym, _∙_}
 use native.Mathlib.Nat.{mul-le-mul}

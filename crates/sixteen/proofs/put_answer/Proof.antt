@@ -1,8 +1,8 @@
 use mathlib.Core.Path.{sym, _∙_}
 use native.Mathlib.Omega.{arith}
 use borrow.Author.Tests.{not-true, not-false}
-use Rattle.lines.specs.Laws.{same, within, put-none}
-use Rattle.lane.specs.Core.{answerOf}
+use Rattle.lines.proofs.Laws.{same, within, put-none}
+use Rattle.lane.specs.Answers.{answerOf}
 use Rattle.sixteen.proofs.Taken.{none-spoken, heard-spoken, quiet-spoken}
 use borrow.Author.Needs.{needs}
 use Rattle.sixteen.proofs.put_answer.Statement.{statement}

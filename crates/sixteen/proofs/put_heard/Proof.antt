@@ -7,7 +7,9 @@ use Rattle.sixteen.proofs.put_heard.Statement.{statement}
 use Rattle.sixteen.proofs.put_heard.Tie as tie
 
 put-call-requires : tie.Need-put-call-requires
-put-call-requires c κs = omega (arith, ap length (c .before .before .shown .ensures), ap length (c .before .shown2 .ensures), c .before .before .before .before .before .before .before .before .pre)
+put-call-requires c κs =
+    let start = c .before .before .before .before .before .before .before .before in
+    omega (arith, ap length (c .before .before .shown .ensures), ap length (c .before .shown2 .ensures), start .pre)
 
 returns : tie.Need-returns
 returns c =

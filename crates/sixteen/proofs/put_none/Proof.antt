@@ -1,4 +1,4 @@
-use Rattle.lines.specs.Laws.{same, put-none}
+use Rattle.lines.proofs.Laws.{same, put-none}
 use borrow.Author.Needs.{needs}
 use Rattle.sixteen.proofs.put_none.Statement.{statement}
 use Rattle.sixteen.proofs.put_none.Tie as tie

@@ -2,11 +2,5 @@ use borrow.Author.Tests.{lt-ltb, le-ltb}
 use Rattle.sixteen.proofs.row_of.Statement.{statement}
 use Rattle.sixteen.proofs.row_of.Tie as tie
 
-returns : tie.Need-returns
-returns c = simp (lt-ltb _ _ (c .if1 .taken))
-
-returns-2 : tie.Need-returns-2
-returns-2 c = simp (le-ltb _ _ (c .if1 .left))
-
 pub row-of-spec : {M : Type 1} → statement M
-row-of-spec = tie.close (tie.spec returns returns-2)
+row-of-spec = tie.close (tie.spec (λ c. simp (lt-ltb _ _ (c .if1 .taken))) (λ c. simp (le-ltb _ _ (c .if1 .left))))

@@ -1,4 +1,4 @@
--- `table::first_digits` meets its contract (`Lifted.antt`). Assumes nothing.
+-- `table::first_digits` meets its contract (`Lifted.antt`).
 use borrow.Author.Needs.{needs}
 use Rattle.table.proofs.Lifted.{entry-at}
 use Rattle.table.proofs.first_digits.Statement.{statement}

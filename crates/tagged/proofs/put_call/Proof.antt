@@ -1,5 +1,5 @@
 use mathlib.Core.Path.{sym, _∙_}
-use Rattle.lines.specs.Laws.{same, then, within}
+use Rattle.lines.proofs.Laws.{same, then, within}
 use Rattle.tagged.proofs.Laws.{refused-text, accepted-text}
 use borrow.Author.Needs.{needs}
 use Rattle.tagged.proofs.put_call.Statement.{statement}
@@ -13,8 +13,9 @@ returns c =
 returns-2 : tie.Need-returns-2
 returns-2 c =
     within _ (search needs)
-    (same (accepted-text _ _ _ _ _ (sym (c .before .before .before .before .before .before .before .before .before .is-refused .ensures) ∙ c .before .before .before .before .before .before .before .before .if1 .left))
-    (then (c .before .before .before .before .before .before .put-tagged-records .ensures) (c .before .before .put-tagged-phase2 .ensures)))
+    (let records = c .before .before .before .before .before .before in
+    let test = records .before .before in
+    same (accepted-text _ _ _ _ _ (sym (test .before .is-refused .ensures) ∙ test .if1 .left)) (then (records .put-tagged-records .ensures) (c .before .before .put-tagged-phase2 .ensures)))
 
 pub put-call-spec : {M : Type 1} → statement M
 put-call-spec =

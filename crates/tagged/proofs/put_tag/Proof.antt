@@ -1,4 +1,4 @@
-use Rattle.lines.specs.Laws.{then}
+use Rattle.lines.proofs.Laws.{then}
 use borrow.Author.Needs.{needs}
 use Rattle.tagged.proofs.put_tag.Statement.{statement}
 use Rattle.tagged.proofs.put_tag.Tie as tie

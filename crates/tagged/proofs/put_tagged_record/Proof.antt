@@ -1,4 +1,4 @@
-use Rattle.lines.specs.Laws.{same, then, put-none}
+use Rattle.lines.proofs.Laws.{same, then, put-none}
 use Rattle.tagged.proofs.Laws.{record-tagged, record-none}
 use borrow.Author.Needs.{needs}
 use Rattle.tagged.proofs.put_tagged_record.Statement.{statement}
@@ -6,7 +6,9 @@ use Rattle.tagged.proofs.put_tagged_record.Tie as tie
 
 returns : tie.Need-returns
 returns c =
-    same (record-tagged _ _ _ (c .before .before .before .before .before .before .before .before .if1 .taken)) (then (c .before .before .before .before .before .before .put-tag .ensures) (c .before .before .put-record .ensures))
+    let tag = c .before .before .before .before .before .before in
+    let test = tag .before .before in
+    same (record-tagged _ _ _ (test .if1 .taken)) (then (tag .put-tag .ensures) (c .before .before .put-record .ensures))
 
 returns-2 : tie.Need-returns-2
 returns-2 c = same (record-none _ _ _ (c .if1 .left)) (put-none _ _ _)

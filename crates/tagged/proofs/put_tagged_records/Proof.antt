@@ -1,4 +1,4 @@
-use Rattle.lines.specs.Laws.{then}
+use Rattle.lines.proofs.Laws.{then}
 use borrow.Author.Needs.{needs}
 use Rattle.tagged.proofs.put_tagged_records.Statement.{statement}
 use Rattle.tagged.proofs.put_tagged_records.Tie as tie

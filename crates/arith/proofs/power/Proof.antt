@@ -1,8 +1,0 @@
--- `arith::power` meets its contract: a shift by less than the width loses nothing. Assumes nothing.
-use Rattle.arith.proofs.Narrowing.{one-shl}
-use borrow.Author.Needs.{needs}
-use Rattle.arith.proofs.power.Statement.{statement}
-use Rattle.arith.proofs.power.Tie as tie
-
-pub power-spec : {M : Type 1} → statement M
-power-spec = tie.close (tie.spec (search needs) (λ c. one-shl (c .args .j) (c .pre)))

@@ -1,0 +1,3 @@
+-- What the contracts of the exports cite.
+pub mod Leaf
+pub mod Left

@@ -1,0 +1,3 @@
+-- The laws that proofs cite, here and in the crate above.
+pub mod Passes
+pub mod Cases

@@ -1,0 +1,3 @@
+-- The definitions that the contracts of the fit cite.
+pub mod Slots
+pub mod Fit

@@ -1,8 +1,0 @@
--- `frame::is_split` meets its contract: by its tests. Assumes nothing.
-use Rattle.frame.specs.End.{isSplitOf}
-use Rattle.frame.proofs.is_split.Statement.{statement}
-use Rattle.frame.proofs.is_split.Tie as tie
-
-pub is-split-spec : {M : Type 1} → statement M
-unfolding isSplitOf
-is-split-spec = tie.close (tie.spec (λ c. simp (c .if1 .taken)) (λ c. simp (c .if1 .left)))

@@ -1,9 +1,0 @@
--- `frame::start_kept` meets its contract: the definition over what the calls ensure. Assumes nothing.
-use Rattle.frame.specs.Cut.{startKeptOf}
-use borrow.Author.Needs.{needs}
-use Rattle.frame.proofs.start_kept.Statement.{statement}
-use Rattle.frame.proofs.start_kept.Tie as tie
-
-pub start-kept-spec : {M : Type 1} → statement M
-unfolding startKeptOf
-start-kept-spec = tie.close (tie.spec (search needs) (λ c. simp (← c .u64-to-f64 .ensures)))

@@ -1,9 +1,0 @@
--- `grid::slot_before` meets its contract: at each branch the definition gives what the calls ensure. Assumes nothing.
-use Rattle.grid.proofs.Passes.{slot-at}
-use borrow.Author.Needs.{needs}
-use Rattle.grid.proofs.slot_before.Statement.{statement}
-use Rattle.grid.proofs.slot_before.Tie as tie
-
-pub slot-before-spec : {M : Type 1} → statement M
-slot-before-spec =
-    tie.close (tie.spec (λ c. search needs) (search needs) (search needs) (search needs) (λ c. slot-at _ _ (c .before .if1 .left)))

@@ -1,0 +1,4 @@
+-- The definitions that the contracts cite.
+pub mod Root
+pub mod RootSteps
+pub mod RootNearest

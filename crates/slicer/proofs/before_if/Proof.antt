@@ -1,8 +1,0 @@
--- `slicer::before_if` meets its contract: by its tests. Assumes nothing.
-use Rattle.slicer.specs.Seek.{beforeIfOf}
-use Rattle.slicer.proofs.before_if.Statement.{statement}
-use Rattle.slicer.proofs.before_if.Tie as tie
-
-pub before-if-spec : {M : Type 1} → statement M
-unfolding beforeIfOf
-before-if-spec = tie.close (tie.spec (λ c. simp (c .if1 .taken)) (λ c. simp (c .if1 .left)))

@@ -1,9 +1,0 @@
--- `slicer::far_from` meets its contract: the definition over what the calls ensure. Assumes nothing.
-use Rattle.slicer.specs.Seek.{farFromOf}
-use borrow.Author.Needs.{needs}
-use Rattle.slicer.proofs.far_from.Statement.{statement}
-use Rattle.slicer.proofs.far_from.Tie as tie
-
-pub far-from-spec : {M : Type 1} → statement M
-unfolding farFromOf
-far-from-spec = tie.close (tie.spec (search needs) (λ c. simp (← c .abs .ensures)))

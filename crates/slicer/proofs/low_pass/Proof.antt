@@ -1,9 +1,0 @@
--- `slicer::low_pass` meets its contract: the definition over what the calls ensure. Assumes nothing.
-use Rattle.slicer.specs.Tone.{lowPassOf}
-use borrow.Author.Needs.{needs}
-use Rattle.slicer.proofs.low_pass.Statement.{statement}
-use Rattle.slicer.proofs.low_pass.Tie as tie
-
-pub low-pass-spec : {M : Type 1} → statement M
-unfolding lowPassOf
-low-pass-spec = tie.close (tie.spec (search needs) (λ c. simp (← c .flush-denormal .ensures)))

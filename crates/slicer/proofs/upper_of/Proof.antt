@@ -1,8 +1,0 @@
--- `slicer::upper_of` meets its contract: by its tests. Assumes nothing.
-use Rattle.slicer.specs.Tone.{upperOf}
-use Rattle.slicer.proofs.upper_of.Statement.{statement}
-use Rattle.slicer.proofs.upper_of.Tie as tie
-
-pub upper-of-spec : {M : Type 1} → statement M
-unfolding upperOf
-upper-of-spec = tie.close (tie.spec (λ c. simp (c .if1 .taken)) (λ c. simp (c .if1 .left)))

@@ -1,7 +1,0 @@
--- The answer of a confirmation in the core, with the record that a caller sees (ook, specs/Core).
-use Rattle.ook.specs.Core.{wholeOut}
-use Rattle.stages.specs.declared.Acted.{Acted}
-use Rattle.stages.specs.declared.ActedCore.{ActedCore}
-
-abbrev pub wholeActed : ActedCore → Acted
-wholeActed d = record { next = d .next; env = d .env; train = d .train; out = wholeOut (d .out) }

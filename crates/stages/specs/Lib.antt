@@ -1,6 +1,0 @@
--- The stages of `sample` that the OOK half is made of.
-pub mod See
-pub mod Act
-pub mod Tail
-pub mod Limits
-pub mod Core

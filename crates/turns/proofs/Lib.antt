@@ -1,3 +1,0 @@
--- What the proofs of this crate cite.
-pub mod Taken
-pub mod Cores
