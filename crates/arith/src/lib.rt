@@ -1,5 +1,7 @@
 // The leaves of the Rust's arithmetic, one rounding for each operation: here the small ones, in `angle` the angle of a sample, in
 // `boundaries` the widths that add up. The crates above see these contracts only.
+#![tactic(auto)]
+
 ghost use Rattle.std.specs.Prelude.{◌≡◌, pos};
 ghost use Rattle.std.specs.Float.Ieee as Ieee;
 ghost use Rattle.std.specs.Float.{binary32, binary64};
@@ -14,22 +16,22 @@ pub use boundaries::{carried_at, width_by};
 // ---- units and types
 
 // Whole steps.
-#[derive(Drop)]
+#[derive(Clone, Copy)]
 pub struct Steps(pub u32);
 
 // 64ths of a step.
-#[derive(Drop)]
+#[derive(Clone, Copy)]
 pub struct Fix64(pub u32);
 
 // A complex sample: real and imaginary part.
-#[derive(Drop)]
+#[derive(Clone, Copy)]
 pub struct C32 {
     pub re: f32,
     pub im: f32,
 }
 
 // A width with its signed remainder in 64ths, and the boundary at its end.
-#[derive(Drop)]
+#[derive(Clone, Copy)]
 pub struct Carried {
     pub width: Steps,
     pub remainder: i32,

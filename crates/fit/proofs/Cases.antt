@@ -8,7 +8,7 @@ use lib.Ieee.Bits.{of_bits-to_bits}
 use borrow.Author.Tests.{eqb-true}
 use lib.Ieee.{Float, binary64, fits, of_bits, to_bits, add, sub, mul, le}
 use Rattle.arith.specs.Leaves.{abs_of}
-use Rattle.fit.specs.Fit.{symbols_of, kAfter, run_tol, run_near, run_after, fit_of, check_of, check_line, second_of, grid_fit_of}
+use Rattle.fit.specs.Fit.{symbols_of, k_after, run_tol, run_near, run_after, fit_of, check_of, check_line, second_of, grid_fit_of}
 use Rattle.fit.specs.declared.Prev.{Prev}
 use Rattle.fit.specs.declared.Prev.TheVariants.{Unset, At}
 use Rattle.fit.specs.declared.Line.{Line}
@@ -20,11 +20,11 @@ use Rattle.fit.specs.declared.Grid.TheVariants.{NoGrid}
 module _ (q : Prev) (k x t : Float) where
   pub run_at : (tp n m : Float) → q ≡ At tp → n ≡ symbols_of (sub binary64 x tp) t → m ≡ abs_of (sub binary64 (sub binary64 x tp) (mul binary64 n t))
       → record { k = add binary64 k n; ok = le m (mul binary64 run_tol t) } ≡ run_after q k x t
-  unfolding run_after kAfter run_near
+  unfolding run_after k_after run_near
   run_at tp n m eq en em = rw (eq, em, en)
 
   pub run_unset : q ≡ Unset → record { k = k; ok = true } ≡ run_after q k x t
-  unfolding run_after kAfter run_near
+  unfolding run_after k_after run_near
   run_unset eq = rw eq
 
 -- ---- the second fit

@@ -30,9 +30,9 @@ unfoldable pub symbols_of : Float → Float → Float
 symbols_of d t = max_of (round_of (div binary64 d t)) one64
 
 -- the symbol number of the transition x: one run further than the transition before
-unfoldable pub kAfter : Prev → Float → Float → Float → Float
-kAfter Unset k x t = k
-kAfter (At tp) k x t = add binary64 k (symbols_of (sub binary64 x tp) t)
+unfoldable pub k_after : Prev → Float → Float → Float → Float
+k_after Unset k x t = k
+k_after (At tp) k x t = add binary64 k (symbols_of (sub binary64 x tp) t)
 
 -- ---- the two fits
 abbrev pub summed : Sums → Float → Float → Sums
@@ -47,7 +47,7 @@ summed s k x = record {
 }
 
 unfoldable pub fit_step : Float → Sums → Float → Sums
-fit_step t s x = summed s (kAfter s.prev s.k x t) x
+fit_step t s x = summed s (k_after s.prev s.k x t) x
 
 abbrev pub no_sums : Sums
 no_sums = record { n = zero64; sk = zero64; skk = zero64; st = zero64; skt = zero64; k = zero64; prev = Unset }
@@ -81,7 +81,7 @@ run_near Unset x t = true
 run_near (At tp) x t = le (abs_of (sub binary64 (sub binary64 x tp) (mul binary64 (symbols_of (sub binary64 x tp) t) t))) (mul binary64 run_tol t)
 
 unfoldable pub run_after : Prev → Float → Float → Float → RunEnd
-run_after prev k x t = record { k = kAfter prev k x t; ok = run_near prev x t }
+run_after prev k x t = record { k = k_after prev k x t; ok = run_near prev x t }
 
 -- the distance of the transition x from its grid point, in symbols
 abbrev pub distance : Float → Float → Float → Float → Float

@@ -1,10 +1,12 @@
 // The transitions of an FSK frame and the grid that fits them (document 01, "Grid"; `transitions`, `symbols` and `grid_fit` of the
 // Rust). A slot holds the end of a run, in 64ths of a step after the frame's start (`arith::Fix64`).
+#![tactic(auto)]
+
 ghost use Rattle.std.specs.Prelude.{◌≡◌, true, ◌&&◌, ◌≤◌, length, eqb};
 ghost use Rattle.std.specs.Float.{binary64};
 ghost use Rattle.std.specs.Float.Ieee.{to_bits};
 ghost use Rattle.fit.specs.Slots.{time_of, slot_before, last_rise, up_to, turned};
-ghost use Rattle.fit.specs.Fit.{symbols_of, kAfter, fit_step, sums_of, line_with, line_of, fit_of, run_after, check_step, check_of, second_of, Known, grid_fit_of};
+ghost use Rattle.fit.specs.Fit.{symbols_of, k_after, fit_step, sums_of, line_with, line_of, fit_of, run_after, check_step, check_of, second_of, Known, grid_fit_of};
 
 // How far a transition may lie from its place on the symbol clock, and a run's length from its number of symbols, in symbols.
 // Rising and falling transitions come late by different amounts, and a run has one of each: hence more for a run.
@@ -13,7 +15,7 @@ const GRID_TOL: f64 = 0.25;
 const RUN_TOL: f64 = 0.4;
 
 // The transition before, where there is one.
-#[derive(Drop)]
+#[derive(Clone, Copy)]
 pub enum Prev {
     Unset,
     At(f64),
@@ -66,7 +68,7 @@ pub fn symbols(d: f64, t: f64) -> f64
 
 // The sums of a fit over the transitions so far, by the names of the Rust: of 1, k, k * k, t and k * t, where k is the symbol number of
 // the transition at t. Then the last transition's k, and the last transition.
-#[derive(Drop)]
+#[derive(Clone, Copy)]
 pub struct Sums {
     pub n: f64,
     pub sk: f64,
@@ -79,7 +81,7 @@ pub struct Sums {
 
 // The symbol number of the transition x.
 pub fn k_after(prev: Prev, k: f64, x: f64, t: f64) -> f64
-    ensures { result ≡ kAfter prev k x t }
+    ensures { result ≡ k_after prev k x t }
 {
     match prev {
         Prev::At(tp) => k + symbols(x - tp, t),
@@ -106,7 +108,7 @@ fn fit_step(s: Sums, x: f64, t: f64) -> Sums
 }
 
 // The line a + k t, where there is one.
-#[derive(Drop)]
+#[derive(Clone, Copy)]
 pub enum Line {
     NoLine,
     Rising(f64, f64),
@@ -181,14 +183,14 @@ pub fn fit_with(slots: &[u32], last: usize, t: f64) -> Line
 // ---- the check of a grid
 
 // The grid a + k t and its cost, where there is one.
-#[derive(Drop)]
+#[derive(Clone, Copy)]
 pub enum Grid {
     NoGrid,
     On(f64, f64, f64),
 }
 
 // The end of a run: the symbol number there, and whether the run is near its whole number of symbols.
-#[derive(Drop)]
+#[derive(Clone, Copy)]
 pub struct RunEnd {
     pub k: f64,
     pub ok: bool,
@@ -213,7 +215,7 @@ fn run_after(prev: Prev, k: f64, x: f64, t: f64) -> RunEnd
 
 // What the check of a grid found so far: whether all are near, the sum of the squared distances in symbols, and the last transition
 // with its symbol number.
-#[derive(Drop)]
+#[derive(Clone, Copy)]
 pub struct Check {
     pub ok: bool,
     pub cost: f64,
@@ -305,7 +307,7 @@ pub fn second_fit(slots: &[u32], last: usize, first: Line) -> Grid
 }
 
 // The first fit of the mean, and the grid that its second fit gave.
-#[derive(Drop)]
+#[derive(Clone, Copy)]
 pub struct Fitted {
     pub line: Line,
     pub grid: Grid,

@@ -6,7 +6,7 @@ use Rattle.ieee.specs.Rounding.{round_of}
 use Rattle.arith.specs.Leaves.{width_of}
 use Rattle.ieee.specs.Constants.{zero64}
 use Rattle.fit.specs.Slots.{time_of, fix, transitions_of}
-use Rattle.fit.specs.Fit.{symbols_of, kAfter, sums_of}
+use Rattle.fit.specs.Fit.{symbols_of, k_after, sums_of}
 use Rattle.fit.specs.declared.Prev.{Prev}
 use Rattle.fit.specs.declared.Prev.TheVariants.{Unset, At}
 use Rattle.fit.specs.declared.Grid.{Grid}
@@ -48,7 +48,7 @@ place_of c p v =
     cond (leb v p.before_raw)
     (place_at v p.before p.seen p.k p.prev)
     (cond (ltb p.seen c.n_tr)
-    (transition_at c p v (kAfter p.prev p.k (time_of (fix v)) c.t))
+    (transition_at c p v (k_after p.prev p.k (time_of (fix v)) c.t))
     (place_at v (round_of (mul binary64 c.stop c.t)) p.seen p.k p.prev))
 
 unfoldable pub on_grid_of : Clock → Place → List ℕ → List ℕ

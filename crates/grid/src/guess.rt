@@ -26,7 +26,7 @@ fn shorter_of(prev: Prev, shortest: f64, x: f64) -> f64
 }
 
 // How many transitions there are, the shortest run between two, and the last transition.
-#[derive(Drop)]
+#[derive(Clone, Copy)]
 pub struct Runs {
     pub count: usize,
     pub shortest: f64,
@@ -78,7 +78,7 @@ pub fn runs_of(slots: &[u32], last: usize) -> Runs
 
 // The run that ends at a transition: whether it is one symbol long, its length in steps, and where it ends. At the first transition
 // no run ends.
-#[derive(Drop)]
+#[derive(Clone, Copy)]
 pub struct Run {
     pub one: bool,
     pub steps: f64,
@@ -107,7 +107,7 @@ fn run_to(shortest: f64, prev: Prev, x: f64) -> Run
 }
 
 // The runs of one symbol: their sum and how many; and the last transition.
-#[derive(Drop)]
+#[derive(Clone, Copy)]
 pub struct Mean {
     pub sum: f64,
     pub n: f64,
@@ -192,7 +192,7 @@ fn better(grid: Grid, g: Grid) -> Grid
 }
 
 // How many runs of one symbol were tried, the best grid so far, and the last transition.
-#[derive(Drop)]
+#[derive(Clone, Copy)]
 pub struct Tries {
     pub tried: usize,
     pub grid: Grid,
@@ -226,7 +226,7 @@ fn tried_with(slots: &[u32], last: usize, mean: Fitted, s: Tries, run: Run) -> T
 }
 
 // What every guess is held to: the fit of the mean, and the shortest run.
-#[derive(Drop)]
+#[derive(Clone, Copy)]
 pub struct Guesses {
     pub mean: Fitted,
     pub shortest: f64,

@@ -1,6 +1,8 @@
 // The widths of an FSK frame (document 01, "Grid"; `fsk_widths` of the Rust): the ends of its runs become widths in whole steps, on the
 // grid of the frame's symbol clock where its transitions lie on one. A slot holds 64ths of a step at entry (`arith::Fix64`) and whole
 // steps at exit (`arith::Steps`).
+#![tactic(auto)]
+
 ghost use Rattle.std.specs.Prelude.{◌≡◌, ◌≤◌, length};
 ghost use Rattle.ieee.specs.Constants.{zero64};
 ghost use Rattle.fit.specs.Slots.{up_to};
@@ -30,7 +32,7 @@ fn measured(slots: &mut [u32])
 
 // The grid after the start of the frame: the steps of a symbol, the symbols before the first transition and up to the frame's end, and
 // how many transitions there are.
-#[derive(Drop)]
+#[derive(Clone, Copy)]
 pub struct Clock {
     pub t: f64,
     pub lead: f64,
@@ -39,7 +41,7 @@ pub struct Clock {
 }
 
 // The boundary before a slot: its 64ths, its time on the grid, how many transitions were seen, and the last of them with its symbol number.
-#[derive(Drop)]
+#[derive(Clone, Copy)]
 pub struct Place {
     pub before_raw: u32,
     pub before: f64,

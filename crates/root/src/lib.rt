@@ -1,10 +1,12 @@
 // The square root of IEEE 754-2019, in the standard's order: special operands, the exact result, the rounding.
+#![tactic(auto)]
+
 ghost use Rattle.std.specs.Prelude.{◌≡◌, ◌+◌, ◌-◌, ◌*◌, ◌^◌, ◌<◌, ◌≤◌, T};
 ghost use Rattle.std.specs.Float.Ieee.Positive.{positive};
 ghost use Rattle.root.specs.Root.{special_of, answered, scaled, InRange, IsRoot, exact_of, round_exact, sqrt_of};
 
 // What is answered with no root taken, if anything is.
-#[derive(Drop)]
+#[derive(Clone, Copy)]
 pub struct Answer {
     pub given: bool,
     pub root: f32,
@@ -42,7 +44,7 @@ fn special(x: f32) -> Answer
 }
 
 // The exact root of a positive number: its 25 digits, whether it has more, and the power.
-#[derive(Drop)]
+#[derive(Clone, Copy)]
 pub struct Exact {
     pub root: u32,
     pub more: bool,

@@ -1,5 +1,7 @@
 // The table that the square root begins from (document 02, R-7): for i from 256 to 1,023 the largest
 // whole number whose square is at most 64 * i.
+#![tactic(auto)]
+
 ghost use Rattle.std.specs.Prelude.{◌≡◌};
 ghost use Rattle.table.specs.Rule.{entry_of, Word};
 

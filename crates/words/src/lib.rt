@@ -1,4 +1,6 @@
 // Little-endian numbers in bytes (document 01, "Commands"): one at a place, and lists of u32 words.
+#![tactic(auto)]
+
 ghost use Rattle.std.specs.Prelude.{◌≡◌, ◌+◌, ◌*◌, ◌%◌, ◌<◌, ◌≤◌, length, eqb};
 ghost use Rattle.words.specs.Words.{joined, u32_at, u64_at, f32_at, decode, encode, put_at, read_of, written_of};
 

@@ -1,0 +1,7 @@
+use mathlib.Core.Path.{refl}
+use Rattle.fit.specs.Slots.{time_of}
+use Rattle.fit.proofs.time_of.Goals as goal
+
+pub returns : goal.returns
+unfolding time_of
+returns c = refl

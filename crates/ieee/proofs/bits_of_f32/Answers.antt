@@ -1,0 +1,10 @@
+use Rattle.std.proofs.Common.{sym, ap, ◌∙◌}
+use lib.Ieee.{binary32, to_bits}
+use Rattle.ieee.proofs.Nan.{is_nan_lem, no_nan, nan_written32}
+use Rattle.ieee.proofs.bits_of_f32.Goals as goal
+
+pub float_to_bits-result : goal.float_to_bits-result
+float_to_bits-result c = no_nan _ c.if-x.false
+
+pub returns-then-x : goal.returns-then-x
+returns-then-x c = sym (ap (to_bits binary32) (is_nan_lem _ c.if-x.true) ∙ nan_written32)
