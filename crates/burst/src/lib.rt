@@ -1,4 +1,6 @@
 // One sample of a burst in all three modes: `sample` of the Rust, and the replay of the lead-in.
+#![tactic(auto)]
+
 ghost use Rattle.std.specs.Prelude.{◌≡◌, ◌<◌, ◌≤◌, List, if◌then◌else◌, Float};
 ghost use Rattle.burst.specs.Makers.{body_in, with_acted, with_body, done_in};
 ghost use Rattle.burst.specs.Sample.{snap_if_of, inputs_of, rest_of, sample_of};
@@ -19,7 +21,7 @@ use presence::{Inputs, Pres, SnappedCore};
 use shared::{Next, Out, OutCore, Settings};
 
 // The burst under way; what an earlier burst left stands in it too.
-#[derive(Drop)]
+#[derive(Clone, Copy)]
 pub struct Burst {
     pub high: f32,
     pub e_prev: f32,
@@ -34,7 +36,7 @@ pub struct Burst {
 }
 
 // The same in the core.
-#[derive(Drop)]
+#[derive(Clone, Copy)]
 pub struct BurstCore {
     pub high: f32,
     pub e_prev: f32,
@@ -49,7 +51,7 @@ pub struct BurstCore {
 }
 
 // The lead-in: its samples wait until there are lead_len of them; lead_x[0] is the sample before.
-#[derive(Drop)]
+#[derive(Clone, Copy)]
 pub struct Lead {
     pub lead_at: u64,
     pub lead_n: u32,
@@ -58,14 +60,14 @@ pub struct Lead {
 }
 
 // What the sample asks for, and the burst after it.
-#[derive(Drop)]
+#[derive(Clone, Copy)]
 pub struct Sampled {
     pub next: Next,
     pub burst: Burst,
 }
 
 // The same in the core.
-#[derive(Drop)]
+#[derive(Clone, Copy)]
 pub struct SampledCore {
     pub next: Next,
     pub burst: BurstCore,

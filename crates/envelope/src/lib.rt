@@ -1,6 +1,8 @@
 // The stages of `sample` that need no presence: `see` (level, run, refinement, signal level, the
 // pulse's sum), `act` (a run is confirmed) and `tail` (a carrier, the end of the burst). The whole
 // sample calls presence between act and tail, outside OOK mode.
+#![tactic(auto)]
+
 ghost use Rattle.std.specs.Prelude.{◌≡◌};
 ghost use Rattle.envelope.specs.See.{threshold_of, on_of, refine_due_of, high_of, pac_of, see_of};
 ghost use Rattle.envelope.specs.Act.{confirm_if, rise_of, fall_of, confirm_of, act_of};
@@ -16,7 +18,7 @@ use shared::{Next, Out, OutCore, Settings};
 
 // What a sample reads beside the burst and the ring: its index, the lead-in's, the noise, the
 // envelope, the sample and the one before.
-#[derive(Drop)]
+#[derive(Clone, Copy)]
 pub struct At {
     pub idx: u64,
     pub lead_at: u64,
@@ -28,7 +30,7 @@ pub struct At {
 
 // What a sample shows: its level, whether a run began with it, the product with the sample before,
 // and signal level, run and pulse's sum after it.
-#[derive(Drop)]
+#[derive(Clone, Copy)]
 pub struct Seen {
     pub on: bool,
     pub began: bool,
@@ -38,7 +40,7 @@ pub struct Seen {
     pub pac: C32,
 }
 
-#[derive(Drop)]
+#[derive(Clone, Copy)]
 pub struct Acted {
     pub next: Next,
     pub env: Env,
@@ -47,7 +49,7 @@ pub struct Acted {
 }
 
 // The same in the core.
-#[derive(Drop)]
+#[derive(Clone, Copy)]
 pub struct ActedCore {
     pub next: Next,
     pub env: Env,
@@ -56,7 +58,7 @@ pub struct ActedCore {
 }
 
 // What the end of a burst reads of presence.
-#[derive(Drop)]
+#[derive(Clone, Copy)]
 pub struct Absence {
     pub frames: u32,
     pub p_level: u32,

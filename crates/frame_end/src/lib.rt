@@ -1,4 +1,6 @@
 // The end of a presence: `end_frame`, `cut_train` and `frame_done` of the Rust.
+#![tactic(auto)]
+
 ghost use Rattle.std.specs.Prelude.{◌≡◌, ◌+◌, ◌-◌, ◌*◌, ◌<◌, List, slice_index, Float};
 ghost use Rattle.frame_end.specs.End.{is_split_of, enough_runs_of, is_frame_of, last_run_of, close_pair_of, widths_in_of, carrier_of, out_of, end_frame_of};
 ghost use Rattle.frame_end.specs.Cut.{gap_at_of, keep_next_of, keep_before_of, start_kept_of, cut_train_of};
@@ -14,7 +16,7 @@ use ook::{EndedCore, Train};
 use shared::{Flat, Out, OutCore, Settings};
 
 // Whether a presence was a frame, the frame, and the record of frames.
-#[derive(Drop)]
+#[derive(Clone, Copy)]
 pub struct Framed {
     pub is_fsk: u32,
     pub frame: Frame,
@@ -22,7 +24,7 @@ pub struct Framed {
 }
 
 // Where the pulses before a frame end: the time after the last kept one and its gap, how many, and one past the last.
-#[derive(Drop)]
+#[derive(Clone, Copy)]
 pub struct Kept {
     pub t: f64,
     pub keep: u32,
@@ -30,7 +32,7 @@ pub struct Kept {
 }
 
 // What the end of a frame may change.
-#[derive(Drop)]
+#[derive(Clone, Copy)]
 pub struct Body {
     pub frame: Frame,
     pub train: Train,
@@ -40,14 +42,14 @@ pub struct Body {
 }
 
 // The two in the core.
-#[derive(Drop)]
+#[derive(Clone, Copy)]
 pub struct FramedCore {
     pub is_fsk: u32,
     pub frame: FrameCore,
     pub out: OutCore,
 }
 
-#[derive(Drop)]
+#[derive(Clone, Copy)]
 pub struct BodyCore {
     pub frame: FrameCore,
     pub train: Train,

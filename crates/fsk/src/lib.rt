@@ -1,5 +1,7 @@
 // The frequency runs of a frame: `fsk_commit`, `fsk_run_step`, `begin_frame` and `fsk_resolve` of the Rust,
 // each over the part of the frame that it changes.
+#![tactic(auto)]
+
 ghost use Rattle.std.specs.Prelude.{◌≡◌, ◌+◌, ◌-◌, ◌*◌, ◌<◌, ◌≤◌, min, List, Float};
 ghost use Rattle.fsk.specs.Commit.{put_end_of, origin_of, count_run_of, upper_run_of, close_pair_of, lower_run_of, fsk_commit_of};
 ghost use Rattle.fsk.specs.Makers.{runs_of};
@@ -12,21 +14,21 @@ use arith::C32;
 use run::{Crossing, Run};
 
 // The low-passed product, and its frequency at the sample before.
-#[derive(Drop)]
+#[derive(Clone, Copy)]
 pub struct Tone {
     pub fm: C32,
     pub f_prev: f32,
 }
 
 // The mean of the first level, over fsk_cnt samples.
-#[derive(Drop)]
+#[derive(Clone, Copy)]
 pub struct Mean {
     pub f_ref: f32,
     pub fsk_cnt: u32,
 }
 
 // The candidates of the first transition, and the frequency before the first of them.
-#[derive(Drop)]
+#[derive(Clone, Copy)]
 pub struct Cand {
     pub cand_f: [f32; 8],
     pub cand_before: f32,
@@ -34,14 +36,14 @@ pub struct Cand {
 }
 
 // The same in the core: the candidates are an array of their own there, which is lent where one is stored or read.
-#[derive(Drop)]
+#[derive(Clone, Copy)]
 pub struct CandCore {
     pub cand_before: f32,
     pub fsk_cand: u32,
 }
 
 // The mean before the last restart of the first level, its time, and whether there was one.
-#[derive(Drop)]
+#[derive(Clone, Copy)]
 pub struct Early {
     pub f_early: f32,
     pub t_early: f64,
@@ -49,21 +51,21 @@ pub struct Early {
 }
 
 // The two levels that the slicer follows.
-#[derive(Drop)]
+#[derive(Clone, Copy)]
 pub struct Levels {
     pub f_hi: f32,
     pub f_lo: f32,
 }
 
 // The frequency run under way, and 1 where the run before it waits for this one to count: only then is it committed.
-#[derive(Drop)]
+#[derive(Clone, Copy)]
 pub struct Runs {
     pub run: Run,
     pub fsk_has_prev: u32,
 }
 
 // The committed frequency runs of a frame: the slots hold their ends, in 64ths of a step after f_origin.
-#[derive(Drop)]
+#[derive(Clone, Copy)]
 pub struct Committed {
     pub f_origin: f64,
     pub f_last: f64,
@@ -74,7 +76,7 @@ pub struct Committed {
 }
 
 // The frame under way; fsk_phase is 0 before its first transition, and 1 after.
-#[derive(Drop)]
+#[derive(Clone, Copy)]
 pub struct Frame {
     pub tone: Tone,
     pub fsk_phase: u32,
@@ -87,7 +89,7 @@ pub struct Frame {
 }
 
 // The same in the core.
-#[derive(Drop)]
+#[derive(Clone, Copy)]
 pub struct FrameCore {
     pub tone: Tone,
     pub fsk_phase: u32,
@@ -100,21 +102,21 @@ pub struct FrameCore {
 }
 
 // The runs after a step, and what is committed.
-#[derive(Drop)]
+#[derive(Clone, Copy)]
 pub struct Ran {
     pub runs: Runs,
     pub done: Committed,
 }
 
 // The first transition: its time, and the samples after it.
-#[derive(Drop)]
+#[derive(Clone, Copy)]
 pub struct Turn {
     pub tc: f64,
     pub second: u32,
 }
 
 // Where the first run that is not committed starts, and what is.
-#[derive(Drop)]
+#[derive(Clone, Copy)]
 pub struct Opening {
     pub from: f64,
     pub done: Committed,

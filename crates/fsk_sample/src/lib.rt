@@ -1,4 +1,6 @@
 // The frequency slicer: `fsk_sample` of the Rust.
+#![tactic(auto)]
+
 ghost use Rattle.std.specs.Prelude.{◌≡◌, ◌+◌, ◌-◌, ◌*◌, ◌<◌, min, List, Float};
 ghost use Rattle.fsk_sample.specs.Tone.{low_pass_of, tone_of, upper_of, follow_of};
 ghost use Rattle.fsk_sample.specs.Seek.{seed_of, average_of, start_of, before_if_of, push_cand_of, restart_at_of, restart_early_of, clear_of, far_from_of, store_of};

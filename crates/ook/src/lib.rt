@@ -1,5 +1,7 @@
 // The OOK part of the lane: the run of the envelope, its refined edges, and the train of its pulses,
 // each struct by value.
+#![tactic(auto)]
+
 ghost use Rattle.std.specs.Prelude.{◌≡◌, ◌+◌, ◌*◌, ◌-◌, ◌<◌, min, max};
 ghost use Rattle.run.specs.Run.{edge_at};
 ghost use Rattle.shared.specs.Core.{whole_out};
@@ -15,7 +17,7 @@ use shared::{Next, Out, OutCore, Settings};
 // ---- what the run and the train are
 
 // The run of the envelope, whose edge t_run is refined once the run is long enough, and what that needs.
-#[derive(Drop)]
+#[derive(Clone, Copy)]
 pub struct Env {
     pub run: Run,
     // The edges of the run and of the one before as the envelope crossed: by them a train starts and ends, refined or not.
@@ -27,7 +29,7 @@ pub struct Env {
 }
 
 // The train of the pulses so far; origin is the first pulse's edge, bound the last boundary in 64ths of a step after it.
-#[derive(Drop)]
+#[derive(Clone, Copy)]
 pub struct Train {
     pub start: u64,
     pub pulse_end: u64,
@@ -42,19 +44,19 @@ pub struct Train {
 }
 
 // Whether a pulse had room, and the train.
-#[derive(Drop)]
+#[derive(Clone, Copy)]
 pub struct Pushed {
     pub fits: bool,
     pub train: Train,
 }
 
-#[derive(Drop)]
+#[derive(Clone, Copy)]
 pub struct Ended {
     pub train: Train,
     pub out: Out,
 }
 
-#[derive(Drop)]
+#[derive(Clone, Copy)]
 pub struct Done {
     pub next: Next,
     pub train: Train,
@@ -62,13 +64,13 @@ pub struct Done {
 }
 
 // The two in the core.
-#[derive(Drop)]
+#[derive(Clone, Copy)]
 pub struct EndedCore {
     pub train: Train,
     pub out: OutCore,
 }
 
-#[derive(Drop)]
+#[derive(Clone, Copy)]
 pub struct DoneCore {
     pub next: Next,
     pub train: Train,

@@ -1,4 +1,6 @@
 // The presence machine of the modes FSK and Auto: `presence` of the Rust, and what `begin_run` does to it.
+#![tactic(auto)]
+
 ghost use Rattle.std.specs.Prelude.{◌≡◌, ◌+◌, ◌*◌, ◌-◌, ◌<◌, List, Float};
 ghost use Rattle.presence.specs.Move.{pres_thr_of, move_pres_of, extend_of, move_frame_of};
 ghost use Rattle.presence.specs.Presence.{slice_if_of, sure_if_of, ends_of, in_window_of, end_of, end_if_of, long_of, end_carrier_of, carrier_if_of, advance_of, presence_of, near_start_of, snap_of};
@@ -14,14 +16,14 @@ use run::{Crossing, Run};
 use shared::{Next, Settings};
 
 // The run of the presence, which is high while the envelope is above the trigger, and the trigger as a factor of the noise.
-#[derive(Drop)]
+#[derive(Clone, Copy)]
 pub struct Pres {
     pub run: Run,
     pub p_factor: f32,
 }
 
 // What the presence machine reads beside its own state.
-#[derive(Drop)]
+#[derive(Clone, Copy)]
 pub struct Inputs {
     pub idx: u64,
     pub noise: f32,
@@ -35,7 +37,7 @@ pub struct Inputs {
 }
 
 // Whether the carrier is on, its presence, and the frame.
-#[derive(Drop)]
+#[derive(Clone, Copy)]
 pub struct Advanced {
     pub on: bool,
     pub pres: Pres,
@@ -43,7 +45,7 @@ pub struct Advanced {
 }
 
 // The same in the core.
-#[derive(Drop)]
+#[derive(Clone, Copy)]
 pub struct AdvancedCore {
     pub on: bool,
     pub pres: Pres,
@@ -51,7 +53,7 @@ pub struct AdvancedCore {
 }
 
 // What the sample asks for, the presence, and what the end of a frame may have changed.
-#[derive(Drop)]
+#[derive(Clone, Copy)]
 pub struct Present {
     pub next: Next,
     pub pres: Pres,
@@ -59,7 +61,7 @@ pub struct Present {
 }
 
 // The same in the core.
-#[derive(Drop)]
+#[derive(Clone, Copy)]
 pub struct PresentCore {
     pub next: Next,
     pub pres: Pres,
@@ -345,14 +347,14 @@ pub fn presence(
 }
 
 // The presence and the frame with their start.
-#[derive(Drop)]
+#[derive(Clone, Copy)]
 pub struct Snapped {
     pub pres: Pres,
     pub frame: Frame,
 }
 
 // The same in the core.
-#[derive(Drop)]
+#[derive(Clone, Copy)]
 pub struct SnappedCore {
     pub pres: Pres,
     pub frame: FrameCore,

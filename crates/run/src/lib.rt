@@ -1,12 +1,14 @@
 // The run machine that the envelope, the presence and the frequency of a frame share: a level lasts for a run of samples, and a run
 // that is over before it counts is a glitch, which joins the run before it. Document 01 has it once for each of the three.
+#![tactic(auto)]
+
 ghost use Rattle.std.specs.Prelude.{◌≡◌};
 ghost use Rattle.run.specs.Run.{edge_at, begins_of, lengthen_of, rejoin_of, begin_run_of, due_of, start_run_of};
 
 // A run under way, with what a glitch needs to go back to the run before. The Rust has these six for each of the three, as
 // level, run_len, confirmed, prev_len, t_run, t_prev (envelope), p_level, p_run, p_confirmed, p_prev, p_t_run, p_t_prev (presence) and
 // fsk_level, fsk_run, fsk_confirmed, fsk_prev, ft_run, ft_prev (frequency).
-#[derive(Drop)]
+#[derive(Clone, Copy)]
 pub struct Run {
     // 1 where the run is high, 0 where it is low.
     pub level: u32,
@@ -22,7 +24,7 @@ pub struct Run {
 }
 
 // The crossing of a threshold between the sample before and this one: the edge of a run that begins here, worked out only where one does.
-#[derive(Drop)]
+#[derive(Clone, Copy)]
 pub struct Crossing {
     pub idx: u64,
     pub before: f32,

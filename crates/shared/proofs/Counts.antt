@@ -1,5 +1,5 @@
 -- Laws of the definitions in specs/Counts.
-use Rattle.std.proofs.Common.{◌≡◌, ℕ, ◌+◌, ◌-◌, ◌^◌, ◌<◌, mod-eq_of_lt}
+use Rattle.std.proofs.Common.{◌≡◌, ℕ, ◌+◌, ◌^◌, ◌<◌, mod-eq_of_lt}
 use Rattle.shared.specs.Counts.{inc}
 
 -- below the limit of a u32 nothing wraps

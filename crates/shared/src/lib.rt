@@ -1,4 +1,6 @@
 // What the whole lane shares: settings, answers and records, each by value, and the whole numbers that count.
+#![tactic(auto)]
+
 ghost use Rattle.std.specs.Prelude.{◌≡◌, ◌+◌, ◌-◌, ◌<◌, slice_set};
 ghost use Rattle.shared.specs.Counts.{sat_add_of};
 ghost use Rattle.shared.specs.Counts as counts;
@@ -10,7 +12,7 @@ ghost use Rattle.shared.specs.Params.{fsk_min_of, refine_at_of};
 // ---- what the lane shares
 
 // mode: 0 OOK, 1 FSK, 2 Auto. carry: 1 where widths are taken by boundaries.
-#[derive(Drop)]
+#[derive(Clone, Copy)]
 pub struct Settings {
     pub mode: u32,
     pub min_steps: u32,
@@ -26,7 +28,7 @@ pub struct Settings {
 }
 
 // What a call asks for: to stay, to be idle, or to be idle at an envelope.
-#[derive(Drop)]
+#[derive(Clone, Copy)]
 pub enum Next {
     Stay,
     Idle,
@@ -34,7 +36,7 @@ pub enum Next {
 }
 
 // A record's carrier: an angle, or the two sums whose angle it is, real first.
-#[derive(Drop)]
+#[derive(Clone, Copy)]
 pub enum Carrier {
     Angle(f32),
     Vector(f32, f32),
@@ -42,7 +44,7 @@ pub enum Carrier {
 
 // The record of a train or a frame; state is 1 where it decides one, cut is 0 or 1, fsk is its kind. The serial
 // is that of the call that returned it; 0, in a record of no call, matches no lane.
-#[derive(Drop)]
+#[derive(Clone, Copy)]
 pub struct Out {
     pub index: u64,
     pub end: u64,
@@ -56,14 +58,14 @@ pub struct Out {
 }
 
 // The same in the core: the carrier as a number and two floats, which fit between the numbers around them (`carrier_in`).
-#[derive(Drop)]
+#[derive(Clone, Copy)]
 pub struct Flat {
     pub kind: u32,
     pub first: f32,
     pub second: f32,
 }
 
-#[derive(Drop)]
+#[derive(Clone, Copy)]
 pub struct OutCore {
     pub index: u64,
     pub end: u64,

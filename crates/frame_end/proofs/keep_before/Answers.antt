@@ -1,0 +1,19 @@
+-- By its loop's law, what is left from here gives the whole.
+use Rattle.std.proofs.Common.{sym, ◌∙◌}
+use native.Mathlib.Numerals.{unary_clauses}
+use Rattle.frame_end.specs.Cut.{keep_before_of}
+use Rattle.frame_end.proofs.Cut.{kept_over, kept_next, kept_end}
+use Rattle.frame_end.proofs.keep_before.Goals as goal
+
+pub loop-k-init : goal.loop-k-init
+unfolding keep_before_of
+loop-k-init c = simp (unary_clauses, c.start_kept-s.ensures)
+
+pub returns-then-over : goal.returns-then-over
+returns-then-over c = sym (kept_over _ _ _ _ _ _ c.loop-k-test.true c.if-over.true) ∙ c.loop-k.invariant
+
+pub loop-k-preserved : goal.loop-k-preserved
+loop-k-preserved c = sym (kept_next _ _ _ _ _ _ _ _ _ c.loop-k-test.true c.if-over.false c.get-pulse.ensures c.gap_at-gap.ensures c.keep_next-s.ensures) ∙ c.loop-k.invariant
+
+pub returns : goal.returns
+returns c = sym (kept_end _ _ _ _ _ _ c.loop-k-test.false) ∙ c.loop-k.invariant

@@ -1,0 +1,15 @@
+use Rattle.fsk.specs.Resolve.{slice_thr_of}
+use Rattle.std.proofs.Common.{rules}
+use Rattle.fsk.proofs.slice_thr.Goals as goal
+
+pub midpoint-mid-requires : goal.midpoint-mid-requires
+unfolding slice_thr_of
+midpoint-mid-requires c = search rules
+
+pub returns-then-upper : goal.returns-then-upper
+unfolding slice_thr_of
+returns-then-upper c = simp (← c.midpoint-mid.ensures, c.if-upper.true)
+
+pub returns : goal.returns
+unfolding slice_thr_of
+returns c = simp (← c.midpoint-mid.ensures, c.if-upper.false)

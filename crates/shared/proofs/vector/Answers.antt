@@ -1,0 +1,7 @@
+use Rattle.std.proofs.Common.{refl}
+use Rattle.shared.specs.Core.{carrier_in}
+use Rattle.shared.proofs.vector.Goals as goal
+
+pub returns : goal.returns
+unfolding carrier_in
+returns c = refl
