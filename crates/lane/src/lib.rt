@@ -1,5 +1,7 @@
 // The lane by value: opening, begin, close, and the part of a buffer that a record names; its step is the crate `step`. Every value of every argument
 // ends with the reply of document 01 or with the first refusal that applies, lane and buffers then as they were.
+#![tactic(auto)]
+
 ghost use Rattle.std.specs.Prelude.{◌≡◌, true, ℕ, ◌≤◌, List};
 ghost use Rattle.lane.specs.Refusals.{opened_ok, lane_ok, history_ok, begin_floats_ok, step_floats_ok, follows_of, open_refusal, begin_refusal, close_refusal};
 ghost use Rattle.lane.specs.Idle.{no_out, no_run, no_runs, none_done, no_frame, no_env, no_train, no_pres, no_burst, no_lead, idle_lane};
@@ -20,7 +22,7 @@ use run::Run;
 use shared::{Carrier, Out, OutCore, Settings};
 
 // The seven envelopes before begin's, nearest first.
-#[derive(Drop)]
+#[derive(Clone, Copy)]
 pub struct History {
     pub e1: f32,
     pub e2: f32,
@@ -31,7 +33,7 @@ pub struct History {
     pub e7: f32,
 }
 
-#[derive(Drop)]
+#[derive(Clone, Copy)]
 pub struct BeginArgs {
     pub index: u64,
     pub factor: f32,
@@ -41,7 +43,7 @@ pub struct BeginArgs {
     pub history: History,
 }
 
-#[derive(Drop)]
+#[derive(Clone, Copy)]
 pub struct StepArgs {
     pub index: u64,
     pub noise: f32,
@@ -49,7 +51,7 @@ pub struct StepArgs {
     pub x: C32,
 }
 
-#[derive(Drop)]
+#[derive(Clone, Copy)]
 pub struct Lane {
     // 0 where it never had settings, 1 where it has.
     pub opened: u32,
@@ -67,7 +69,7 @@ pub struct Lane {
     pub serial: u64,
 }
 
-#[derive(Drop)]
+#[derive(Clone, Copy)]
 pub enum Reply {
     Refused(u32),
     Stay,
@@ -75,7 +77,7 @@ pub enum Reply {
     IdleAt(f32),
 }
 
-#[derive(Drop)]
+#[derive(Clone, Copy)]
 pub struct Answer {
     pub reply: Reply,
     pub lane: Lane,

@@ -1,4 +1,6 @@
 // The thin entry: a lane lent for change is copied out, stepped by value and stored back.
+#![tactic(auto)]
+
 ghost use Rattle.std.specs.Prelude.{◌≡◌};
 ghost use Rattle.lane.specs.Step.{stepped};
 ghost use Rattle.lent.specs.Lent.{answer_of};

@@ -1,4 +1,6 @@
 // The checks of document 01's refusals 3 to 8, over the parts of a lane and the arguments of a call.
+#![tactic(auto)]
+
 ghost use Rattle.std.specs.Prelude.{◌≡◌, ◌+◌, leb};
 ghost use Rattle.refusals.specs.Serial.{serial_ok, serial_left, serials_match};
 ghost use Rattle.refusals.specs.Domain.{within, between, settings_ok, unset_ok, factor_ok, envelope_ok, sample_ok, index_ok, room_ok};

@@ -83,10 +83,10 @@ core_of c phase last x n b serial =
     record { opened = c.opened; settings = c.settings; phase = phase; last = last; x_prev = x; lead_at = c.lead_at; lead_n = n; burst = b; serial = serial }
 
 -- the arrays where the ways of a branch meet
-module _ (es re im es₁ re₁ im₁ : List Float) (is-es : es ≡ es₁) (is-re : re ≡ re₁) (is-im : im ≡ im₁) where
+module _ (es re im es₁ re₁ im₁ : List Float) (is_es : es ≡ es₁) (is_re : re ≡ re₁) (is_im : im ≡ im₁) where
   meets : (ld : ℕ → Lead) (have : ℕ) → ((at : ℕ) → lead_in at have es₁ re₁ im₁ ≡ ld at) → (at : ℕ) → lead_in at have es re im ≡ ld at
   meets ld have h at =
-      ap (λ (x : List Float). lead_in at have x re im) is-es ∙ ap (λ (x : List Float). lead_in at have es₁ x im) is-re ∙ ap (λ (x : List Float). lead_in at have es₁ re₁ x) is-im ∙ h at
+      ap (λ (x : List Float). lead_in at have x re im) is_es ∙ ap (λ (x : List Float). lead_in at have es₁ x im) is_re ∙ ap (λ (x : List Float). lead_in at have es₁ re₁ x) is_im ∙ h at
 
 module _ (c : Core) (s : StepArgs) (es₀ re₀ im₀ ring₀ cs : List Float) (ook fsk : List ℕ) (k k₀ : ℕ) (num : k ≡ k₀) where
   pub core_refuses : eqb k 0 ≡ false → (answer_of (reply.Refused k) (joined_of c es₀ re₀ im₀ ring₀ cs), ook, fsk) ≡ stepped_by k₀ (joined_of c es₀ re₀ im₀ ring₀ cs) s ook fsk
@@ -101,10 +101,10 @@ module _ (c : Core) (s : StepArgs) (es₀ re₀ im₀ ring₀ cs : List Float) (
         → m ≡ core_of c c.phase s.index s.x have clear (c.serial + 1)
         → (answer_of reply.Stay (joined_of m es re im ring cs), ook, fsk) ≡ stepped_by k₀ (joined_of c es₀ re₀ im₀ ring₀ cs) s ook fsk
     unfolding stamp_of cleared_of
-    core_fills have len es₁ re₁ im₁ is-es is-re is-im leads adds₁ is-len short is_m =
-        let adds = meets es re im es₁ re₁ im₁ is-es is-re is-im (λ (at : ℕ). lead_add_of (lead_in at c.lead_n es₀ re₀ im₀) s.envelope s.x) have adds₁ in
+    core_fills have len es₁ re₁ im₁ is_es is_re is_im leads adds₁ is_len short is_m =
+        let adds = meets es re im es₁ re₁ im₁ is_es is_re is_im (λ (at : ℕ). lead_add_of (lead_in at c.lead_n es₀ re₀ im₀) s.envelope s.x) have adds₁ in
         let l : Lane = joined_of c es₀ re₀ im₀ ring₀ cs in
-        let less : ltb have (lead_len_of c.settings.min_steps) ≡ true = ap (ltb have) (sym is-len) ∙ short in
+        let less : ltb have (lead_len_of c.settings.min_steps) ≡ true = ap (ltb have) (sym is_len) ∙ short in
         let same : joined_of m es re im ring cs ≡ joined_of (core_of c 1 s.index s.x have clear (c.serial + 1)) es re im ring cs =
         ap (λ (x : Core). joined_of x es re im ring cs) is_m ∙ ap (λ (n : ℕ). joined_of (core_of c n s.index s.x have clear (c.serial + 1)) es re im ring cs) (eqb-true c.phase 1 leads) in
         ap (λ (x : Lane). (answer_of reply.Stay x, ook, fsk)) same
@@ -113,7 +113,7 @@ module _ (c : Core) (s : StepArgs) (es₀ re₀ im₀ ring₀ cs : List Float) (
 
     -- samples: the answer is that of the last
     module _ (w : SampledCore) (cs' : List Float) (ook' fsk' : List ℕ) (q : At) (leads : Bool) (n phase : ℕ) (answer : Reply)
-        (is_q : q ≡ at_call c.lead_at c.x_prev s) (is-phase : phase ≡ phase_of w.next) (is-answer : answer ≡ reply_of w.next)
+        (is_q : q ≡ at_call c.lead_at c.x_prev s) (is_phase : phase ≡ phase_of w.next) (is_answer : answer ≡ reply_of w.next)
         (gives : (whole_sampled cs' w, ook', fsk') ≡ samples_of c.settings (at_in_of leads q es re im) ring n (whole_burst cs m.burst) ook fsk) where
       abbrev Told : Type 0
       Told = (answer_of answer (joined_of (core_of m phase m.last m.x_prev m.lead_n w.burst m.serial) es re im ring cs'), ook', fsk') ≡ stepped_by k₀ (joined_of c es₀ re₀ im₀ ring₀ cs) s ook fsk
@@ -126,17 +126,17 @@ module _ (c : Core) (s : StepArgs) (es₀ re₀ im₀ ring₀ cs : List Float) (
 
       core_burst : InBurst
       unfolding stamp_of cleared_of
-      core_burst in_burst is-leads is-n is-es is-re is-im is_m =
+      core_burst in_burst is_leads is-n is_es is_re is_im is_m =
           let l : Lane = joined_of c es₀ re₀ im₀ ring₀ cs in
           let b : Burst = whole_burst cs clear in
           let one : (whole_sampled cs' w, ook', fsk') ≡ sample_of c.settings (at_call c.lead_at c.x_prev s) ring b ook fsk =
           gives
-          ∙ ap (λ (t : Bool). samples_of c.settings (at_in_of t q es re im) ring n (whole_burst cs m.burst) ook fsk) is-leads
+          ∙ ap (λ (t : Bool). samples_of c.settings (at_in_of t q es re im) ring n (whole_burst cs m.burst) ook fsk) is_leads
           ∙ ap (λ (j : ℕ). samples_of c.settings (at_in_of false q es re im) ring j (whole_burst cs m.burst) ook fsk) is-n
           ∙ samples_one c.settings q es re im ring (whole_burst cs m.burst) ook fsk
           ∙ ap (λ (a : At). sample_of c.settings a ring (whole_burst cs m.burst) ook fsk) is_q
           ∙ ap (λ (x : Core). sample_of c.settings (at_call c.lead_at c.x_prev s) ring (whole_burst cs x.burst) ook fsk) is_m in
-          simp (is_m, is-answer, is-phase, is-es, is-re, is-im)
+          simp (is_m, is_answer, is_phase, is_es, is_re, is_im)
           (step_burst l s k ook fsk ring ok put b (whole_sampled cs' w) ook' fsk' in_burst (clears cs) one
           ∙ ap (λ (j : ℕ). stepped_by j l s ook fsk) num)
 
@@ -151,28 +151,28 @@ module _ (c : Core) (s : StepArgs) (es₀ re₀ im₀ ring₀ cs : List Float) (
 
       core_replays : InLead
       unfolding stamp_of cleared_of
-      core_replays have len first es₁ re₁ im₁ is-es is-re is-im in_lead is-leads adds₁ alike₁ is-len full is-n begins is_m =
-          let adds = meets es re im es₁ re₁ im₁ is-es is-re is-im (λ (at : ℕ). lead_add_of (lead_in at c.lead_n es₀ re₀ im₀) s.envelope s.x) have adds₁ in
-          let alike : length re ≡ length im = ap (λ (x : List Float). length x) is-re ∙ alike₁ ∙ sym (ap (λ (x : List Float). length x) is-im) in
+      core_replays have len first es₁ re₁ im₁ is_es is_re is_im in_lead is_leads adds₁ alike₁ is_len full is-n begins is_m =
+          let adds = meets es re im es₁ re₁ im₁ is_es is_re is_im (λ (at : ℕ). lead_add_of (lead_in at c.lead_n es₀ re₀ im₀) s.envelope s.x) have adds₁ in
+          let alike : length re ≡ length im = ap (λ (x : List Float). length x) is_re ∙ alike₁ ∙ sym (ap (λ (x : List Float). length x) is_im) in
           let l : Lane = joined_of c es₀ re₀ im₀ ring₀ cs in
           let ld : Lead = lead_in c.lead_at have es re im in
           let a : At = at_call c.lead_at c.x_prev s in
           let t : Float = of_int binary64 (pos c.lead_at) in
-          let n_len : n ≡ lead_len_of c.settings.min_steps = is-n ∙ is-len in
-          let more : ltb have (lead_len_of c.settings.min_steps) ≡ false = ap (ltb have) (sym is-len) ∙ full in
+          let n_len : n ≡ lead_len_of c.settings.min_steps = is-n ∙ is_len in
+          let more : ltb have (lead_len_of c.settings.min_steps) ≡ false = ap (ltb have) (sym is_len) ∙ full in
           let begun : whole_burst cs first ≡ begin_burst_of (largest_of es (lead_len_of c.settings.min_steps)) t (get_or es 0 nan) (cleared_of (whole_burst cs c.burst)) =
           begins cs
-          ∙ ap (λ (x : List Float). begin_burst_of (largest_of x len) t (get_or x 0 nan) (whole_burst cs clear)) (sym is-es)
-          ∙ ap (λ (j : ℕ). begin_burst_of (largest_of es j) t (get_or es 0 nan) (whole_burst cs clear)) is-len
+          ∙ ap (λ (x : List Float). begin_burst_of (largest_of x len) t (get_or x 0 nan) (whole_burst cs clear)) (sym is_es)
+          ∙ ap (λ (j : ℕ). begin_burst_of (largest_of es j) t (get_or es 0 nan) (whole_burst cs clear)) is_len
           ∙ ap (begin_burst_of (largest_of es (lead_len_of c.settings.min_steps)) t (get_or es 0 nan)) (clears cs) in
           let replayed : (whole_sampled cs' w, ook', fsk') ≡ replay_from c.settings s.noise ring ld (lead_len_of c.settings.min_steps) 0 (staying (whole_burst cs first) ook fsk) =
           gives
-          ∙ ap (λ (x : Bool). samples_of c.settings (at_in_of x q es re im) ring n (whole_burst cs m.burst) ook fsk) is-leads
+          ∙ ap (λ (x : Bool). samples_of c.settings (at_in_of x q es re im) ring n (whole_burst cs m.burst) ook fsk) is_leads
           ∙ ap (λ (x : At). samples_of c.settings (at_in_of true x es re im) ring n (whole_burst cs m.burst) ook fsk) is_q
           ∙ ap (λ (x : Core). samples_of c.settings (at_in_of true a es re im) ring n (whole_burst cs x.burst) ook fsk) is_m
           ∙ samples_replay c.settings a es re im ring have alike n 0 (staying (whole_burst cs first) ook fsk)
           ∙ ap (λ (j : ℕ). replay_from c.settings s.noise ring ld j 0 (staying (whole_burst cs first) ook fsk)) n_len in
-          simp (is_m, is-answer, is-phase)
+          simp (is_m, is_answer, is_phase)
           (step_replays l s k ook fsk ring ok put ld in_lead (adds c.lead_at) (whole_burst cs first) (whole_sampled cs' w) ook' fsk' more begun replayed
           ∙ ap (λ (j : ℕ). stepped_by j l s ook fsk) num)
 

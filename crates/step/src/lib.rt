@@ -1,5 +1,7 @@
 // A step of the lane: one sample of the lead-in or of the burst. It is made on the lane's core, which is the lane but for its arrays,
 // with the arrays lent: `step_core` for a program that keeps both, `step` for a caller that hands over the lane by value.
+#![tactic(auto)]
+
 ghost use Rattle.std.specs.Prelude.{◌≡◌, true, ℕ, ◌≤◌, List, Float, pos, length, get_or, eqb};
 ghost use Rattle.lane.specs.Answers.{reply_of, phase_of, answer_of};
 ghost use Rattle.lane.specs.Refusals.{step_refusal_by};
@@ -70,7 +72,7 @@ fn reply_of(n: Next) -> Reply
 
 // The lead-in's envelopes and samples, the ring and the candidates stand beside it: es, re and im, ring, cs. The serial is
 // that of both records too.
-#[derive(Drop)]
+#[derive(Clone, Copy)]
 pub struct Core {
     pub opened: u32,
     pub settings: Settings,
@@ -83,7 +85,7 @@ pub struct Core {
     pub serial: u64,
 }
 
-#[derive(Drop)]
+#[derive(Clone, Copy)]
 pub struct CoreAnswer {
     pub reply: Reply,
     pub core: Core,

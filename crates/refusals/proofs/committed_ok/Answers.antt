@@ -1,0 +1,4 @@
+use Rattle.refusals.proofs.committed_ok.Goals as goal
+
+pub returns : goal.returns
+returns c = simp (← c.sum_within.ensures)

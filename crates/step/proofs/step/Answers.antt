@@ -1,0 +1,123 @@
+-- Where no refusal applies the lane is split into core and arrays, which join to it again, its records with
+-- the lane's serial (`core_of`). `step_core` gives the step of the joined lane, and that is the lane's own, since an accepted step reads no
+-- record (`reads_none`).
+use Prim.Native.Nat.{ℕ, ◌≤◌}
+use mathlib.Core.Bool.{Bool, true, false, not, ◌&&◌}
+use mathlib.Core.Path.{◌≡◌, refl, ap, sym, subst, ◌∙◌}
+use mathlib.Core.List.{List}
+use native.Mathlib.Omega.{arith}
+use borrow.Author.Tests.{eqb-true, ne_eqb, leb-true}
+use lib.ListN.{length}
+use lib.Dec.{eqb}
+use lib.Ieee.{Float}
+use Rattle.arith.specs.Leaves.{lead_len_of}
+use Rattle.domain.specs.Limits.{max_serial}
+use Rattle.refusals.proofs.Domain.{InDomain, settings_tell}
+use Rattle.refusals.specs.Domain.{index_ok, room_ok}
+use Rattle.refusals.proofs.Order.{none_failed}
+use Rattle.step.specs.declared.Core.{Core}
+use Rattle.lane.specs.declared.StepArgs.{StepArgs}
+use Rattle.lane.specs.declared.Lane.{Lane}
+use Rattle.lane.specs.declared.Reply.{Reply}
+use Rattle.lane.specs.declared.Reply.TheVariants as reply
+use Rattle.lane.proofs.Refusals.{opened_tells, lane_passes}
+use Rattle.lane.specs.Refusals.{lane_ok, follows_of, step_floats_ok, step_refusal_by, step_refusal}
+use Rattle.lane.specs.Begin.{cleared_of}
+use Rattle.lane.specs.Advance.{settle_of, fill_of, replay_step, lead_step, burst_step, advance_of}
+use Rattle.lane.specs.Serial.{stamp_of}
+use Rattle.lane.specs.Step.{stepped_by, stepped}
+use Rattle.step.specs.Core.{zip_of, reals_of, imaginaries_of, joined_of}
+use Rattle.lane.specs.Answers.{answer_of}
+use Rattle.step.proofs.Zips.{zip_parts}
+use Rattle.step.proofs.step.Goals as goal
+
+not_idle : (a b : Bool) → b ≡ false → (a && b) ≡ false
+not_idle true b h = h
+not_idle false b h = refl
+
+-- a sound lane in its lead has settings, so that a lead-in has samples
+lead_some : (l : Lane) → lane_ok l ≡ true → eqb l.phase 1 ≡ true → 1 ≤ lead_len_of l.settings.min_steps
+lead_some l h e =
+    let busy : eqb l.phase 0 ≡ false = ne_eqb l.phase 0 (λ z. omega (arith, z, eqb-true l.phase 1 e)) in
+    let d : InDomain l.settings = settings_tell l.settings (opened_tells l.opened l.phase l.settings (lane_passes l h).had (not_idle (eqb l.opened 0) (eqb l.phase 0) busy)) in
+    omega (arith, d.min_steps.0)
+
+-- core and arrays join to the lane, its records with the lane's serial
+abbrev Joins : Lane → Core → Type 0
+Joins l c = (re im : List Float) → zip_of re im ≡ l.lead.lead_x → joined_of c l.lead.lead_e re im l.ring l.burst.frame.cand.cand_f ≡ stamp_of l.serial l
+
+joined_core : (l : Lane) (c : Core) → Joins l c → joined_of c l.lead.lead_e (reals_of l.lead.lead_x) (imaginaries_of l.lead.lead_x) l.ring l.burst.frame.cand.cand_f ≡ stamp_of l.serial l
+joined_core l c parts = parts (reals_of l.lead.lead_x) (imaginaries_of l.lead.lead_x) (zip_parts l.lead.lead_x)
+
+lead_core : (l : Lane) (c : Core) → lane_ok l ≡ true → Joins l c → eqb c.phase 1 ≡ true → 1 ≤ lead_len_of c.settings.min_steps
+unfolding stamp_of
+lead_core l c holds parts =
+    subst (λ (x : Lane). eqb x.phase 1 ≡ true → 1 ≤ lead_len_of x.settings.min_steps) (sym (joined_core l c parts)) (lead_some l holds)
+
+serial_core : (l : Lane) (c : Core) → lane_ok l ≡ true → Joins l c → c.serial ≤ max_serial
+unfolding stamp_of
+serial_core l c holds parts =
+    subst (λ (x : Lane). x.serial ≤ max_serial) (sym (joined_core l c parts)) (leb-true l.serial max_serial (lane_passes l holds).counted)
+
+-- an accepted step reads no record
+reads_none : (l : Lane) (s : StepArgs) (ook fsk : List ℕ) → stepped_by 0 (stamp_of l.serial l) s ook fsk ≡ stepped_by 0 l s ook fsk
+unfolding stamp_of advance_of lead_step fill_of replay_step burst_step settle_of cleared_of
+reads_none l s ook fsk = refl
+
+module _ (l : Lane) (s : StepArgs) (ook fsk : List ℕ) (sound : Bool) (k : ℕ) (asked : sound ≡ lane_ok l)
+    (num : k ≡ step_refusal_by sound l.settings l.phase l.last s (length ook) (length fsk)) where
+  refusal_is : k ≡ step_refusal l s (length ook) (length fsk)
+  unfolding step_refusal
+  refusal_is = num ∙ ap (λ (b : Bool). step_refusal_by b l.settings l.phase l.last s (length ook) (length fsk)) asked
+
+  step_refused : eqb k 0 ≡ false → (answer_of (reply.Refused k) l, ook, fsk) ≡ stepped l s ook fsk
+  unfolding stepped
+  step_refused h = simp (← refusal_is, h)
+
+  module _ (ok : eqb k 0 ≡ true) where
+    passes : sound ≡ true
+    passes = (none_failed true sound (not (eqb l.phase 0)) true (index_ok s.index && follows_of l.last s.index) (step_floats_ok s) (room_ok l.settings (length ook) (length fsk)) (sym num ∙ eqb-true k 0 ok)).lane_ok
+
+    holds : lane_ok l ≡ true
+    holds = sym asked ∙ passes
+
+    none : step_refusal_by true l.settings l.phase l.last s (length ook) (length fsk) ≡ 0
+    none = ap (λ (b : Bool). step_refusal_by b l.settings l.phase l.last s (length ook) (length fsk)) (sym passes) ∙ sym num ∙ eqb-true k 0 ok
+
+    step_by_core : (c : Core) (es re im : List Float) (r : Reply) (lane whole : Lane) (ook' fsk' : List ℕ) → Joins l c
+        → es ≡ l.lead.lead_e → re ≡ reals_of l.lead.lead_x → im ≡ imaginaries_of l.lead.lead_x → lane ≡ whole
+        → (answer_of r whole, ook', fsk') ≡ stepped_by (step_refusal_by true c.settings c.phase c.last s (length ook) (length fsk)) (joined_of c es re im l.ring l.burst.frame.cand.cand_f) s ook fsk
+        → (answer_of r lane, ook', fsk') ≡ stepped l s ook fsk
+    unfolding stepped stamp_of
+    step_by_core c es re im r lane whole ook' fsk' parts is-es is-re is-im is_lane gives =
+        let zips : zip_of re im ≡ l.lead.lead_x =
+        ap (λ (x : List Float). zip_of x im) is-re ∙ ap (zip_of (reals_of l.lead.lead_x)) is-im ∙ zip_parts l.lead.lead_x in
+        ap (λ (x : Lane). (answer_of r x, ook', fsk')) is_lane
+        ∙ gives
+        ∙ ap (λ (x : List Float). stepped_by (step_refusal_by true c.settings c.phase c.last s (length ook) (length fsk)) (joined_of c x re im l.ring l.burst.frame.cand.cand_f) s ook fsk) is-es
+        ∙ ap (λ (x : Lane). stepped_by (step_refusal_by true x.settings x.phase x.last s (length ook) (length fsk)) x s ook fsk) (parts re im zips)
+        ∙ ap (λ (j : ℕ). stepped_by j (stamp_of l.serial l) s ook fsk) none
+        ∙ reads_none l s ook fsk
+        ∙ ap (λ (j : ℕ). stepped_by j l s ook fsk) (sym (eqb-true k 0 ok) ∙ refusal_is)
+
+pub step_core-a-requires : goal.step_core-a-requires
+step_core-a-requires c =
+    let args = c.args in
+    let fine = holds args.l args.s args.ook.now args.fsk.now _ _ c.lane_ok-sound.ensures c.step_refusal-k.ensures c.if-ok.true-raw in (
+      c.envelopes-es.ensures.1,
+      c.reals-re.ensures.1,
+      c.imaginaries-im.ensures.1,
+      lead_core args.l c.core_of-c.result fine c.core_of-c.ensures,
+      serial_core args.l c.core_of-c.result fine c.core_of-c.ensures,
+    )
+
+pub returns-then-ok : goal.returns-then-ok
+returns-then-ok c =
+    let args = c.args in
+    step_by_core args.l args.s args.ook.now args.fsk.now c.lane_ok-sound.result _ c.lane_ok-sound.ensures c.step_refusal-k.ensures c.if-ok.true-raw
+    c.core_of-c.result c.envelopes-es.result c.reals-re.result c.imaginaries-im.result _ _ _ _ _
+    c.core_of-c.ensures c.envelopes-es.ensures.0 c.reals-re.ensures.0 c.imaginaries-im.ensures.0
+    c.joined-lane.ensures c.step_core-a.ensures.0
+
+pub returns : goal.returns
+returns c = step_refused c.args.l c.args.s _ _ _ _ c.lane_ok-sound.ensures c.step_refusal-k.ensures c.if-ok.false-raw
