@@ -6,7 +6,7 @@ use Rattle.arith.specs.Carry.{width_by, carried_at, bound_of}
 use Rattle.ieee.specs.Rounding.{round_of, narrow_of}
 use Rattle.root.specs.Root.{sqrt_of, exact_of, round_exact, whole_root}
 use Rattle.shared.specs.Counts.{sat_add_of, inc}
-use Rattle.run.specs.Run.{edge_at, begins_of, lengthen_of, rejoin_of, begin_run_of, moved_of, due_of, start_run_of}
+use Rattle.run.specs.Run.{begins_of, lengthen_of, rejoin_of, begin_run_of, moved_of, due_of, start_run_of}
 use Rattle.ook.specs.Run.{advance_of, pac_run_of, begin_env_of}
 use Rattle.ook.specs.Refine.{refine_level_of, refine_lo_of, excess_of, split_from, refine_in_of, refine_of}
 use Rattle.ook.specs.Train.{push_pulse_of, close_gap_of, empty_train_of, finish_of, end_train_of, pulse_done_of, gap_ratio_exceeded_of}

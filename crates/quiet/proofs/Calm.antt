@@ -36,7 +36,7 @@ use Rattle.burst.specs.declared.Sampled.{Sampled}
 use Rattle.burst.specs.Sample.{snap_if_of, absence_of, last_of, present_of, rest_of, sample_of}
 use Rattle.burst.specs.Lead.{begin_burst_of, lead_at_of, staying, replay_from}
 use Rattle.burst.proofs.LeadLaws.{replay_stop}
-use Rattle.pulses.specs.Runs.{Sample, sample}
+use Rattle.pulses.specs.Runs.{Sample}
 use Rattle.pulses.specs.Yardstick.{levelled, replayed}
 use Rattle.pulses.proofs.Flags.{clash}
 use Rattle.pulses.proofs.BurstState as state

@@ -1,5 +1,5 @@
 -- A sample of a burst, and the burst's beginning, stay within refusal 4's limits: from a burst under way each sample leads to one, or the burst ends.
-use Prim.Native.Nat.{ℕ, ◌-◌, ◌^◌, ◌<◌, ◌≤◌}
+use Prim.Native.Nat.{ℕ, ◌^◌, ◌<◌, ◌≤◌}
 use mathlib.Core.Bool.{Bool, true, false}
 use mathlib.Core.Path.{◌≡◌}
 use mathlib.Core.List.{List}

@@ -1,5 +1,5 @@
 -- The frame's stages stay within refusal 4's limits: flags stay 0 or 1, pairs plus open at most max_pulses, and a commit counts at most one run.
-use Prim.Native.Nat.{ℕ, ◌+◌, ◌-◌, ◌<◌, ◌≤◌}
+use Prim.Native.Nat.{ℕ, ◌+◌, ◌<◌, ◌≤◌}
 use mathlib.Core.Bool.{Bool, not}
 use mathlib.Core.List.{List}
 use native.Mathlib.Omega.{arith}

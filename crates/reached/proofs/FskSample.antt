@@ -1,5 +1,5 @@
 -- A sample of the slicer stays within refusal 4's limits: fsk_cnt grows by at most 1, and fsk_runs by at most 2.
-use Prim.Native.Nat.{ℕ, max, ◌+◌, ◌<◌, ◌≤◌}
+use Prim.Native.Nat.{ℕ, ◌+◌, ◌<◌, ◌≤◌}
 use mathlib.Core.Path.{◌≡◌, refl}
 use mathlib.Core.List.{List}
 use native.Mathlib.Omega.{arith}

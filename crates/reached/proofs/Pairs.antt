@@ -5,7 +5,7 @@ use mathlib.Core.Bool.{Bool, true, not}
 use mathlib.Core.Path.{◌≡◌}
 use mathlib.Core.List.{List}
 use native.Mathlib.Omega.{arith}
-use lib.Dec.{ltb, leb, eqb}
+use lib.Dec.{ltb, eqb}
 use lib.IntN.{pos}
 use lib.Ieee.{Float, lt, add, sub, binary64, of_int}
 use Rattle.arith.specs.declared.C32.{C32}
@@ -18,7 +18,7 @@ use Rattle.ook.proofs.Limits.{empty_within, begin_env_within}
 use Rattle.ook.specs.Limits.{EnvWithin, TrainWithin, OutWithin}
 use Rattle.shared.specs.declared.Settings.{Settings}
 use Rattle.shared.specs.declared.Out.{Out}
-use Rattle.fsk.specs.RunStep.{lengthen_of, confirm_of, confirm_due_of, move_runs_of, fsk_run_step_of}
+use Rattle.fsk.specs.RunStep.{confirm_of, confirm_due_of, move_runs_of, fsk_run_step_of}
 use Rattle.run.specs.Run.{due_of}
 use Rattle.run.specs.declared.Run.{Run}
 use Rattle.fsk.specs.Resolve.{begin_frame_of, is_early_of, open_runs_of, turn_at_of, slice_thr_of, hi_lo_of, settle_of, fsk_resolve_of}

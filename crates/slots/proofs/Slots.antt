@@ -1,7 +1,7 @@
 -- One edge more is one slot more: the width from the last edge and its boundary on. And what stands at the head of a buffer while slots are written after it.
 use mathlib.Core.Path.{◌≡◌, refl, sym, ap, ◌∙◌}
 use mathlib.Core.List.{List, [], ◌∷◌, ◌++◌, append_assoc}
-use Prim.Native.Nat.{ℕ, suc, ◌+◌, ◌<◌}
+use Prim.Native.Nat.{ℕ, suc, ◌<◌}
 use native.Mathlib.Omega.{arith}
 use lib.ListN.{length, length-append, set, take}
 use lib.Ieee.{Float}

@@ -1,7 +1,7 @@
 -- Where no width is stopped, each is the difference of two neighbouring rounded boundaries: their sum telescopes.
 use mathlib.Core.Path.{◌≡◌, ap}
 use mathlib.Core.List.{List, [], ◌∷◌}
-use Prim.Native.Nat.{ℕ, ◌+◌, ◌-◌, ◌≤◌}
+use Prim.Native.Nat.{ℕ, ◌+◌, ◌≤◌}
 use native.Mathlib.Omega.{arith}
 use lib.Ieee.{Float}
 use Rattle.arith.specs.Carry.{bound_of, rounded_of, carried_at, width_by}
