@@ -7,14 +7,14 @@ use mathlib.Core.List.{List, [], ◌∷◌, ◌++◌}
 use native.Mathlib.Omega.{arith}
 use native.Mathlib.Nat.{not-suc-le-zero}
 use lib.ListN.{length, get_or, drop}
-use lib.Dec.{eqb, ltb}
+use lib.Dec.{eqb}
 use borrow.Author.Tests.{le-ltb}
 use Rattle.commands.specs.declared.Command.{Command}
 use Rattle.commands.specs.declared.Command.TheVariants.{End, Open, Begin, Step, Unknown, Short, Close}
 use Rattle.commands.specs.Command.{step_args_of, decoded, size_of, is_step_of}
 use Rattle.commands.specs.Stream.{whole}
 use Rattle.shared.proofs.Tests.{clash}
-use Rattle.commands.proofs.Stream.{decoded_more, is_end, a_step, some_there as some-decoded, size_fits as fits, step_there as step_in, long_front as front}
+use Rattle.commands.proofs.Stream.{decoded_more, is_end, a_step, some_there as some_decoded, size_fits as fits, step_there as step_in, long_front as front}
 use Rattle.addressed.specs.Addressed.{without_antenna, addressed_of, antenna_of, addressed_size}
 
 -- ---- the layout
@@ -55,8 +55,8 @@ lone F h Short = refl
 lone F h Close = h
 
 pub some_there : (b : ℕ) (o : List ℕ) → is_end (addressed_of (b ∷ o)) ≡ false
-some_there b [] = ap is_end (addressed_lone b) ∙ lone is_end refl (decoded (b ∷ [])) ∙ some-decoded b []
-some_there b (i ∷ o) = ap is_end (addressed_by b i o) ∙ some-decoded b o
+some_there b [] = ap is_end (addressed_lone b) ∙ lone is_end refl (decoded (b ∷ [])) ∙ some_decoded b []
+some_there b (i ∷ o) = ap is_end (addressed_by b i o) ∙ some_decoded b o
 
 -- ---- a command that lies in the bytes takes no more of them than there are
 

@@ -1,5 +1,7 @@
 // Commands of sixteen antennas, decoded from bytes: the antenna's number stands right after the
 // command byte (document 02, R-4).
+#![tactic(auto)]
+
 ghost use Rattle.std.specs.Prelude.{◌≡◌, true, ◌&&◌, ◌<◌, drop, eqb};
 ghost use Rattle.commands.specs.Command.{is_step_of};
 ghost use Rattle.commands.specs.declared.Command.TheVariants.{Step};

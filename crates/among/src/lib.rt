@@ -1,5 +1,7 @@
 // One lane of sixteen (document 02, R-4): the lane's own answers, and refusal 12 where begin finds
 // four others out of idle.
+#![tactic(auto)]
+
 ghost use Rattle.std.specs.Prelude.{◌≡◌, List, ℕ};
 ghost use Rattle.calls.specs.Turn.{Called};
 ghost use Rattle.among.specs.Among.{called_among, out_of, outs, no_antenna};

@@ -1,6 +1,6 @@
 -- The lane that core and arrays stand for, before a loop over steps, in it, and where the ways out of it meet.
 use Prim.Native.Nat.{ℕ, ◌≤◌}
-use mathlib.Core.Bool.{Bool, true, false}
+use mathlib.Core.Bool.{true}
 use mathlib.Core.Path.{◌≡◌, ap, sym, ◌∙◌, subst}
 use mathlib.Core.List.{List}
 use native.Mathlib.Omega.{arith}
@@ -29,9 +29,9 @@ pub joined_back : (l : Lane) (c : Core) (es re im : List Float) → Sound l
     → ((re im : List Float) → zip_of re im ≡ l.lead.lead_x → joined_of c l.lead.lead_e re im l.ring l.burst.frame.cand.cand_f ≡ stamp_of l.serial l)
     → es ≡ l.lead.lead_e → re ≡ reals_of l.lead.lead_x → im ≡ imaginaries_of l.lead.lead_x
     → joined_of c es re im l.ring l.burst.frame.cand.cand_f ≡ l
-joined_back l c es re im sound parts is-es is-re is-im =
-    ap (λ (x : List Float). joined_of c x re im l.ring l.burst.frame.cand.cand_f) is-es
-    ∙ parts re im (ap (λ (x : List Float). zip_of x im) is-re ∙ ap (zip_of (reals_of l.lead.lead_x)) is-im ∙ zip_parts l.lead.lead_x)
+joined_back l c es re im sound parts is_es is_re is_im =
+    ap (λ (x : List Float). joined_of c x re im l.ring l.burst.frame.cand.cand_f) is_es
+    ∙ parts re im (ap (λ (x : List Float). zip_of x im) is_re ∙ ap (zip_of (reals_of l.lead.lead_x)) is_im ∙ zip_parts l.lead.lead_x)
     ∙ own_records sound
 
 -- the lead-in of a sound lane has a place at least

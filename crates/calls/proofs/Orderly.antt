@@ -1,6 +1,6 @@
 -- The listing program is one over a stream: a command that is not waited for is decoded from a part as from the whole.
 use Prim.Native.Nat.{ℕ, ◌<◌}
-use mathlib.Core.Bool.{Bool, true, false}
+use mathlib.Core.Bool.{true, false}
 use mathlib.Core.Path.{◌≡◌, refl, sym, ◌∙◌, ap}
 use mathlib.Core.List.{List, [], ◌∷◌, ◌++◌}
 use native.Mathlib.Omega.{arith}
@@ -81,4 +81,4 @@ orderly =
 
 -- where a byte is, a command is there
 pub bytes_there : (s : List ℕ) (from : ℕ) (k : Command) → from < length s → k ≡ decoded (drop from s) → waits true k ≡ false
-bytes_there s from k inside is-k = ap (waits true) is-k ∙ some_left machine orderly s from inside
+bytes_there s from k inside is_k = ap (waits true) is_k ∙ some_left machine orderly s from inside

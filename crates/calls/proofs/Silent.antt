@@ -102,7 +102,7 @@ step_settings l a ook fsk = go (eqb (step_refusal l a (length ook) (length fsk))
 -- ---- one step more
 module _ {G : ℕ → Reply → State → Type 0} {p : State} {from used : ℕ} {r : Reply} {q : State} (a : StepArgs) (end : ℕ) (z : Reply) (n : State)
     (sound : Sound p.0) (so : Steps G p from used r q) (gives : (answer_of z n.0, n.1, n.2) ≡ core_step q.0 a q.1 q.2)
-    (is-ook : length n.1 ≡ length q.1) (is-fsk : length n.2 ≡ length q.2) where
+    (is_ook : length n.1 ≡ length q.1) (is_fsk : length n.2 ≡ length q.2) where
   pub gave : (answer_of z n.0, n.1, n.2) ≡ called q (Step a)
   gave = gives ∙ core_steps q a (steps_sound sound so)
 
@@ -112,5 +112,5 @@ module _ {G : ℕ → Reply → State → Type 0} {p : State} {from used : ℕ} 
   steps_more up quiet g =
       let k = steps_kept so in
       let e : n.0.settings ≡ q.0.settings = ap (λ (c : Called). c.0.lane.settings) gave ∙ step_settings q.0 a q.1 q.2 in
-      some up quiet (record { settings = e ∙ k.settings; ook = is-ook ∙ k.ook; fsk = is-fsk ∙ k.fsk })
+      some up quiet (record { settings = e ∙ k.settings; ook = is_ook ∙ k.ook; fsk = is_fsk ∙ k.fsk })
       (subst (λ (c : Called). Sound c.0.lane) (sym gave) (call_sound q (Step a) (steps_sound sound so))) g

@@ -1,8 +1,8 @@
 -- What is said of commands that were taken (`Took`), of one and of steps one after another, and of their lines (`Turn`).
 use Prim.Native.Nat.{ℕ, ◌+◌, ◌≤◌, ◌<◌}
-use mathlib.Core.Bool.{Bool, true, false, not}
+use mathlib.Core.Bool.{true, false, not}
 use mathlib.Core.Path.{◌≡◌, refl, ap, sym, ◌∙◌, subst}
-use mathlib.Core.List.{List, [], ◌++◌}
+use mathlib.Core.List.{List, []}
 use native.Mathlib.Omega.{arith}
 use lib.ListN.{length, take, drop, length-drop}
 use lib.Dec.{eqb}
@@ -29,15 +29,15 @@ use Rattle.calls.specs.Steps.{args_of, quiet_of, Took, Turn}
 use Rattle.calls.specs.Stream.{machine}
 use Rattle.calls.proofs.Laws.{there, shown_most, called_short}
 use Rattle.calls.proofs.Orderly.{orderly, step_settled}
-use Rattle.calls.proofs.Silent.{call_sound, Kept, kept_room, Steps, none, some, steps_sound, core_step, gave}
+use Rattle.calls.proofs.Silent.{call_sound, kept_room, Steps, none, some, steps_sound, core_step, gave}
 
 -- ---- a step among the commands
 
 pub called_step : (p : State) (k : Command) (a : StepArgs) → is_step_of k ≡ true → a ≡ args_of k → stepped p.0 a p.1 p.2 ≡ called p k
 unfolding called
-called_step p k a steps is-a =
+called_step p k a steps is_a =
     let e = (a_step k steps).is in
-    ap (called p) (ap Step is-a ∙ ap (λ (d : Command). Step (args_of d)) e ∙ sym e)
+    ap (called p) (ap Step is_a ∙ ap (λ (d : Command). Step (args_of d)) e ∙ sym e)
 
 -- the bytes of a step are there
 pub step_room : (s : List ℕ) (used : ℕ) (a : StepArgs) → Step a ≡ decoded (drop used s) → used + 25 ≤ length s
@@ -47,13 +47,13 @@ step_room s used a e = omega (arith, (step_there (drop used s) (ap is_step_of (s
 pub took_one : (p : State) (s : List ℕ) (from : ℕ) (k : Command) (used : ℕ) (r : Reply) (q : State) (size : ℕ) → from < length s → Sound p.0
     → k ≡ decoded (drop from s) → waits true k ≡ false → size ≡ size_of k → used ≡ from + size → (answer_of r q.0, q.1, q.2) ≡ called p k
     → length q.1 ≡ length p.1 → length q.2 ≡ length p.2 → Took p s from used r q
-took_one p s from k used r q size inside sound is-k ready is-size is-used is_c is-ook is-fsk =
+took_one p s from k used r q size inside sound is_k ready is_size is_used is_c is_ook is_fsk =
     record {
       sound = subst (λ (c : Called). Sound c.0.lane) (sym is_c) (call_sound p k sound);
-      shown = subst (λ (c : Called). Shown c (most_of p)) (sym is_c) (shown_most p k ready (ap (λ (c : Called). length c.1) (sym is_c) ∙ is-ook) (ap (λ (c : Called). length c.2) (sym is_c) ∙ is-fsk));
+      shown = subst (λ (c : Called). Shown c (most_of p)) (sym is_c) (shown_most p k ready (ap (λ (c : Called). length c.1) (sym is_c) ∙ is_ook) (ap (λ (c : Called). length c.2) (sym is_c) ∙ is_fsk));
       passes =
-          passed_one machine orderly p s from used _ _ (omega arith) (is-used ∙ ap (λ (n : ℕ). from + n) (is-size ∙ ap size_of is-k))
-          (ap called_text is_c ∙ sym (there k _ ready) ∙ ap (λ (d : Command). text_of d (called p d)) is-k) (ap next is_c ∙ ap (λ (d : Command). next (called p d)) is-k);
+          passed_one machine orderly p s from used _ _ (omega arith) (is_used ∙ ap (λ (n : ℕ). from + n) (is_size ∙ ap size_of is_k))
+          (ap called_text is_c ∙ sym (there k _ ready) ∙ ap (λ (d : Command). text_of d (called p d)) is_k) (ap next is_c ∙ ap (λ (d : Command). next (called p d)) is_k);
     }
 
 -- ---- steps one after another
@@ -75,10 +75,10 @@ StepsTaken p s from used r q = Steps (λ (u : ℕ) (z : Reply) (n : State). Took
 
 -- one step more
 module _ {p : State} {s : List ℕ} {from used : ℕ} {r : Reply} {q : State} (a : StepArgs) (end : ℕ) (z : Reply) (n : State) (sound : Sound p.0) (so : StepsTaken p s from used r q)
-    (inside : used < length s) (is-a : Step a ≡ decoded (drop used s)) (is-end : end ≡ used + 25)
-    (gives : (answer_of z n.0, n.1, n.2) ≡ core_step q.0 a q.1 q.2) (is-ook : length n.1 ≡ length q.1) (is-fsk : length n.2 ≡ length q.2) where
+    (inside : used < length s) (is_a : Step a ≡ decoded (drop used s)) (is_end : end ≡ used + 25)
+    (gives : (answer_of z n.0, n.1, n.2) ≡ core_step q.0 a q.1 q.2) (is_ook : length n.1 ≡ length q.1) (is_fsk : length n.2 ≡ length q.2) where
   one : Took q s used end z n
-  one = took_one q s used (Step a) end z n 25 inside (steps_sound sound so) is-a refl refl is-end (gave a end z n sound so gives is-ook is-fsk) is-ook is-fsk
+  one = took_one q s used (Step a) end z n 25 inside (steps_sound sound so) is_a refl refl is_end (gave a end z n sound so gives is_ook is_fsk) is_ook is_fsk
 
   pub step_on : Took p s from end z n
   step_on = go so
@@ -91,7 +91,7 @@ module _ {p : State} {s : List ℕ} {from used : ℕ} {r : Reply} {q : State} (a
             shown = subst (Shown (answer_of z n.0, n.1, n.2)) (kept_room keeps) one.shown;
             passes =
                 passed_then machine orderly p s from used _ q end _ n g.passes (silent r q.0 q.1 q.2 quiet) up
-                (λ t. step_settled (drop used s) t (ap is_step_of (sym is-a))) (omega (arith, is-end)) one.passes;
+                (λ t. step_settled (drop used s) t (ap is_step_of (sym is_a))) (omega (arith, is_end)) one.passes;
           }
 
 -- ---- commands with their lines
@@ -99,7 +99,7 @@ module _ {p : State} {s : List ℕ} {from used : ℕ} {r : Reply} {q : State} (a
 pub turn_made : (p : State) (s : List ℕ) (from at : ℕ) (x y : List ℕ) (used : ℕ) (r : Reply) (q : State) (z : Turned) → z.used ≡ used → Took p s from used r q → has_room (most_of p) (length x) at ≡ true
     → ◌≡◌ {A = ℕ × List ℕ} (z.at, y) (put (called_text (answer_of r q.0, q.1, q.2)) (at, x)) → Turn p s from at x z q y
 unfolding put
-turn_made p s from at x y used r q z is-used h room puts =
+turn_made p s from at x y used r q z is_used h room puts =
     let c : Called = (answer_of r q.0, q.1, q.2) in
     let w : List ℕ = called_text c in
     let is_at : z.at ≡ at + length w = ap (λ (e : ℕ × List ℕ). e.0) puts in
@@ -109,5 +109,5 @@ turn_made p s from at x y used r q z is-used h room puts =
       sound = h.sound;
       text = w;
       puts = ap (λ (e : ℕ × List ℕ). take e.0 e.1) puts ∙ stored x w at fits;
-      passes = subst (λ (n : ℕ). Passed machine p s from n w q) (sym is-used) h.passes;
+      passes = subst (λ (n : ℕ). Passed machine p s from n w q) (sym is_used) h.passes;
     }

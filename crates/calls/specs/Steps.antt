@@ -1,5 +1,5 @@
 -- What `calls::steps`, `calls::pass` and `calls::turn` say: commands of a stream, taken one after another, up to the first that prints.
-use Rattle.std.specs.Prelude.{ℕ, ◌≤◌, Bool, true, false, not, ◌&&◌, ◌≡◌, List, ◌++◌, length, take, eqb}
+use Rattle.std.specs.Prelude.{ℕ, ◌≤◌, Bool, false, not, ◌&&◌, ◌≡◌, List, ◌++◌, length, take, eqb}
 use Rattle.ieee.specs.Constants.{zero32}
 use Rattle.shared.specs.Counts.{zero_c32}
 use Rattle.lane.specs.declared.Reply.{Reply}

@@ -1,5 +1,5 @@
 -- What a command does, and the lines that it prints (document 01, "Commands").
-use Rattle.std.specs.Prelude.{ℕ, ◌+◌, ◌*◌, ◌≤◌, ◌-◌, Bool, true, false, cond, not, ◌≡◌, List, [], ◌++◌, length, take, ltb}
+use Rattle.std.specs.Prelude.{ℕ, ◌*◌, ◌≤◌, Bool, true, false, cond, not, List, [], ◌++◌, length, take, ltb}
 use Rattle.shared.specs.declared.Out.{Out}
 use Rattle.lane.specs.declared.Lane.{Lane}
 use Rattle.lane.specs.declared.Answer.{Answer}

@@ -1,5 +1,7 @@
 // The turns of the listing program: the command at a place of the bytes is decoded, the lane called
 // with both buffers lent, and the call's lines written; and the turns of a whole block of bytes.
+#![tactic(auto)]
+
 ghost use Rattle.std.specs.Prelude.{◌≡◌, true, false, List, ℕ, ◌≤◌, ◌<◌, length, drop};
 ghost use Rattle.commands.specs.Command.{decoded, is_step_of};
 ghost use Rattle.reached.specs.Reached.{Sound};
@@ -175,7 +177,7 @@ fn put_answer<'a>(
 // ---- commands of a stream
 
 // Where some commands lead: the place after them, and what the last of them answers.
-#[derive(Drop)]
+#[derive(Clone, Copy)]
 struct Past {
     lane: Lane,
     used: usize,
@@ -255,7 +257,7 @@ fn pass(l: Lane, k: Command, s: &[u8], from: usize, ook: &mut [u32], fsk: &mut [
     }
 }
 
-#[derive(Drop)]
+#[derive(Clone, Copy)]
 pub struct Turned {
     pub lane: Lane,
     // The place after the commands; the one before them where the stream ends.
@@ -291,7 +293,7 @@ fn turn(
 
 // ---- a block of bytes
 
-#[derive(Drop)]
+#[derive(Clone, Copy)]
 pub struct Ran {
     pub lane: Lane,
     // The bytes that the block's commands took.

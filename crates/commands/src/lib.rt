@@ -1,5 +1,7 @@
 // The commands of the listing program, decoded from bytes (document 01, "Commands", and its
 // refusals 1 and 2; document 02 has 04 and 05).
+#![tactic(auto)]
+
 ghost use Rattle.std.specs.Prelude.{◌≡◌, ◌∷◌, ◌+◌, ◌≤◌, ◌<◌, length, drop, true};
 ghost use Rattle.commands.specs.Command.{pair_at, history_of, settings_of, opening_of, begin_args_of, step_args_of, decoded, open_size, size_of, is_step_of};
 ghost use Rattle.commands.specs.declared.Command.TheVariants.{Step};
@@ -8,7 +10,7 @@ use arith::C32;
 use lane::{BeginArgs, History, StepArgs};
 use shared::Settings;
 
-#[derive(Drop)]
+#[derive(Clone, Copy)]
 pub enum Command {
     // Nothing is left.
     End,

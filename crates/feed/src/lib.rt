@@ -1,5 +1,7 @@
 // The bytes that a program has of its input, fed to the lane: the block of them, and what no command
 // has taken yet moved to the front, where the next bytes follow it.
+#![tactic(auto)]
+
 ghost use Rattle.std.specs.Prelude.{◌≤◌, ◌≡◌, length, take, drop};
 ghost use Rattle.reached.specs.Reached.{Sound};
 ghost use Rattle.stream.specs.Feeds.{Feeds};
@@ -22,7 +24,7 @@ pub fn shift(buf: &mut [u8], from: usize, end: usize) -> usize
     n
 }
 
-#[derive(Drop)]
+#[derive(Clone, Copy)]
 pub struct Fed {
     pub lane: Lane,
     // The bytes at the front of the buffer that no command has taken yet.

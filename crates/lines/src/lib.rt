@@ -1,4 +1,6 @@
 // The lines that the listing program prints (document 01, "Commands"), written into a lent buffer.
+#![tactic(auto)]
+
 ghost use Rattle.std.specs.Prelude.{◌≡◌, List, [], ◌∷◌, ◌++◌, ℕ, ◌+◌, ◌*◌, ◌≤◌, ◌<◌, length};
 ghost use Rattle.lines.specs.Line.{decimal, number, float, kind, carrier, widths, span_of, train_head, train_tail, train_line, record_line, idle_line, carrier_line, refused_line, call_text, train_room, larger_of, has_room, written_call, Put, Spelled};
 ghost use Rattle.lines.specs.Line.{glyph as Line·glyph};
@@ -8,7 +10,7 @@ use lane::Reply;
 use shared::{Carrier, Out};
 
 // The place after the lines, or that there was no room and nothing was written.
-#[derive(Drop)]
+#[derive(Clone, Copy)]
 pub enum Written {
     At(usize),
     NoRoom,

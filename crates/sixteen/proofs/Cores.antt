@@ -1,6 +1,6 @@
 -- The steps of an antenna as the loop of `sixteen::steps` has them: of any command that is such a step.
-use Prim.Native.Nat.{ℕ, ◌+◌, ◌<◌, ◌≤◌}
-use mathlib.Core.Bool.{Bool, true, false, ◌&&◌}
+use Prim.Native.Nat.{ℕ, ◌+◌, ◌<◌}
+use mathlib.Core.Bool.{Bool, true, ◌&&◌}
 use mathlib.Core.Path.{◌≡◌, refl, ap, sym, ◌∙◌, subst}
 use mathlib.Core.List.{List}
 use native.Mathlib.Omega.{arith}
@@ -49,14 +49,14 @@ step_of k s used i e h =
     (b.0, sym (eqb-true (antenna_of (drop used s)) i b.1))
 
 module _ {i : ℕ} {p : State} {s : List ℕ} {from used : ℕ} {r : Reply} {q : State} (b : StepArgs) (end : ℕ) (z : Reply) (n : State) (here : i < antennas) (sound : Sound p.0) (so : StepsFor i p s from used r q)
-    (inside : used < length s) (is_b : Step b ≡ addressed_of (drop used s)) (is-i : i ≡ antenna_of (drop used s)) (is-end : end ≡ used + 26)
-    (gives : (answer_of z n.0, n.1, n.2) ≡ core_step q.0 b q.1 q.2) (is-ook : length n.1 ≡ length q.1) (is-fsk : length n.2 ≡ length q.2) where
+    (inside : used < length s) (is_b : Step b ≡ addressed_of (drop used s)) (is_i : i ≡ antenna_of (drop used s)) (is_end : end ≡ used + 26)
+    (gives : (answer_of z n.0, n.1, n.2) ≡ core_step q.0 b q.1 q.2) (is_ook : length n.1 ≡ length q.1) (is_fsk : length n.2 ≡ length q.2) where
   -- one step more
   pub for_on : HeardFor i p s from end z n
-  for_on a is steps = step_on a p s from used r q b end z n (ap (λ (j : ℕ). ltb j antennas) is ∙ lt-ltb i antennas here) steps sound (so a is steps) inside is_b (is ∙ is-i) is-end gives is-ook is-fsk
+  for_on a is steps = step_on a p s from used r q b end z n (ap (λ (j : ℕ). ltb j antennas) is ∙ lt-ltb i antennas here) steps sound (so a is steps) inside is_b (is ∙ is_i) is_end gives is_ook is_fsk
 
   pub for_more : Quiet z n → StepsFor i p s from end z n
-  for_more quiet a is steps = steps_more b end z n sound (so a is steps) gives is-ook is-fsk (omega (arith, steps_onward (so a is steps), is-end)) quiet (for_on a is steps)
+  for_more quiet a is steps = steps_more b end z n sound (so a is steps) gives is_ook is_fsk (omega (arith, steps_onward (so a is steps), is_end)) quiet (for_on a is steps)
 
 -- of the lanes themselves
 pub of_lanes : {a : Asked} {l k m n : Lane} {s ook₀ fsk₀ ook fsk : List ℕ} {from used : ℕ} {r : Reply} → k ≡ l → n ≡ m

@@ -1,6 +1,6 @@
 -- The program of sixteen antennas is one over a stream: what stands at the front of the bytes is the same whatever comes after it, once it is not
 -- waited for.
-use Prim.Native.Nat.{ℕ, ◌+◌, ◌<◌, ◌≤◌}
+use Prim.Native.Nat.{ℕ, ◌+◌, ◌<◌}
 use mathlib.Core.Bool.{Bool, true, false, cond}
 use mathlib.Core.Path.{◌≡◌, refl, sym, ◌∙◌, ap}
 use mathlib.Core.List.{List, [], ◌∷◌, ◌++◌}
@@ -103,4 +103,4 @@ orderly =
 
 -- where a byte is, a command is there
 pub bytes_there : (s : List ℕ) (from : ℕ) (k : Command) → from < length s → k ≡ addressed_of (drop from s) → waits true k ≡ false
-bytes_there s from k inside is-k = ap (waits true) is-k ∙ some_left machine orderly s from inside
+bytes_there s from k inside is_k = ap (waits true) is_k ∙ some_left machine orderly s from inside

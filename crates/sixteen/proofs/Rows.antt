@@ -1,7 +1,7 @@
 -- One lane in its row among sixteen: what it is after another was put there, and that the number of the others stays.
-use Prim.Native.Nat.{ℕ, zero, suc, ◌+◌, ◌-◌, ◌<◌, ◌≤◌}
+use Prim.Native.Nat.{ℕ, zero, suc, ◌<◌}
 use mathlib.Core.Bool.{Bool, true, false, cond}
-use mathlib.Core.Path.{◌≡◌, refl, sym, ◌∙◌, ap}
+use mathlib.Core.Path.{◌≡◌, refl, ◌∙◌, ap}
 use mathlib.Core.List.{List, [], ◌∷◌}
 use native.Mathlib.Omega.{arith}
 use native.Mathlib.Nat.{not-suc-le-zero, le_of_suc-le-suc}
@@ -11,10 +11,10 @@ use lib.Dec.{ltb}
 use borrow.Author.Tests.{ltb-true}
 use Rattle.lane.specs.declared.Lane.{Lane}
 use Rattle.lane.specs.Step.{new_lane}
-use Rattle.reached.specs.Reached.{Sound, unopened}
+use Rattle.reached.specs.Reached.{Sound}
 use Rattle.calls.specs.Turn.{State}
-use Rattle.among.specs.Among.{antennas, Lanes, lane_at, put_at, out_of, outs, others_out, Sized}
-use Rattle.among.proofs.Laws.{outs_at, outs_set, any_default}
+use Rattle.among.specs.Among.{antennas, Lanes, lane_at, put_at, out_of, others_out, Sized}
+use Rattle.among.proofs.Laws.{outs_at, outs_set}
 use Rattle.sixteen.specs.Sixteen.{row_of}
 use Rattle.sixteen.specs.Spoken.{Among, AllSound}
 

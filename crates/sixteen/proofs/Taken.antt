@@ -3,15 +3,13 @@
 use Prim.Native.Nat.{ℕ, ◌+◌, ◌-◌, ◌≤◌, ◌<◌}
 use mathlib.Core.Bool.{Bool, true, false, not, cond, ◌&&◌}
 use mathlib.Core.Path.{◌≡◌, refl, ap, sym, ◌∙◌, subst}
-use mathlib.Core.List.{List, [], ◌∷◌, ◌++◌}
+use mathlib.Core.List.{List, []}
 use native.Mathlib.Omega.{arith}
 use lib.ListN.{length, take, drop, length-drop}
-use lib.Seq.{sets, drop-append-le}
 use lib.Dec.{eqb, ltb, leb}
 use borrow.Author.Tests.{ltb-true, ltb-false, not-true}
 use Rattle.shared.proofs.Tests.{both_true, clash}
 use Rattle.lane.specs.declared.Lane.{Lane}
-use Rattle.lane.specs.declared.Answer.{Answer}
 use Rattle.lane.specs.declared.Reply.{Reply}
 use Rattle.lane.specs.declared.Reply.TheVariants as reply
 use Rattle.lane.specs.declared.StepArgs.{StepArgs}
@@ -20,12 +18,12 @@ use Rattle.lane.specs.Step.{refuse}
 use Rattle.reached.specs.Reached.{Sound}
 use Rattle.commands.specs.declared.Command.{Command}
 use Rattle.commands.specs.declared.Command.TheVariants.{End, Open, Begin, Step, Unknown, Short, Close}
-use Rattle.commands.specs.Command.{size_of, is_step_of}
+use Rattle.commands.specs.Command.{is_step_of}
 use Rattle.commands.proofs.Stream.{a_step}
-use Rattle.lines.specs.Line.{call_text, record_line, train_room, call_room, has_room, put, Put}
+use Rattle.lines.specs.Line.{call_text, record_line, train_room, has_room, put, Put}
 use Rattle.lines.proofs.Room.{room_there}
 use Rattle.lines.proofs.Laws as lines
-use Rattle.calls.specs.Turn.{State, Called, unchanged, called, next, shown_of, record_text, waits, most_of}
+use Rattle.calls.specs.Turn.{State, Called, unchanged, called, next, shown_of, waits, most_of}
 use Rattle.calls.specs.Turn.{Shown}
 use Rattle.calls.proofs.Laws.{shown_most, too_few_left}
 use Rattle.calls.specs.Steps.{quiet_of}
@@ -34,17 +32,16 @@ use Rattle.calls.proofs.Silent.{Quiet, Kept, kept_room, Steps, none, some, steps
 use Rattle.addressed.specs.Addressed.{addressed_of, antenna_of, addressed_size}
 use Rattle.addressed.proofs.Laws.{size_fits, step_there}
 use Rattle.tagged.specs.Tagged.{tagged, tagged_text, tagged_room}
-use Rattle.among.specs.Among.{antennas, places, called_among, Lanes, lane_at, put_at, others_out, no_antenna, answer_to, after_call, Sized}
+use Rattle.among.specs.Among.{antennas, places, called_among, Lanes, lane_at, put_at, others_out, no_antenna, answer_to, after_call}
 use Rattle.among.specs.Settled.{is_begin_of, late_of, settled_of}
 use Rattle.among.proofs.Laws.{settled, among_sound}
-use Rattle.stream.specs.Machine.{Settled}
 use Rattle.stream.specs.Blocks.{Seen, Passed}
 use Rattle.stream.proofs.Taken.{stored, passed_one, passed_then}
 use Rattle.sixteen.specs.declared.Asked.{Asked}
 use Rattle.sixteen.specs.declared.Past.{Past}
 use Rattle.sixteen.specs.declared.Turned.{Turned}
 use Rattle.sixteen.specs.Sixteen.{heard_text, is_heard_of, none_text, spoken_text, row_of, machine}
-use Rattle.sixteen.specs.Spoken.{Among, one_of, Heard, spoken_room, has_tagged_room, Told, Spoken}
+use Rattle.sixteen.specs.Spoken.{Among, one_of, Heard, spoken_room, has_tagged_room, Told}
 use Rattle.sixteen.proofs.Rows.{put_own, put_again, among_after}
 use Rattle.sixteen.proofs.Orderly.{orderly, whole_settled}
 
@@ -166,12 +163,12 @@ pub heard_one : (a : Asked) (p : State) (s : List ℕ) (from : ℕ) (r : Past) (
     → a.command ≡ addressed_of (drop from s) → a.antenna ≡ antenna_of (drop from s) → waits true a.command ≡ false
     → size ≡ addressed_size a.command → r.used ≡ from + size → (answer_of r.reply q.0, q.1, q.2) ≡ one_of a p
     → length q.1 ≡ length p.1 → length q.2 ≡ length p.2 → Heard a p s from r q
-heard_one a p s from r q size inside sound is-k is-i ready is-size is-used is_c is-ook is-fsk =
+heard_one a p s from r q size inside sound is_k is_i ready is_size is_used is_c is_ook is_fsk =
     record {
-      onward = omega (arith, is-used);
+      onward = omega (arith, is_used);
       inside = omega (arith, e, size_fits (drop from s), length-drop from s);
       sound = subst (λ (c : Called). Sound c.0.lane) (sym is_c) (one_sound a p sound);
-      shown = subst (λ (c : Called). Shown c (most_of p)) (sym is_c) (one_shown a p ready (ap (λ (c : Called). length c.1) (sym is_c) ∙ is-ook) (ap (λ (c : Called). length c.2) (sym is_c) ∙ is-fsk));
+      shown = subst (λ (c : Called). Shown c (most_of p)) (sym is_c) (one_shown a p ready (ap (λ (c : Called). length c.1) (sym is_c) ∙ is_ook) (ap (λ (c : Called). length c.2) (sym is_c) ∙ is_fsk));
       passes = λ all A. passed_one machine orderly all s from r.used _ _ inside e (is_w all A) (is_q all A);
     }
   where
@@ -179,19 +176,19 @@ heard_one a p s from r q size inside sound is-k is-i ready is-size is-used is_c 
     u = drop from s
 
     e : r.used ≡ from + addressed_size (addressed_of u)
-    e = is-used ∙ ap (λ (n : ℕ). from + n) (is-size ∙ ap addressed_size is-k)
+    e = is_used ∙ ap (λ (n : ℕ). from + n) (is_size ∙ ap addressed_size is_k)
 
     is_w : (all : Lanes) → Among all a.antenna a.others p → spoken_text a.antenna a.command (answer_of r.reply q.0, q.1, q.2) ≡ spoken_text (antenna_of u) (addressed_of u) (answer_to all (antenna_of u) (addressed_of u))
     is_w all A =
         ap (spoken_text a.antenna a.command) is_c ∙ one_text a p all A
-        ∙ ap (λ (j : ℕ). spoken_text j a.command (answer_to all j a.command)) is-i
-        ∙ ap (λ (d : Command). spoken_text (antenna_of u) d (answer_to all (antenna_of u) d)) is-k
+        ∙ ap (λ (j : ℕ). spoken_text j a.command (answer_to all j a.command)) is_i
+        ∙ ap (λ (d : Command). spoken_text (antenna_of u) d (answer_to all (antenna_of u) d)) is_k
 
     is_q : (all : Lanes) → Among all a.antenna a.others p → put_at all (row_of a.antenna) q ≡ after_call all (antenna_of u) (addressed_of u)
     is_q all A =
         ap (λ (c : Called). put_at all (row_of a.antenna) (next c)) is_c ∙ one_after a p all A
-        ∙ ap (λ (j : ℕ). after_call all j a.command) is-i
-        ∙ ap (λ (d : Command). after_call all (antenna_of u) d) is-k
+        ∙ ap (λ (j : ℕ). after_call all j a.command) is_i
+        ∙ ap (λ (d : Command). after_call all (antenna_of u) d) is_k
 
 -- ---- steps one after another
 
@@ -223,8 +220,8 @@ step_room s used b e = omega (arith, step_there (drop used s) (ap is_step_of (sy
 
 module _ (a : Asked) (p : State) (s : List ℕ) (from used : ℕ) (r : Reply) (q : State) (b : StepArgs) (end : ℕ) (z : Reply) (n : State)
     (here : ltb a.antenna antennas ≡ true) (steps : is_step_of a.command ≡ true) (sound : Sound p.0) (so : StepsHeard a p s from used r q)
-    (inside : used < length s) (is_b : Step b ≡ addressed_of (drop used s)) (is-i : a.antenna ≡ antenna_of (drop used s)) (is-end : end ≡ used + 26)
-    (gives : (answer_of z n.0, n.1, n.2) ≡ core_step q.0 b q.1 q.2) (is-ook : length n.1 ≡ length q.1) (is-fsk : length n.2 ≡ length q.2) where
+    (inside : used < length s) (is_b : Step b ≡ addressed_of (drop used s)) (is_i : a.antenna ≡ antenna_of (drop used s)) (is_end : end ≡ used + 26)
+    (gives : (answer_of z n.0, n.1, n.2) ≡ core_step q.0 b q.1 q.2) (is_ook : length n.1 ≡ length q.1) (is_fsk : length n.2 ≡ length q.2) where
   abbrev asked : Asked
   asked = record { lane = q.0; others = a.others; antenna = a.antenna; command = Step b }
 
@@ -233,7 +230,7 @@ module _ (a : Asked) (p : State) (s : List ℕ) (from used : ℕ) (r : Reply) (q
   lone = simp here
 
   one : Heard asked q s used (past_of n.0 end z) n
-  one = heard_one asked q s used (past_of n.0 end z) n 26 (omega arith) (steps_sound sound so) is_b is-i refl refl is-end (gave b end z n sound so gives is-ook is-fsk ∙ lone) is-ook is-fsk
+  one = heard_one asked q s used (past_of n.0 end z) n 26 (omega arith) (steps_sound sound so) is_b is_i refl refl is_end (gave b end z n sound so gives is_ook is_fsk ∙ lone) is_ook is_fsk
 
   sees : (t : List ℕ) → Seen machine s used t
   sees t = whole_settled (drop used s) t (step_whole (addressed_of (drop used s)) (ap is_step_of (sym is_b)))
@@ -263,7 +260,7 @@ module _ (a : Asked) (p : State) (s : List ℕ) (from used : ℕ) (r : Reply) (q
       further : from < used → Quiet r q → Kept p q → Heard a p s from (past_of q.0 used r) q → Heard a p s from (past_of n.0 end z) n
       further up quiet keeps h =
           record {
-            onward = omega (arith, is-end);
+            onward = omega (arith, is_end);
             inside = one.inside;
             sound = one.sound;
             shown = subst (Shown c) (kept_room keeps) one.shown;
@@ -271,7 +268,7 @@ module _ (a : Asked) (p : State) (s : List ℕ) (from used : ℕ) (r : Reply) (q
                 subst (Passed machine all s from end (spoken_text a.antenna a.command c)) (put_again all (row_of a.antenna) q n)
                 (subst (λ (w : List ℕ). Passed machine all s from end w (put_at (put_at all (row_of a.antenna) q) (row_of a.antenna) n)) (same_lines c)
                 (passed_then machine orderly all s from used _ (put_at all (row_of a.antenna) q) end _ _ (h.passes all A)
-                (step_text a.antenna a.command _ steps ∙ silent a.antenna r q.0 q.1 q.2 quiet) up sees (omega (arith, is-end))
+                (step_text a.antenna a.command _ steps ∙ silent a.antenna r q.0 q.1 q.2 quiet) up sees (omega (arith, is_end))
                 (one.passes (put_at all (row_of a.antenna) q) (among_after all a.antenna a.others p q A))));
           }
 
@@ -293,9 +290,9 @@ shown_heard i (reply.IdleAt e) l ook fsk = refl
 pub heard_put : (i : ℕ) (r : Reply) (l : Lane) (ook fsk fs os : List ℕ) (at e : ℕ) (x y : List ℕ) → fs ≡ shown_of r l l.burst.out_fsk ook fsk → os ≡ shown_of r l l.burst.out_ook ook fsk
     → Put (tagged_text i r (record_line l.burst.out_fsk fs) (record_line l.burst.out_ook os) l.last) (train_room (length fs) + train_room (length os) + 48 + 63) at x e y
     → Put (heard_text i (answer_of r l, ook, fsk)) (spoken_room r l ook fsk) at x e y
-heard_put i r l ook fsk fs os at e x y is_f is-o puts =
+heard_put i r l ook fsk fs os at e x y is_f is_o puts =
     lines.same (shown_heard i r l ook fsk)
-    (subst (λ (v : List ℕ). Put (tagged_text i r (record_line l.burst.out_fsk (shown_of r l l.burst.out_fsk ook fsk)) (record_line l.burst.out_ook v) l.last) (train_room (length (shown_of r l l.burst.out_fsk ook fsk)) + train_room (length v) + 48 + 63) at x e y) is-o
+    (subst (λ (v : List ℕ). Put (tagged_text i r (record_line l.burst.out_fsk (shown_of r l l.burst.out_fsk ook fsk)) (record_line l.burst.out_ook v) l.last) (train_room (length (shown_of r l l.burst.out_fsk ook fsk)) + train_room (length v) + 48 + 63) at x e y) is_o
     (subst (λ (v : List ℕ). Put (tagged_text i r (record_line l.burst.out_fsk v) (record_line l.burst.out_ook os) l.last) (train_room (length v) + train_room (length os) + 48 + 63) at x e y) is_f puts))
 
 pub none_spoken : (i : ℕ) (k : Command) (c : Called) → is_heard_of k ≡ false → none_text k ≡ spoken_text i k c
@@ -336,15 +333,15 @@ pub turn_told : (a : Asked) (p : State) (s : List ℕ) (from at : ℕ) (x y : Li
     → Put (spoken_text a.antenna a.command (answer_of r.reply q.0, q.1, q.2)) (spoken_room r.reply q.0 q.1 q.2) at x z.at y
     → Told a p s from at x z q y
 unfolding put
-turn_told a p s from at x y r q z is-used h room puts =
+turn_told a p s from at x y r q z is_used h room puts =
     record {
-      onward = omega (arith, is-used, h.onward);
-      inside = omega (arith, is-used, h.inside);
+      onward = omega (arith, is_used, h.onward);
+      inside = omega (arith, is_used, h.inside);
       near = omega (arith, puts.near);
       sound = h.sound;
       text = w;
       puts = ap (λ (e : ℕ × List ℕ). take e.0 e.1) puts.text ∙ stored x w at (omega (arith, ap (λ (e : ℕ × List ℕ). e.0) puts.text, puts.near));
-      passes = λ all A. subst (λ (n : ℕ). Passed machine all s from n w (put_at all (row_of a.antenna) q)) (sym is-used) (h.passes all A);
+      passes = λ all A. subst (λ (n : ℕ). Passed machine all s from n w (put_at all (row_of a.antenna) q)) (sym is_used) (h.passes all A);
     }
   where
     w : List ℕ

@@ -11,7 +11,7 @@ use Rattle.lane.specs.Step.{new_lane}
 use Rattle.calls.specs.Turn.{State, waits, most_of}
 use Rattle.addressed.specs.Addressed.{addressed_of, antenna_of}
 use Rattle.tagged.specs.Tagged.{tagged_room}
-use Rattle.among.specs.Among.{antennas, Lanes, lane_at, put_at, out_of, outs, others_out, Sized}
+use Rattle.among.specs.Among.{Lanes, lane_at, put_at, out_of, outs, others_out, Sized}
 use Rattle.among.proofs.Laws.{any_default}
 use Rattle.stream.specs.Blocks.{Passed, Left, Streamed}
 use Rattle.stream.proofs.Running.{Running, full_there, goes_on, ends_there}
@@ -25,13 +25,13 @@ use Rattle.sixteen.proofs.Orderly.{orderly}
 -- the lane of the row, as the code has it, and the count kept beside the lanes
 pub asked_among : (all : Lanes) (i j : ℕ) (d : Lane) (w out : ℕ) → Sized all → j ≡ row_of i → w ≡ out_of (get_or all.0 j d) → out ≡ outs all.0
     → Among all i (out - w) (get_or all.0 j d, get_or all.1 j [], get_or all.2 j [])
-asked_among all i j d w out s is-j is_w is-out =
-    let there : j < length all.0 = omega (arith, row_in i, is-j, s.lanes) in
+asked_among all i j d w out s is_j is_w is_out =
+    let there : j < length all.0 = omega (arith, row_in i, is_j, s.lanes) in
     let same : get_or all.0 j new_lane ≡ get_or all.0 j d = any_default all.0 j new_lane d there in
     record {
       sized = s;
-      own = ap (lane_at all) (sym is-j) ∙ ap (λ (l : Lane). (l, get_or all.1 j [], get_or all.2 j [])) same;
-      count = ap (others_out all.0) (sym is-j) ∙ ap (λ (l : Lane). outs all.0 - out_of l) same ∙ ap (λ (n : ℕ). outs all.0 - n) (sym is_w) ∙ ap (λ (n : ℕ). n - w) (sym is-out);
+      own = ap (lane_at all) (sym is_j) ∙ ap (λ (l : Lane). (l, get_or all.1 j [], get_or all.2 j [])) same;
+      count = ap (others_out all.0) (sym is_j) ∙ ap (λ (l : Lane). outs all.0 - out_of l) same ∙ ap (λ (n : ℕ). outs all.0 - n) (sym is_w) ∙ ap (λ (n : ℕ). n - w) (sym is_out);
     }
 
 -- what a turn with room leaves: the block goes on, or it ends
@@ -42,7 +42,7 @@ pub record Moved (p₀ : Lanes) (s : List ℕ) (last : Bool) (from : ℕ) (z : T
   pub sound : AllSound q.0
 
 module _ {a : Asked} {j : ℕ} (ls : List Lane) {ook fsk : List (List ℕ)} {s : List ℕ} {from at : ℕ} {x : List ℕ} {z : Turned} {ook' fsk' : List (List ℕ)} {y : List ℕ}
-    (row : InRow a j ook fsk s from at x z ook' fsk' y) (is-j : j ≡ row_of a.antenna) (among : Among (ls, ook, fsk) a.antenna a.others (a.lane, get_or ook j [], get_or fsk j []))
+    (row : InRow a j ook fsk s from at x z ook' fsk' y) (is_j : j ≡ row_of a.antenna) (among : Among (ls, ook, fsk) a.antenna a.others (a.lane, get_or ook j [], get_or fsk j []))
     {p₀ : Lanes} {last : Bool} (h : Running machine p₀ s last from at (ls, ook, fsk) x) (ready : waits last (addressed_of (drop from s)) ≡ false) where
   sized_after : Sized (set ls j z.lane, ook', fsk')
   sized_after =
@@ -67,7 +67,7 @@ module _ {a : Asked} {j : ℕ} (ls : List Lane) {ook fsk : List (List ℕ)} {s :
 
       back : ◌≡◌ {A = Lanes} (put_at (ls, ook, fsk) (row_of a.antenna) (z.lane, row.ook_row, row.fsk_row)) (set ls j z.lane, ook', fsk')
       back =
-          ap (λ (n : ℕ). put_at (ls, ook, fsk) n (z.lane, row.ook_row, row.fsk_row)) (sym is-j)
+          ap (λ (n : ℕ). put_at (ls, ook, fsk) n (z.lane, row.ook_row, row.fsk_row)) (sym is_j)
           ∙ ap (λ (o : List (List ℕ)). (set ls j z.lane, o, set fsk j row.fsk_row)) (sym row.ook_set) ∙ ap (λ (o : List (List ℕ)). (set ls j z.lane, ook', o)) (sym row.fsk_set)
 
       passed : Passed machine (ls, ook, fsk) s from z.used told.text (set ls j z.lane, ook', fsk')
@@ -83,13 +83,13 @@ module _ {a : Asked} {j : ℕ} (ls : List Lane) {ook fsk : List (List ℕ)} {s :
         ap (λ (u : List (List ℕ)). (ls, u, fsk)) o ∙ ap (λ (u : List (List ℕ)). (ls, ook', u)) f
 
     too_few : a.antenna ≡ antenna_of (drop from s) → length x < at + machine.most (ls, ook, fsk) (drop from s)
-    too_few is-i =
-        subst (λ (i : ℕ). length x < at + tagged_room (most_of (lane_at (ls, ook, fsk) (row_of i)))) is-i
+    too_few is_i =
+        subst (λ (i : ℕ). length x < at + tagged_room (most_of (lane_at (ls, ook, fsk) (row_of i)))) is_i
         (subst (λ (p : State). length x < at + tagged_room (most_of p)) (sym among.own) (row.spoken.no_room none).0)
 
     pub filled : a.antenna ≡ antenna_of (drop from s) → {ended : Bool} → ended ≡ false
         → Streamed machine p₀ s last (record { used = from; at = at; ended = ended; full = true }) (ls, ook', fsk') y × Sized (ls, ook', fsk')
-    filled is-i {ended} on =
+    filled is_i {ended} on =
         let left : Left = record { used = from; at = at; ended = ended; full = true } in
-        let block : Streamed machine p₀ s last left (ls, ook, fsk) x = full_there machine h on refl ready (too_few is-i) in
+        let block : Streamed machine p₀ s last left (ls, ook, fsk) x = full_there machine h on refl ready (too_few is_i) in
         (subst (λ (p : Lanes). Streamed machine p₀ s last left p y) rows_same (subst (Streamed machine p₀ s last left (ls, ook, fsk)) (sym (row.spoken.no_room none).2) block), subst Sized rows_same among.sized)

@@ -1,12 +1,11 @@
 -- What the functions over a block say of one antenna's lane, whatever the other lanes are: commands of a stream, taken one after another, up to
 -- the first that prints or is another antenna's.
-use Rattle.std.specs.Prelude.{ℕ, ◌+◌, ◌-◌, ◌<◌, ◌≤◌, Bool, true, false, cond, ◌≡◌, List, [], ◌∷◌, ◌++◌, length, take, drop, set, get_or, ltb}
+use Rattle.std.specs.Prelude.{ℕ, ◌+◌, ◌-◌, ◌<◌, ◌≤◌, Bool, true, false, cond, ◌≡◌, List, [], ◌∷◌, ◌++◌, length, take, set, get_or, ltb}
 use Rattle.lane.specs.declared.Lane.{Lane}
 use Rattle.lane.specs.Answers.{answer_of}
 use Rattle.reached.specs.Reached.{Sound}
 use Rattle.lane.specs.declared.Reply.{Reply}
 use Rattle.lines.specs.Line.{train_room, has_room}
-use Rattle.commands.specs.declared.Command.{Command}
 use Rattle.calls.specs.Turn.{State, Called, unchanged, shown_of, most_of}
 use Rattle.calls.specs.Turn.{Shown}
 use Rattle.tagged.specs.Tagged.{tagged_room}

@@ -1,5 +1,7 @@
 // A stream of commands for sixteen antennas (document 02, R-4): each is made on its antenna's lane
 // with that lane's own pair of buffers, and its lines written after the antenna's number.
+#![tactic(auto)]
+
 ghost use Rattle.std.specs.Prelude.{◌≡◌, true, false, ◌&&◌, ltb, ◌+◌, ◌≤◌, ◌<◌, length, drop};
 ghost use Rattle.commands.specs.Command.{is_step_of};
 ghost use Rattle.lines.specs.Line.{Put};
@@ -16,7 +18,7 @@ use commands::Command;
 use lane::{Answer, Lane, Reply};
 
 // A command for an antenna, with the antenna's lane and how many other lanes are out of idle.
-#[derive(Drop)]
+#[derive(Clone, Copy)]
 pub struct Asked {
     pub lane: Lane,
     pub others: u32,
@@ -25,14 +27,14 @@ pub struct Asked {
 }
 
 // Where some commands lead: the place after them, and what the last of them answers.
-#[derive(Drop)]
+#[derive(Clone, Copy)]
 pub struct Past {
     pub lane: Lane,
     pub used: usize,
     pub reply: Reply,
 }
 
-#[derive(Drop)]
+#[derive(Clone, Copy)]
 pub struct Turned {
     pub lane: Lane,
     // The place after the commands; the one before them where the stream ends.
@@ -266,7 +268,7 @@ fn turn_in_row(
 
 // ---- a block of bytes
 
-#[derive(Drop)]
+#[derive(Clone, Copy)]
 pub struct Ran {
     pub lanes: [Lane; 16],
     // The bytes that the block's commands took.

@@ -1,6 +1,6 @@
 -- Block after block, with the tail carried over, prints the lines of the unbroken stream: a command that is not waited for is decoded from a
 -- part as from the whole, and more turns than bytes change nothing.
-use Prim.Native.Nat.{ℕ, zero, suc, ◌+◌, ◌<◌, ◌≤◌}
+use Prim.Native.Nat.{ℕ, zero, suc, ◌<◌}
 use mathlib.Core.Bool.{Bool, true, false, cond}
 use mathlib.Core.Path.{◌≡◌, refl, sym, ◌∙◌, ap}
 use mathlib.Core.Logic.{inl, inr}
@@ -11,7 +11,7 @@ use lib.ListN.{length, take, drop, length-drop}
 use lib.Dec.{eqb}
 use borrow.Author.Tests.{eqb-false, eq-eqb}
 use Rattle.stream.specs.Machine.{Machine, May, Orderly, listed, printed_of}
-use Rattle.stream.specs.Blocks.{Left, Streamed, Blocks, none, more, Over}
+use Rattle.stream.specs.Blocks.{Blocks, none, more, Over}
 
 onward : (b : Bool) (x y : List ℕ) → (b ≡ false → x ≡ y) → cond b [] x ≡ cond b [] y
 onward true x y h = refl

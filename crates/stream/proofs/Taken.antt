@@ -48,19 +48,19 @@ module _ (M : Machine) (O : Orderly M) where
   -- the one command at a place, by itself
   pub passed_one : (p : M.State) (s : List ℕ) (from used : ℕ) (w : List ℕ) (q : M.State) → from ≤ length s
       → used ≡ from + M.size (drop from s) → w ≡ M.text p (drop from s) → q ≡ M.next p (drop from s) → Passed M p s from used w q
-  passed_one p s from used w q inside is-used is_w is_q =
+  passed_one p s from used w q inside is_used is_w is_q =
       record {
-        onward = omega (arith, is-used);
-        inside = omega (arith, is-used, O.fits (drop from s), length-drop from s);
-        left = λ o t seen some h. subst (λ (n : ℕ). Turns M o (s ++ t) n q) (sym is-used) (subst (Turns M o (s ++ t) (from + M.size (drop from s))) (sym is_q) (one_turn p s t from inside seen o (λ z. some (omega (arith, is-used, z))) h));
-        ended = λ z. let none : M.size (drop from s) ≡ 0 = omega (arith, is-used, z) in (none, is_q ∙ O.stays p (drop from s) none);
+        onward = omega (arith, is_used);
+        inside = omega (arith, is_used, O.fits (drop from s), length-drop from s);
+        left = λ o t seen some h. subst (λ (n : ℕ). Turns M o (s ++ t) n q) (sym is_used) (subst (Turns M o (s ++ t) (from + M.size (drop from s))) (sym is_q) (one_turn p s t from inside seen o (λ z. some (omega (arith, is_used, z))) h));
+        ended = λ z. let none : M.size (drop from s) ≡ 0 = omega (arith, is_used, z) in (none, is_q ∙ O.stays p (drop from s) none);
         same = λ t seen. again t seen;
       }
     where
       again : (t : List ℕ) → Seen M s from t → w ++ cond (eqb used from) [] (printed_of M q (drop used s ++ t)) ≡ printed_of M p (drop from s ++ t)
       again t seen =
-          ap (λ (b : Bool). w ++ cond b [] (printed_of M q (drop used s ++ t))) (moved used from (M.size (drop from s)) is-used)
-          ∙ ap (λ (n : ℕ). w ++ cond (eqb (M.size (drop from s)) 0) [] (printed_of M q (drop n s ++ t))) is-used
+          ap (λ (b : Bool). w ++ cond b [] (printed_of M q (drop used s ++ t))) (moved used from (M.size (drop from s)) is_used)
+          ∙ ap (λ (n : ℕ). w ++ cond (eqb (M.size (drop from s)) 0) [] (printed_of M q (drop n s ++ t))) is_used
           ∙ ap (λ (v : List ℕ). v ++ cond (eqb (M.size (drop from s)) 0) [] (printed_of M q (drop (from + M.size (drop from s)) s ++ t))) is_w
           ∙ ap (λ (o : M.State). M.text p (drop from s) ++ cond (eqb (M.size (drop from s)) 0) [] (printed_of M o (drop (from + M.size (drop from s)) s ++ t))) is_q
           ∙ one_line p s t from inside seen

@@ -1,1 +1,3 @@
 // Laws alone: what a program prints of a stream of bytes, read block after block.
+
+#![tactic(auto)]

@@ -1,5 +1,7 @@
 // The lines of an antenna's call: those of the listing program, each after the antenna's number and
 // a blank (document 02, R-4).
+#![tactic(auto)]
+
 ghost use Rattle.std.specs.Prelude.{◌≡◌, cond, [], ◌∷◌, ◌++◌, ◌+◌, ◌≤◌, length, eqb};
 ghost use Rattle.lane.specs.Answers.{reply_number_of};
 ghost use Rattle.lines.specs.Line.{decimal, record_line, call_text, train_room, Put};

@@ -1,0 +1,28 @@
+-- 26 bytes and the command byte 3 make a step, and then its second byte decides.
+use Prim.Native.Nat.{ℕ}
+use mathlib.Core.Bool.{true, false, ◌&&◌}
+use mathlib.Core.Path.{◌≡◌, sym, ◌∙◌}
+use mathlib.Core.List.{List}
+use lib.Dec.{eqb}
+use Rattle.commands.specs.Command.{is_step_of}
+use Rattle.addressed.specs.Addressed.{addressed_of, antenna_of}
+use Rattle.addressed.proofs.Laws.{short_front, long_front}
+use Rattle.addressed.proofs.is_step_for.Goals as goal
+
+-- a front that is no step, and one that is
+no_step : (u v : List ℕ) (i : ℕ) → u ≡ v → is_step_of (addressed_of u) ≡ false → false ≡ (is_step_of (addressed_of v) && eqb (antenna_of v) i)
+no_step u v i e q = simp (← e, q)
+
+a_step : (u v : List ℕ) (i k : ℕ) → u ≡ v → k ≡ antenna_of u → is_step_of (addressed_of u) ≡ true → eqb k i ≡ (is_step_of (addressed_of v) && eqb (antenna_of v) i)
+a_step u v i k e r q = simp (← e, r, q)
+
+pub returns-then-u-lt26 : goal.returns-then-u-lt26
+returns-then-u-lt26 c = no_step _ _ _ c.after-u.ensures (short_front _ c.if-u-lt26.true)
+
+pub returns-then-steps : goal.returns-then-steps
+returns-then-steps c =
+    a_step _ _ _ _ c.after-u.ensures c.wide.ensures.0
+    (sym (long_front _ c.if-u-lt26.false) ∙ c.if-steps.true-raw)
+
+pub returns : goal.returns
+returns c = no_step _ _ _ c.after-u.ensures (sym (long_front _ c.if-u-lt26.false) ∙ c.if-steps.false-raw)
