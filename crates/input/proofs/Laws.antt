@@ -1,4 +1,4 @@
--- What a read leaves in the buffer, and where nothing is read.
+-- What a read leaves in the buffer, where nothing is read, and when a program goes on.
 use Prim.Native.Nat.{ℕ, ◌+◌, ◌≤◌}
 use mathlib.Core.Bool.{Bool, true, false, ◌||◌}
 use mathlib.Core.Path.{◌≡◌, refl, sym, ◌∙◌, ap}
@@ -34,6 +34,11 @@ reading last full other i h =
 pub first_false : (a b : Bool) → (a || b) ≡ false → a ≡ false
 first_false true b h = h
 first_false false b h = refl
+
+-- and where nothing failed
+pub second_false : (a b : Bool) → (a || b) ≡ false → b ≡ false
+second_false true b h = let z : ◌≡◌ {A = Bool} true false = h in cc
+second_false false b h = h
 
 -- the bytes that came stand after those that were there
 pub came_after : (have n : ℕ) (x : List ℕ) → have ≤ length x → take (have + n) x ≡ take have x ++ take n (drop have x)

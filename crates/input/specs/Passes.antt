@@ -1,10 +1,12 @@
 -- What the passes of a program over a live input say: each feeds the bytes that were left and those that came, and together they are the blocks
 -- of the stream that was read (crates/stream/specs/Blocks.antt), whose lines `program_prints` (crates/stream/proofs/Printed.antt) equates
 -- with those of the whole.
-use Rattle.std.specs.Prelude.{ℕ, ◌≤◌, Bool, true, false, ◌≡◌, List, [], ◌++◌, length, take}
+use Rattle.std.specs.Prelude.{ℕ, ◌≤◌, Bool, true, false, not, ◌≡◌, List, [], ◌++◌, length, take, Option}
+use Rattle.std.specs.Io.KnownBytes.{Consumes, Appends, IsAtEnd}
 use Rattle.stream.specs.Machine.{Machine}
 use Rattle.stream.specs.Blocks.{Blocks, Over}
 use Rattle.stream.specs.Feeds.{Rest, Feeds}
+use Rattle.input.specs.Known.{Took, Gave}
 
 -- a pass leads from p to q. It feeds the bytes that were left at the front of the buffer b, and after them those that came: none once the input
 -- has ended (`last`), nor where bytes that are there may still be answered. It leaves the buffer x and the text y
@@ -31,3 +33,18 @@ pub record Runs (M : Machine) (p q : M.State) (whole : Bool) : Type 0 where
   pub left : List ℕ
   pub blocks : Blocks M p last ended read printed q left
   pub over : whole ≡ true → Over last ended left
+
+-- ---- the same where the bytes of the reader and those of the writer are known: r and w before, s and v after
+
+-- a pass takes the bytes that came, and gives the lines, all of them where nothing failed
+pub record Carries (M : Machine) (p : M.State) (f : Rest) (last : Bool) (b : List ℕ) (q : M.State) (g : Rest) (end : Bool) (x y : List ℕ) (r s w v : Option (List ℕ)) (failed : Bool) : Type 0 where
+  pub pass : Passes M p f last b q g end x y
+  pub took : Took r s last pass.came end
+  pub gave : Gave w v (take g.at y) (not failed)
+
+-- before a pass: what was read is taken, and what was printed is given
+pub record Carried (M : Machine) (p q : M.State) (f : Rest) (last : Bool) (b : List ℕ) (r s w v : Option (List ℕ)) : Type 0 where
+  pub standing : Standing M p q f last b
+  pub taken : Consumes r s standing.read
+  pub over : last ≡ true → IsAtEnd s
+  pub given : Appends w v standing.printed

@@ -1,11 +1,15 @@
 // Prints the table that the square root begins from (document 02, R-7), from its rule and not from the
 // table: for i from 256 to 1,023 the largest whole number whose square is at most 64 * i, one number to a line.
+#![tactic(auto)]
+
 ghost use Rattle.std.specs.Prelude.{◌+◌, ◌≤◌, ◌<◌, ◌≡◌, length};
 ghost use Rattle.table.specs.Rule.{rule_of};
 ghost use Rattle.lines.specs.Line.{Put};
-ghost use Rattle.roots.specs.Text.{line, text_room, Printed};
+ghost use Rattle.input.specs.Known.{Gave};
+ghost use Rattle.roots.specs.Text.{line, text_room, printed, Printed};
 
-use libc::STDOUT_FILENO;
+use std::io::Write;
+use std::process::ExitCode;
 
 // The number of i, looked for from 255 down.
 fn rule(i: u64) -> u64
@@ -41,26 +45,36 @@ fn put_lines(text: &mut [u8]) -> usize
     at
 }
 
-// Writes the lines. A write that fails is said on standard error.
-fn put(text: &[u8]) {
-    let written = io::write_all(STDOUT_FILENO, text);
-    if !written {
-        os::fail(b"roots: write");
-    }
+// Writes the lines, and answers whether it did. A write that fails is said on standard error.
+fn put<W: Write, E: Write>(to: &mut W, err: &mut E, text: &[u8]) -> bool
+    ensures { Gave (W.contents to.old) (W.contents to.new) text.now result }
+{
+    input::put(to, text, b"roots: write", err)
 }
 
-fn print(text: &mut [u8])
+fn print<W: Write, E: Write>(to: &mut W, err: &mut E, text: &mut [u8]) -> bool
     requires { text_room ≤ length text.old }
+    ensures { Gave (W.contents to.old) (W.contents to.new) printed result }
 {
     let at = put_lines(text);
-    put(&text[..at]);
+    put(to, err, &text[..at])
 }
 
-fn run(text: &mut [u8; 16128]) {
-    print(text);
+fn run<W: Write, E: Write>(to: &mut W, err: &mut E, text: &mut [u8; 16128]) -> bool
+    ensures { Gave (W.contents to.old) (W.contents to.new) printed result }
+{
+    print(to, err, text)
 }
 
-fn main() {
+// A run that fails ends with a status that is not zero.
+fn main(rt: HostRuntime) -> ExitCode {
     let mut text = [0u8; 16128];
-    run(&mut text);
+    let mut to = rt.stdout();
+    let mut err = rt.stderr();
+    let whole = run(&mut to, &mut err, &mut text);
+    if whole {
+        ExitCode::SUCCESS
+    } else {
+        ExitCode::FAILURE
+    }
 }
