@@ -54,15 +54,36 @@ well : (c : Call) (cs : List Call) → ((b : Bool) → lent_well b c ≡ true) �
 unfolding handed_on
 well c cs w h y = rw (w (accepts y c)) (h (advanced (accepts y c) y c))
 
+-- accepted or not, each of these is lent well
+opening_well : (s : Settings) (b : Bool) → lent_well b (opening s) ≡ true
+unfolding lent_well
+opening_well s true = refl
+opening_well s false = refl
+
+begin_well : (a : BeginArgs) (ook fsk : List ℕ) (b : Bool) → lent_well b (begin a ook fsk) ≡ true
+unfolding lent_well
+begin_well a ook fsk true = refl
+begin_well a ook fsk false = refl
+
+step_well : (s : StepArgs) (fsk : List ℕ) (b : Bool) → lent_well b (step s as_left fsk) ≡ true
+unfolding lent_well
+step_well s fsk true = refl
+step_well s fsk false = refl
+
+close_well : (fsk : List ℕ) (b : Bool) → lent_well b (close as_left fsk) ≡ true
+unfolding lent_well
+close_well fsk true = refl
+close_well fsk false = refl
+
 one_handed : (p : State) (k : Command) (cs : List Call) → ((y : Yardstick) → handed_on y cs ≡ true) → (y : Yardstick) → handed_on y (call_of p k ++ cs) ≡ true
-unfolding call_of lent_well
+unfolding call_of
 one_handed p End cs h = h
-one_handed p (Open s carries) cs h = well (opening s) cs (λ b. elim b [ true ↦ refl | false ↦ refl ]) h
-one_handed p (Begin b) cs h = well (begin b p.1 p.2) cs (λ b. elim b [ true ↦ refl | false ↦ refl ]) h
-one_handed p (Step s) cs h = well (step s as_left p.2) cs (λ b. elim b [ true ↦ refl | false ↦ refl ]) h
+one_handed p (Open s carries) cs h = well (opening s) cs (opening_well s) h
+one_handed p (Begin b) cs h = well (begin b p.1 p.2) cs (begin_well b p.1 p.2) h
+one_handed p (Step s) cs h = well (step s as_left p.2) cs (step_well s p.2) h
 one_handed p Unknown cs h = h
 one_handed p Short cs h = h
-one_handed p Close cs h = well (close as_left p.2) cs (λ b. elim b [ true ↦ refl | false ↦ refl ]) h
+one_handed p Close cs h = well (close as_left p.2) cs (close_well p.2) h
 
 pub handed_on_lem : (p : State) (ks : List Command) (y : Yardstick) → handed_on y (calls_of p ks) ≡ true
 unfolding calls_of handed_on
@@ -152,22 +173,22 @@ module _ (k : Place the_lane) (p : State) (ts : List Given) (F : Follows k p ts)
 
   -- a step or a close: `run` is its answer, and `no` its first check that fails, which is 0 only of a lane out of idle
   module _ (m : Command) (c : Call) (run : Lane → List ℕ → Called) (no : Lane → ℕ → ℕ)
-      (is-called : called p m ≡ run p.0 p.1) (is-shown : trains_by ts m (called p m) ≡ ts ++ fetched (called p m))
-      (is-after : (a : Bool) → after the_lane a k c ≡ placed a c (run k.lane k.ook)) (is-lent : (a : Bool) → lent_well a c ≡ true)
+      (is_called : called p m ≡ run p.0 p.1) (is_shown : trains_by ts m (called p m) ≡ ts ++ fetched (called p m))
+      (is_after : (a : Bool) → after the_lane a k c ≡ placed a c (run k.lane k.ook)) (is_lent : (a : Bool) → lent_well a c ≡ true)
       (yards : accepts k.yard c ≡ eqb (no k.yard.lane (length k.yard.ook)) 0)
       (refuses : (l : Lane) (ook : List ℕ) → refused_of (run l ook).0.reply ≡ not (eqb (no l (length ook)) 0))
       (keeps : (l : Lane) (ook : List ℕ) → eqb (no l (length ook)) 0 ≡ false → next (run l ook) ≡ (l, ook, p.2))
       (tells : (l : Lane) (n : ℕ) → no l n ≡ 0 → l.phase ≡ 0 → ⊥) where
     tested : (b : Bool) → eqb (no p.0 (length p.1)) 0 ≡ b → refused_of (called p m).0.reply ≡ not b
-    tested b q = ap (λ (r : Called). refused_of r.0.reply) is-called ∙ refuses p.0 p.1 ∙ ap not q
+    tested b q = ap (λ (r : Called). refused_of r.0.reply) is_called ∙ refuses p.0 p.1 ∙ ap not q
 
     -- refused on the lane and on the place alike
     lane_refused : eqb (no p.0 (length p.1)) 0 ≡ false → eqb (no k.lane (length k.ook)) 0 ≡ false → accepts k.yard c ≡ false → Advances m c
     lane_refused q u a =
         joined m c false a (tested false q)
-        (refused (after the_lane false k c) (next (called p m)) (after_same k F.same c false a (is-lent false))
-        (ap (λ (z : Place the_lane). z.lane) (is-after false) ∙ ap (λ (z : State). z.0) (keeps k.lane k.ook u))
-        (ap (λ (z : Place the_lane). z.ook) (is-after false)) (ap (λ (z : Place the_lane). z.trains) (is-after false)) (ap next is-called ∙ keeps p.0 p.1 q))
+        (refused (after the_lane false k c) (next (called p m)) (after_same k F.same c false a (is_lent false))
+        (ap (λ (z : Place the_lane). z.lane) (is_after false) ∙ ap (λ (z : State). z.0) (keeps k.lane k.ook u))
+        (ap (λ (z : Place the_lane). z.ook) (is_after false)) (ap (λ (z : Place the_lane). z.trains) (is_after false)) (ap next is_called ∙ keeps p.0 p.1 q))
 
     -- while the lane is idle it is refused, whatever the buffer
     idle_advances : p.0.phase ≡ 0 → Advances m c
@@ -187,20 +208,20 @@ module _ (k : Place the_lane) (p : State) (ts : List Given) (F : Follows k p ts)
         yard b q = yards ∙ as_here b k.yard.lane k.yard.ook yard_lane (yard_ook n) q
 
         runs : run k.lane k.ook ≡ called p m
-        runs = ap (λ (l : Lane). run l k.ook) F.lane ∙ ap (run p.0) (F.ook n) ∙ sym is-called
+        runs = ap (λ (l : Lane). run l k.ook) F.lane ∙ ap (run p.0) (F.ook n) ∙ sym is_called
 
         go : (b : Bool) → eqb (no p.0 (length p.1)) 0 ≡ b → Advances m c
         go true q =
             joined m c true (yard true q) (tested true q)
             (record {
-              same = after_same k F.same c true (yard true q) (is-lent true);
-              lane = ap (λ (z : Place the_lane). z.lane) (is-after true) ∙ ap (λ (r : Called). r.0.lane) runs;
-              ook = λ z. ap (λ (x : Place the_lane). x.ook) (is-after true) ∙ ap (λ (r : Called). r.1) runs;
+              same = after_same k F.same c true (yard true q) (is_lent true);
+              lane = ap (λ (z : Place the_lane). z.lane) (is_after true) ∙ ap (λ (r : Called). r.0.lane) runs;
+              ook = λ z. ap (λ (x : Place the_lane). x.ook) (is_after true) ∙ ap (λ (r : Called). r.1) runs;
               trains =
-                  ap (λ (z : Place the_lane). z.trains) (is-after true)
+                  ap (λ (z : Place the_lane). z.trains) (is_after true)
                   ∙ ap (λ (r : Called). k.trains ++ fetched r) runs
                   ∙ ap (λ (t : List Given). t ++ fetched (called p m)) F.trains
-                  ∙ sym is-shown;
+                  ∙ sym is_shown;
             })
         go false q = lane_refused q (as_here false k.lane k.ook F.lane (F.ook n) q) (yard false q)
 
@@ -215,29 +236,29 @@ module _ (k : Place the_lane) (p : State) (ts : List Given) (F : Follows k p ts)
   unfolding after refusal called lent lent_well returned_by
   step_advances s =
       advances (Step s) (step s as_left p.2) (λ l ook. stepped l s ook p.2) (λ l n. step_refusal l s n (length p.2)) refl refl (λ a. refl)
-      (λ a. elim a [ true ↦ refl | false ↦ refl ]) refl
+      (step_well s p.2) refl
       (λ l ook. step_refuses l s ook p.2) (λ l ook q. step_kept l s ook p.2 q) (λ l n. step_tells l s n (length p.2))
 
   close_advances : Advances Close (close as_left p.2)
   unfolding after refusal called lent lent_well returned_by
   close_advances =
       advances Close (close as_left p.2) (λ l ook. closed l ook p.2) (λ l n. close_refusal l n (length p.2)) refl refl (λ a. refl)
-      (λ a. elim a [ true ↦ refl | false ↦ refl ]) refl
+      (close_well p.2) refl
       (λ l ook. close_refuses l ook p.2) (λ l ook q. close_kept l ook p.2 q) (λ l n. close_tells l n (length p.2))
 
 -- ---- over a list
 
-follows_all : (k : Place the_lane) (p : State) (ts : List Given) (ks : List Command) → Follows k p ts
+follows_all : (ks : List Command) (k : Place the_lane) (p : State) (ts : List Given) → Follows k p ts
     → Follows (demand.after_all the_lane k (calls_of p ks)) (alone_after p ks) (trains_of ts (paired p ks))
 unfolding demand.after_all calls_of call_of alone_after trains_of paired called Advances
-follows_all k p ts [] F = F
-follows_all k p ts (End ∷ ks) F = follows_all k p ts ks F
-follows_all k p ts (Open s carries ∷ ks) F = follows_all _ _ _ ks (open_advances k p ts F s carries)
-follows_all k p ts (Begin b ∷ ks) F = follows_all _ _ _ ks (begin_advances k p ts F b)
-follows_all k p ts (Step s ∷ ks) F = follows_all _ _ _ ks (step_advances k p ts F s)
-follows_all k p ts (Unknown ∷ ks) F = follows_all k p ts ks F
-follows_all k p ts (Short ∷ ks) F = follows_all k p ts ks F
-follows_all k p ts (Close ∷ ks) F = follows_all _ _ _ ks (close_advances k p ts F)
+follows_all [] k p ts F = F
+follows_all (End ∷ ks) k p ts F = follows_all ks k p ts F
+follows_all (Open s carries ∷ ks) k p ts F = follows_all ks _ _ _ (open_advances k p ts F s carries)
+follows_all (Begin b ∷ ks) k p ts F = follows_all ks _ _ _ (begin_advances k p ts F b)
+follows_all (Step s ∷ ks) k p ts F = follows_all ks _ _ _ (step_advances k p ts F s)
+follows_all (Unknown ∷ ks) k p ts F = follows_all ks k p ts F
+follows_all (Short ∷ ks) k p ts F = follows_all ks k p ts F
+follows_all (Close ∷ ks) k p ts F = follows_all ks _ _ _ (close_advances k p ts F)
 
 -- ---- from a new lane
 
@@ -253,7 +274,7 @@ each_antenna ook fsk cs j h g i =
     let ks : List Command = commands_of (heard j p cs) in
     let l = heard_leads j p cs i (new_sized ook fsk h g) in
     let handed : handed_on unused (calls_at j p cs) ≡ true = handed_on_lem (lane_at p j) ks unused in
-    let F = follows_all (start the_lane) (lane_at p j) [] ks (start_follows (lane_at p j) (get_or-replicate antennas j new_lane new_lane i)) in
+    let F = follows_all ks (start the_lane) (lane_at p j) [] (start_follows (lane_at p j) (get_or-replicate antennas j new_lane new_lane i)) in
     record {
       handed = handed;
       own_lane = F.lane ∙ ap (λ (q : State). q.0) (sym l.1);

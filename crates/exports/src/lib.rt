@@ -1,5 +1,7 @@
 // What tests link, and nothing else does: the arithmetic leaves by number and bit pattern, and the pulse buffers as a list of
 // commands leaves them.
+#![tactic(auto)]
+
 ghost use Rattle.std.specs.Prelude.{◌≡◌, ◌%◌, ◌^◌};
 ghost use Rattle.std.specs.Float.{binary32};
 ghost use Rattle.std.specs.Float.Ieee.{to_bits};
