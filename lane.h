@@ -1,4 +1,4 @@
-/* The functions that a host calls: target/staticlib/libhost.a, made by `rt staticlib host`. */
+/* The functions that a host calls: crates/host/out/libhost.a, made by `rt lib` in crates/host. */
 #ifndef LANE_H
 #define LANE_H
 

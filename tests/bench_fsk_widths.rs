@@ -1,4 +1,4 @@
-//! Times `lane_fsk_widths` of target/staticlib/libhost.a beside the published `fsk_widths`, both compiled for release, on the
+//! Times `lane_fsk_widths` of crates/host/out/libhost.a beside the published `fsk_widths`, both compiled for release, on the
 //! same frames: nanoseconds per slot, the best of several rounds taken in turn, and their ratio.
 
 use std::hint::black_box;

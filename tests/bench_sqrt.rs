@@ -1,4 +1,4 @@
-//! Times three f32 roots on the same million inputs, all compiled for release: `lane_sqrt` of target/staticlib/libhost.a, a
+//! Times three f32 roots on the same million inputs, all compiled for release: `lane_sqrt` of crates/host/out/libhost.a, a
 //! plain Rust root that finds the root one bit at a time, and the processor's. Nanoseconds per call, each part of the inputs by the
 //! best of several rounds taken in turn, so that other work on the machine counts little. The three must agree.
 

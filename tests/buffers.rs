@@ -1,5 +1,5 @@
 //! The two pulse buffers, whole, after every call of seeded command streams: as `lane_buffers` and `lane_buffers_lent` of
-//! target/staticlib/libexports.a leave them, which make the calls of a list of commands from the lane that never had settings,
+//! crates/exports/out/libexports.a leave them, which make the calls of a list of commands from the lane that never had settings,
 //! a step by value or on the lane lent for change, and as the reference does.
 //! The buffers hold any numbers before the first call; some are too short for the settings, and longer than they need. The streams of
 //! even seeds have openings 01 and 04, those of the others 01 alone; the streams of the seeds 2 and 3 more than a multiple of 4 have

@@ -1,4 +1,4 @@
-//! Compares `lane_fsk_widths` of target/staticlib/libhost.a with the published `fsk_widths` on seeded slot lists of many
+//! Compares `lane_fsk_widths` of crates/host/out/libhost.a with the published `fsk_widths` on seeded slot lists of many
 //! classes, and tries refusal 9.
 //!
 //!     fsk_widths [--lists N] [--seed N]      compare

@@ -1,5 +1,5 @@
 //! Replays the kept sample of slot lists and published widths, tests/data/fsk_widths.txt, through `lane_fsk_widths` of
-//! target/staticlib/libhost.a; tests/fsk_widths.rs wrote it. Needs no published source.
+//! crates/host/out/libhost.a; tests/fsk_widths.rs wrote it. Needs no published source.
 
 use std::process::ExitCode;
 

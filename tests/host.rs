@@ -1,4 +1,4 @@
-//! The C functions of target/staticlib/libhost.a behind safe ones.
+//! The C functions of crates/host/out/libhost.a behind safe ones.
 
 #![allow(dead_code)]
 

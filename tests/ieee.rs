@@ -1,4 +1,4 @@
-//! The operations of IEEE 754-2019 in the arithmetic, exported by bit pattern in target/staticlib/libexports.a: on vectors with
+//! The operations of IEEE 754-2019 in the arithmetic, exported by bit pattern in crates/exports/out/libexports.a: on vectors with
 //! the standard's answers written out, then against Rust's own arithmetic.
 //!
 //!     ieee [--seed N] [--cases N]      cases for each function

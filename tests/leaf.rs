@@ -1,4 +1,4 @@
-//! The arithmetic in target/staticlib/libexports.a: its entry `leaf`, which takes the leaf's number and bit patterns, as a function for each leaf.
+//! The arithmetic in crates/exports/out/libexports.a: its entry `leaf`, which takes the leaf's number and bit patterns, as a function for each leaf.
 //! An f32's pattern, and a u32, is the lower half of what goes in and of what comes out.
 
 #![allow(dead_code)]

@@ -1,4 +1,4 @@
-//! Compares the arithmetic leaves, exported by bit pattern in target/staticlib/libexports.a, with the published functions and
+//! Compares the arithmetic leaves, exported by bit pattern in crates/exports/out/libexports.a, with the published functions and
 //! document 01's stand-ins.
 //!
 //!     leaves [--seed N] [--cases N]      cases for each function

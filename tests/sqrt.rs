@@ -1,4 +1,4 @@
-//! Compares `lane_sqrt` of target/staticlib/libhost.a with the processor's f32 root: bits in, bits out, every NaN as 7fc00000
+//! Compares `lane_sqrt` of crates/host/out/libhost.a with the processor's f32 root: bits in, bits out, every NaN as 7fc00000
 //! (document 01, "Commands").
 //!
 //!     sqrt [--seed N]     specials, the edges of every binade of both signs, and random patterns
