@@ -3,7 +3,7 @@
 
     docs/pictures/burst.py [PROGRAM]
 
-feeds the commands of one burst to PROGRAM (target/bin/listing where none is named), reads its lines, writes burst.svg
+feeds the commands of one burst to PROGRAM (crates/listing/out/listing where none is named), reads its lines, writes burst.svg
 beside this file and prints the text form.
 
 Levels, runs and edges are worked out here once more, by the rules that docs/LANE.md tells. What the program printed has
@@ -16,7 +16,7 @@ import subprocess
 import sys
 
 HERE = os.path.dirname(os.path.abspath(__file__))
-LISTING = os.path.join(HERE, "..", "..", "target", "bin", "listing")
+LISTING = os.path.join(HERE, "..", "..", "crates", "listing", "out", "listing")
 
 # The burst. Settings, then one envelope for each sample.
 OOK, MIN_STEPS, GAP_STEPS, LONG_STEPS, MAX_PULSES = 0, 3, 9, 1000, 4
