@@ -67,7 +67,7 @@ def read(path):
 def turns(word):
     if MADE.fullmatch(word) or "◌" in word or "::" in word or "·" in word:
         return False
-    return bool(re.search(r"[A-Za-z]", word)) and (("-" in word.strip("-")) or bool(re.match(r"[a-z][\w-]*[a-z0-9][A-Z]", word)) or "′" in word)
+    return bool(re.search(r"[A-Za-z]", word)) and (("-" in word.strip("-")) or bool(re.match(r"[a-z][\w-]*[A-Z]", word)) or "′" in word)
 
 
 def spelled(word):
@@ -91,6 +91,7 @@ def table(root):
     for path in files(os.path.join(root, "crates"), ".antt"):
         text = QUOTED.sub(" ", COMMENT.sub("", read(path)))
         found = {m[1] for m in SIGNED.finditer(text)}
+        found |= set(re.findall(r" as ([^\s,}]+)", text))
         for m in BOUND.finditer(text):
             found |= set(re.findall(r"[^\s(){}:,]+", m[1] or m[2]))
         own |= {w.strip("«»") for w in found}
