@@ -1,10 +1,5 @@
 use Rattle.burst.specs.Core.{at_in_of}
-use Rattle.std.proofs.Common.{rules}
 use Rattle.burst.proofs.at_in.Goals as goal
-
-pub wrapping_add_u64-idx-requires : goal.wrapping_add_u64-idx-requires
-unfolding at_in_of
-wrapping_add_u64-idx-requires c = search rules
 
 pub returns-then-replays : goal.returns-then-replays
 unfolding at_in_of

@@ -1,10 +1,5 @@
 use Rattle.burst.specs.Sample.{snap_if_of}
-use Rattle.std.proofs.Common.{rules}
 use Rattle.burst.proofs.snap_if.Goals as goal
-
-pub snap-requires : goal.snap-requires
-unfolding snap_if_of
-snap-requires c = search rules
 
 pub returns-then-on : goal.returns-then-on
 unfolding snap_if_of

@@ -1,10 +1,5 @@
 use Rattle.envelope.specs.See.{high_of}
-use borrow.Author.Rules.{rules}
 use Rattle.envelope.proofs.high_of.Goals as goal
-
-pub flush_denormal-requires : goal.flush_denormal-requires
-unfolding high_of
-flush_denormal-requires c = search rules
 
 pub returns-then-above : goal.returns-then-above
 unfolding high_of

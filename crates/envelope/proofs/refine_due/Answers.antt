@@ -1,14 +1,5 @@
 use Rattle.envelope.specs.See.{refine_due_of}
-use borrow.Author.Rules.{rules}
 use Rattle.envelope.proofs.refine_due.Goals as goal
-
-pub refine_at-requires : goal.refine_at-requires
-unfolding refine_due_of
-refine_at-requires c = search rules
-
-pub refine-t-requires : goal.refine-t-requires
-unfolding refine_due_of
-refine-t-requires c = search rules
 
 pub returns-then-long : goal.returns-then-long
 unfolding refine_due_of

@@ -1,44 +1,7 @@
 use Rattle.exports.specs.Leaf.{kinds, leaf_of}
 use Prim.Native.Nat.{◌/◌, ◌%◌}
 use Rattle.exports.proofs.PastLast.{past_last}
-use borrow.Author.Rules.{rules}
 use Rattle.exports.proofs.leaf.Goals as goal
-
-pub single_at-requires : goal.single_at-requires
-unfolding leaf_of
-single_at-requires c = search rules
-
-pub single_at-requires-in-0 : goal.single_at-requires-in-0
-unfolding leaf_of
-single_at-requires-in-0 c = search rules
-
-pub single_at-requires-in-0-2 : goal.single_at-requires-in-0-2
-unfolding leaf_of
-single_at-requires-in-0-2 c = search rules
-
-pub of_singles-requires : goal.of_singles-requires
-unfolding leaf_of
-of_singles-requires c = search rules
-
-pub f64_of_bits-requires : goal.f64_of_bits-requires
-unfolding leaf_of
-f64_of_bits-requires c = search rules
-
-pub f64_of_bits-requires-in-1 : goal.f64_of_bits-requires-in-1
-unfolding leaf_of
-f64_of_bits-requires-in-1 c = search rules
-
-pub of_doubles-requires : goal.of_doubles-requires
-unfolding leaf_of
-of_doubles-requires c = search rules
-
-pub f64_of_bits-requires-in-2 : goal.f64_of_bits-requires-in-2
-unfolding leaf_of
-f64_of_bits-requires-in-2 c = search rules
-
-pub of_numbers-requires : goal.of_numbers-requires
-unfolding leaf_of
-of_numbers-requires c = search rules
 
 pub returns-in-0 : goal.returns-in-0
 unfolding leaf_of

@@ -1,10 +1,5 @@
 use Rattle.frame_end.specs.Cut.{gap_at_of}
-use Rattle.std.proofs.Common.{rules}
 use Rattle.frame_end.proofs.gap_at.Goals as goal
-
-pub get-requires : goal.get-requires
-unfolding gap_at_of
-get-requires c = search rules
 
 pub returns-then-whole : goal.returns-then-whole
 unfolding gap_at_of

@@ -1,5 +1,5 @@
 use Rattle.fsk.specs.Commit.{fsk_commit_of}
-use Rattle.std.proofs.Common.{ap, rules}
+use Rattle.std.proofs.Common.{ap}
 use Rattle.arith.specs.declared.Steps.{Steps}
 use Rattle.fsk.proofs.fsk_commit.Goals as goal
 
@@ -15,30 +15,6 @@ pub returns-then-full : goal.returns-then-full
 unfolding fsk_commit_of
 returns-then-full c = simp c.if-full.true-raw
 
-pub fsk_width-w-requires : goal.fsk_width-w-requires
-unfolding fsk_commit_of
-fsk_width-w-requires c = search rules
-
 pub returns-then-short : goal.returns-then-short
 unfolding fsk_commit_of
 returns-then-short c = simp (c.if-full.false-raw, ← ap (λ (w : Steps). w.0) c.fsk_width-w.ensures, c.if-short.true-raw)
-
-pub count_run-d-requires : goal.count_run-d-requires
-unfolding fsk_commit_of
-count_run-d-requires c = search rules
-
-pub upper_run-requires : goal.upper_run-requires
-unfolding fsk_commit_of
-upper_run-requires c = search rules
-
-pub shape_of-fsk-then-upper : goal.shape_of-fsk-then-upper
-unfolding fsk_commit_of
-shape_of-fsk-then-upper c = search rules
-
-pub lower_run-requires : goal.lower_run-requires
-unfolding fsk_commit_of
-lower_run-requires c = search rules
-
-pub shape_of-fsk : goal.shape_of-fsk
-unfolding fsk_commit_of
-shape_of-fsk c = search rules

@@ -1,14 +1,5 @@
 use Rattle.fsk.specs.Resolve.{is_early_of}
-use Rattle.std.proofs.Common.{rules}
 use Rattle.fsk.proofs.is_early.Goals as goal
-
-pub other_level-requires : goal.other_level-requires
-unfolding is_early_of
-other_level-requires c = search rules
-
-pub abs-other-requires : goal.abs-other-requires
-unfolding is_early_of
-abs-other-requires c = search rules
 
 pub returns-then-near : goal.returns-then-near
 unfolding is_early_of

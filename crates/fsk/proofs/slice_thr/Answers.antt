@@ -1,10 +1,5 @@
 use Rattle.fsk.specs.Resolve.{slice_thr_of}
-use Rattle.std.proofs.Common.{rules}
 use Rattle.fsk.proofs.slice_thr.Goals as goal
-
-pub midpoint-mid-requires : goal.midpoint-mid-requires
-unfolding slice_thr_of
-midpoint-mid-requires c = search rules
 
 pub returns-then-upper : goal.returns-then-upper
 unfolding slice_thr_of

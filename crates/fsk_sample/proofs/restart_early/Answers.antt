@@ -1,14 +1,5 @@
 use Rattle.fsk_sample.specs.Seek.{restart_early_of}
-use Rattle.std.proofs.Common.{rules}
 use Rattle.fsk_sample.proofs.restart_early.Goals as goal
-
-pub midpoint-thr-requires : goal.midpoint-thr-requires
-unfolding restart_early_of
-midpoint-thr-requires c = search rules
-
-pub restart_at-t-requires : goal.restart_at-t-requires
-unfolding restart_early_of
-restart_at-t-requires c = search rules
 
 pub returns-then-some : goal.returns-then-some
 unfolding restart_early_of

@@ -1,15 +1,10 @@
 use borrow.Author.Tests.{eq-eqb, ne_eqb}
 use Rattle.grid.specs.Widths.{end_of}
-use borrow.Author.Rules.{rules}
 use Rattle.grid.proofs.end_of.Goals as goal
 
 pub returns-then-n-eq0 : goal.returns-then-n-eq0
 unfolding end_of
 returns-then-n-eq0 c = simp (eq-eqb _ _ c.if-n-eq0.true)
-
-pub time_of-requires : goal.time_of-requires
-unfolding end_of
-time_of-requires c = search rules
 
 pub returns : goal.returns
 unfolding end_of

@@ -1,6 +1,5 @@
 use borrow.Author.Tests.{lt-ltb, le-ltb}
 use Rattle.grid.specs.Widths.{place_of}
-use borrow.Author.Rules.{rules}
 use Rattle.grid.proofs.place_at.Goals as goal
 
 pub returns-then-seen-c : goal.returns-then-seen-c
@@ -11,22 +10,6 @@ returns-then-seen-c c =
 pub returns-then-empty : goal.returns-then-empty
 unfolding place_of
 returns-then-empty c = simp c.if-empty.true-raw
-
-pub time_of-x-requires : goal.time_of-x-requires
-unfolding place_of
-time_of-x-requires c = search rules
-
-pub k_after-k-requires : goal.k_after-k-requires
-unfolding place_of
-k_after-k-requires c = search rules
-
-pub round-requires : goal.round-requires
-unfolding place_of
-round-requires c = search rules
-
-pub round-requires-2 : goal.round-requires-2
-unfolding place_of
-round-requires-2 c = search rules
 
 pub returns : goal.returns
 unfolding place_of

@@ -12,7 +12,6 @@ use Rattle.lane.specs.declared.Lane.{Lane}
 use Rattle.refusals.specs.Serial.{serial_left}
 use Rattle.lane.specs.Refusals.{lane_ok, begin_floats_ok, begin_refusal}
 use Rattle.lane.specs.Step.{begun}
-use borrow.Author.Rules.{rules}
 use Rattle.lane.proofs.begin.Goals as goal
 
 -- a begin that is accepted finds a serial that is not spent
@@ -22,17 +21,9 @@ left l b ook fsk k q ok =
     ltb-true l.serial spent_serial
     (none_failed (not (eqb l.opened 0)) (lane_ok l) (eqb l.phase 0) (serial_left l.serial) (index_ok b.index) (begin_floats_ok b) (room_ok l.settings ook fsk) (sym q ∙ eqb-true k 0 ok)).serial_ok
 
-pub begin_refusal-k-requires : goal.begin_refusal-k-requires
-unfolding begun
-begin_refusal-k-requires c = search rules
-
 pub overflow_add-l : goal.overflow_add-l
 unfolding begun
 overflow_add-l c = omega (arith, left c.args.l _ _ _ _ c.begin_refusal-k.ensures c.if-ok.true-raw)
-
-pub lead_lane-lane-requires : goal.lead_lane-lane-requires
-unfolding begun
-lead_lane-lane-requires c = search rules
 
 pub returns-then-ok : goal.returns-then-ok
 unfolding begun

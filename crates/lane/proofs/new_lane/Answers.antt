@@ -1,12 +1,7 @@
 use Rattle.lane.specs.Idle.{no_burst, idle_lane}
 use Rattle.lane.specs.Serial.{stamp_of}
 use Rattle.lane.specs.Step.{new_lane}
-use borrow.Author.Rules.{rules}
 use Rattle.lane.proofs.new_lane.Goals as goal
-
-pub idle_lane-requires : goal.idle_lane-requires
-unfolding new_lane idle_lane no_burst stamp_of
-idle_lane-requires c = search rules
 
 pub returns : goal.returns
 unfolding new_lane idle_lane no_burst stamp_of

@@ -12,7 +12,6 @@ use Rattle.lane.specs.declared.Lane.{Lane}
 use Rattle.refusals.specs.Serial.{serial_left}
 use Rattle.lane.specs.Refusals.{open_refusal}
 use Rattle.lane.specs.Step.{opened}
-use borrow.Author.Rules.{rules}
 use Rattle.lane.proofs.open.Goals as goal
 
 -- an opening that is accepted finds a serial that is not spent
@@ -22,17 +21,9 @@ left l p k q ok =
     let a = passed 3 (settings_ok p) _ (lit< tt) (sym q ∙ eqb-true k 0 ok) in
     ltb-true l.serial spent_serial (passed 13 (serial_left l.serial) 0 (lit< tt) a.1).0
 
-pub open_refusal-k-requires : goal.open_refusal-k-requires
-unfolding opened
-open_refusal-k-requires c = search rules
-
 pub overflow_add-l : goal.overflow_add-l
 unfolding opened
 overflow_add-l c = omega (arith, left _ _ _ c.open_refusal-k.ensures c.if-ok.true-raw)
-
-pub idle_lane-lane-requires : goal.idle_lane-lane-requires
-unfolding opened
-idle_lane-lane-requires c = search rules
 
 pub returns-then-ok : goal.returns-then-ok
 unfolding opened

@@ -3,10 +3,6 @@ use Rattle.lines.specs.Line.{put}
 use borrow.Author.Rules.{rules}
 use Rattle.lines.proofs.put_byte.Goals as goal
 
-pub shape_of-text : goal.shape_of-text
-unfolding put
-shape_of-text c = search rules
-
 pub returns : goal.returns
 unfolding put
 returns c = record { text = refl; near = search rules }

@@ -13,18 +13,6 @@ pub loop-j-init : goal.loop-j-init
 unfolding nan_bits
 loop-j-init c = search rules
 
-pub excess-sum-requires : goal.excess-sum-requires
-unfolding nan_bits
-excess-sum-requires c = search rules
-
-pub split_at-split-requires : goal.split_at-split-requires
-unfolding nan_bits
-split_at-split-requires c = search rules
-
-pub best_at-best-requires : goal.best_at-best-requires
-unfolding nan_bits
-best_at-best-requires c = search rules
-
 pub loop-j-smaller : goal.loop-j-smaller
 unfolding nan_bits
 loop-j-smaller c = search rules

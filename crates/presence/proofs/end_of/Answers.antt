@@ -1,10 +1,5 @@
 use Rattle.presence.specs.Presence.{end_of}
-use borrow.Author.Rules.{rules}
 use Rattle.presence.proofs.end_of.Goals as goal
-
-pub in_window-near-requires : goal.in_window-near-requires
-unfolding end_of
-in_window-near-requires c = search rules
 
 pub returns-then-near : goal.returns-then-near
 unfolding end_of

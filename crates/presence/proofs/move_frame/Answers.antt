@@ -1,14 +1,9 @@
 use Rattle.presence.specs.Move.{move_frame_of}
-use borrow.Author.Rules.{rules}
 use Rattle.presence.proofs.move_frame.Goals as goal
 
 pub returns-then-same : goal.returns-then-same
 unfolding move_frame_of
 returns-then-same c cs = simp c.if-same.true
-
-pub extend-requires : goal.extend-requires
-unfolding move_frame_of
-extend-requires c = search rules
 
 pub returns-then-on : goal.returns-then-on
 unfolding move_frame_of
@@ -17,14 +12,6 @@ returns-then-on c cs = simp (c.if-same.false, c.if-short.true, c.if-on.true, ←
 pub returns-then-short : goal.returns-then-short
 unfolding move_frame_of
 returns-then-short c cs = simp (c.if-same.false, c.if-short.true, c.if-on.false)
-
-pub edge_at-requires : goal.edge_at-requires
-unfolding move_frame_of
-edge_at-requires c = search rules
-
-pub begin_frame-requires : goal.begin_frame-requires
-unfolding move_frame_of
-begin_frame-requires c = search rules
 
 pub returns-then-on-2 : goal.returns-then-on-2
 unfolding move_frame_of

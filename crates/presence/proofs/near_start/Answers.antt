@@ -1,10 +1,5 @@
 use Rattle.presence.specs.Presence.{near_start_of}
-use borrow.Author.Rules.{rules}
 use Rattle.presence.proofs.near_start.Goals as goal
-
-pub in_window-requires : goal.in_window-requires
-unfolding near_start_of
-in_window-requires c = search rules
 
 pub returns-then-none : goal.returns-then-none
 unfolding near_start_of

@@ -1,10 +1,5 @@
 use Rattle.presence.specs.Presence.{snap_of}
-use borrow.Author.Rules.{rules}
 use Rattle.presence.proofs.snap.Goals as goal
-
-pub near_start-near-requires : goal.near_start-near-requires
-unfolding snap_of
-near_start-near-requires c = search rules
 
 pub returns-then-near : goal.returns-then-near
 unfolding snap_of

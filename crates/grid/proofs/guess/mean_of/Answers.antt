@@ -8,10 +8,6 @@ pub loop-i-init : goal.loop-i-init
 unfolding mean_of
 loop-i-init c = left_start _ _ _ _
 
-pub mean_turn-s-requires : goal.mean_turn-s-requires
-unfolding mean_of
-mean_turn-s-requires c = search rules
-
 pub loop-i-smaller : goal.loop-i-smaller
 unfolding mean_of
 loop-i-smaller c = search rules

@@ -19,10 +19,6 @@ pub loop-i-init : goal.loop-i-init
 unfolding runs_of nan_bits
 loop-i-init c = (left_start _ _ _ _, search rules)
 
-pub runs_turn-s-requires : goal.runs_turn-s-requires
-unfolding runs_of nan_bits
-runs_turn-s-requires c = search rules
-
 pub loop-i-smaller : goal.loop-i-smaller
 unfolding runs_of nan_bits
 loop-i-smaller c = search rules

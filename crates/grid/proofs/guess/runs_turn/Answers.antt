@@ -1,15 +1,6 @@
 use Rattle.grid.specs.Guess.{runs_step}
 use Rattle.fit.specs.Slots.{turned}
-use borrow.Author.Rules.{rules}
 use Rattle.grid.proofs.guess.runs_turn.Goals as goal
-
-pub time_of-x-requires : goal.time_of-x-requires
-unfolding runs_step turned
-time_of-x-requires c = search rules
-
-pub shorter_of-shortest-requires : goal.shorter_of-shortest-requires
-unfolding runs_step turned
-shorter_of-shortest-requires c = search rules
 
 pub returns-then-up : goal.returns-then-up
 unfolding runs_step turned

@@ -6,10 +6,6 @@ pub enum_known-prev : goal.enum_known-prev
 unfolding shorter_of
 enum_known-prev c = search rules
 
-pub min64-requires : goal.min64-requires
-unfolding shorter_of
-min64-requires c = search rules
-
 pub enum_told-1 : goal.enum_told-1
 unfolding shorter_of
 enum_told-1 c = search rules

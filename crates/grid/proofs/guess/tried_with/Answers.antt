@@ -5,7 +5,6 @@ use native.Mathlib.Omega.{arith}
 use lib.Dec.{ltb, ltb→lt}
 use lib.Ieee.Fits.{and_r}
 use Rattle.grid.specs.Guess.{grid_cand, tried_of}
-use borrow.Author.Rules.{rules}
 use Rattle.grid.proofs.guess.tried_with.Goals as goal
 
 pub overflow_add-next : goal.overflow_add-next
@@ -13,18 +12,6 @@ overflow_add-next c =
     let s = c.args in
     let few = ltb→lt s.s.tried grid_cand (and_r s.run.one (ltb s.s.tried grid_cand) (told (sym c.both-more.ensures ∙ c.if-more.true))) in
     omega arith
-
-pub both-more-requires : goal.both-more-requires
-unfolding tried_of
-both-more-requires c = search rules
-
-pub grid_fit-f-requires : goal.grid_fit-f-requires
-unfolding tried_of
-grid_fit-f-requires c = search rules
-
-pub better-g-requires : goal.better-g-requires
-unfolding tried_of
-better-g-requires c = search rules
 
 pub returns-then-more : goal.returns-then-more
 unfolding tried_of
