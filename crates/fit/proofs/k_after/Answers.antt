@@ -1,10 +1,10 @@
 use Rattle.fit.specs.Fit.{k_after}
 use Rattle.fit.proofs.k_after.Goals as goal
 
-pub returns-in-At : goal.returns-in-At
+pub returns-in-Some : goal.returns-in-Some
 unfolding k_after
-returns-in-At c = cc
+returns-in-Some c = cc
 
-pub returns-in-Unset : goal.returns-in-Unset
+pub returns-in-None : goal.returns-in-None
 unfolding k_after
-returns-in-Unset c = cc
+returns-in-None c = cc
