@@ -1,4 +1,4 @@
--- The loop of `transitions` over the slots: its start, a turn and its end; and what a call of `transitions` gives.
+-- The loop of `transitions` over the slots: its start, a turn and its end; and what a call of it gives; `try_transitions` likewise.
 use Prim.Native.Nat.{ℕ, zero, suc, ◌+◌, ◌-◌, ◌<◌, ◌≤◌}
 use mathlib.Core.Bool.{Bool, true, false, cond}
 use mathlib.Core.List.{List, [], ◌∷◌}
@@ -11,7 +11,8 @@ use lib.Dec.{ltb}
 use borrow.Author.Tests.{lt-ltb, le-ltb}
 use lib.Ieee.{Float}
 use Rattle.std.specs.List.{FoldsTo}
-use Rattle.fit.specs.Slots.{time_of, fix, last_rise_below, also, times, fold, CallableInFold}
+use Rattle.std.specs.Prelude.{Option, Some, None, option_and_then}
+use Rattle.fit.specs.Slots.{time_of, fix, last_rise_below, also, times, fold, CallableInFold, IsSomeOf, TryFoldsTo}
 
 -- ---- the transitions from the slot i on
 module _ (ends : List ℕ) (i before : ℕ) (h : i < length ends) where
@@ -25,42 +26,52 @@ module _ (ends : List ℕ) (i before : ℕ) (h : i < length ends) where
   next_flat : ltb before (get_or ends i 0) ≡ false → times before (drop i ends) ≡ times (get_or ends i 0) (drop (i + 1) ends)
   next_flat e = next_slot ∙ ap (λ (b : Bool). also b (time_of (fix (get_or ends i 0))) (times (get_or ends i 0) (drop (i + 1) ends))) e
 
--- the invariant: each call that is left may be made, and what is left of the fold is the whole fold
-pub record Left {S : Type 0} (pre : S → Float → Type 0) (post : S → Float → S → Type 0) (first : S) (ends : List ℕ) (i before : ℕ) (s : S) : Type 0 where
-  pub callable : CallableInFold pre post s (times before (drop i ends))
-  pub same : (last : S) → FoldsTo post s (times before (drop i ends)) last → FoldsTo post first (times 0 ends) last
+-- the invariant, where C says that the calls may be made and E what they give: each call that is left may be made, and what the calls
+-- that are left give the whole gives
+pub record Left {S R : Type 0} (C : S → List Float → Type 0) (E : S → List Float → R → Type 0) (first : S) (ends : List ℕ) (i before : ℕ) (s : S) : Type 0 where
+  pub callable : C s (times before (drop i ends))
+  pub same : (r : R) → E s (times before (drop i ends)) r → E first (times 0 ends) r
 
-pub left_start : {S : Type 0} (pre : S → Float → Type 0) (post : S → Float → S → Type 0) (first : S) (ends : List ℕ)
-    → CallableInFold pre post first (times 0 ends) → Left pre post first ends 0 0 first
-left_start pre post first ends h = record { callable = h; same = λ last g. g }
+pub left_start : {S R : Type 0} (C : S → List Float → Type 0) (E : S → List Float → R → Type 0) (first : S) (ends : List ℕ) → C first (times 0 ends) → Left C E first ends 0 0 first
+left_start C E first ends h = record { callable = h; same = λ r g. g }
 
-module _ {S : Type 0} {pre : S → Float → Type 0} {post : S → Float → S → Type 0} {first : S} {ends : List ℕ} {i before : ℕ} {s : S} (g : Left pre post first ends i before s) where
-  calls : i < length ends → before < get_or ends i 0 → CallableInFold pre post s (time_of (fix (get_or ends i 0)) ∷ times (get_or ends i 0) (drop (i + 1) ends))
-  calls h l = subst (CallableInFold pre post s) (next_rise ends i before h (lt-ltb _ _ l)) g.callable
+module _ {S R : Type 0} {C : S → List Float → Type 0} {E : S → List Float → R → Type 0} {first : S} {ends : List ℕ} {i before : ℕ} {s : S} (g : Left C E first ends i before s) where
+  calls : i < length ends → before < get_or ends i 0 → C s (time_of (fix (get_or ends i 0)) ∷ times (get_or ends i 0) (drop (i + 1) ends))
+  calls h l = subst (C s) (next_rise ends i before h (lt-ltb _ _ l)) g.callable
 
-  pub left_call : {x : Float} → i < length ends → before < get_or ends i 0 → x ≡ time_of (fix (get_or ends i 0)) → pre s x
-  left_call h l e = rw e (calls h l).0
+  gives : i < length ends → before < get_or ends i 0 → (r : R) → E s (time_of (fix (get_or ends i 0)) ∷ times (get_or ends i 0) (drop (i + 1) ends)) r → E first (times 0 ends) r
+  gives h l r f = g.same r (subst (λ (xs : List Float). E s xs r) (sym (next_rise ends i before h (lt-ltb _ _ l))) f)
 
-  pub left_rise : {x : Float} {r : S} → i < length ends → before < get_or ends i 0 → x ≡ time_of (fix (get_or ends i 0)) → post s x r → Left pre post first ends (i + 1) (get_or ends i 0) r
-  left_rise {x} {r} h l e p =
-      let q : post s (time_of (fix (get_or ends i 0))) r = subst (λ (z : Float). post s z r) e p in
-      record {
-        callable = (calls h l).1 r q;
-        same = λ last f. g.same last (subst (λ (xs : List Float). FoldsTo post s xs last) (sym (next_rise ends i before h (lt-ltb _ _ l))) (r, q, f));
-      }
-
-  pub left_flat : i < length ends → get_or ends i 0 ≤ before → Left pre post first ends (i + 1) (get_or ends i 0) s
+  pub left_flat : i < length ends → get_or ends i 0 ≤ before → Left C E first ends (i + 1) (get_or ends i 0) s
   left_flat h l =
-      record {
-        callable = subst (CallableInFold pre post s) (next_flat ends i before h (le-ltb _ _ l)) g.callable;
-        same = λ last f. g.same last (subst (λ (xs : List Float). FoldsTo post s xs last) (sym (next_flat ends i before h (le-ltb _ _ l))) f);
-      }
+      let e : times before (drop i ends) ≡ times (get_or ends i 0) (drop (i + 1) ends) = next_flat ends i before h (le-ltb _ _ l) in
+      record { callable = subst (C s) e g.callable; same = λ r f. g.same r (subst (λ (xs : List Float). E s xs r) (sym e) f) }
 
-  pub left_end : length ends ≤ i → FoldsTo post first (times 0 ends) s
+  pub left_end : (r : R) → length ends ≤ i → E s [] r → E first (times 0 ends) r
   unfolding times
-  left_end h = g.same s (subst (λ (xs : List ℕ). FoldsTo post s (times before xs) s) (sym (drop_of_length-le ends h)) refl)
+  left_end r h f = g.same r (subst (λ (xs : List ℕ). E s (times before xs) r) (sym (drop_of_length-le ends h)) f)
 
--- ---- a call of `transitions` whose step is a function
+module _ {S R : Type 0} {pre : S → Float → Type 0} {some : S → Float → S → Type 0} {E : S → List Float → R → Type 0} {first : S} {ends : List ℕ} {i before : ℕ} {s : S} (g : Left (CallableInFold pre some) E first ends i before s) {x : Float} (h : i < length ends) (l : before < get_or ends i 0) (e : x ≡ time_of (fix (get_or ends i 0))) where
+  pub left_call : pre s x
+  left_call = rw e (calls g h l).0
+
+module _ {S : Type 0} {pre : S → Float → Type 0} {post : S → Float → S → Type 0} {first : S} {ends : List ℕ} {i before : ℕ} {s : S} (g : Left (CallableInFold pre post) (FoldsTo post) first ends i before s) {x : Float} (h : i < length ends) (l : before < get_or ends i 0) (e : x ≡ time_of (fix (get_or ends i 0))) where
+  pub left_rise : {r : S} → post s x r → Left (CallableInFold pre post) (FoldsTo post) first ends (i + 1) (get_or ends i 0) r
+  left_rise {r} p =
+      let q : post s (time_of (fix (get_or ends i 0))) r = subst (λ (z : Float). post s z r) e p in
+      record { callable = (calls g h l).1 r q; same = λ last f. gives g h l last (r, q, f) }
+
+module _ {S : Type 0} {pre : S → Float → Type 0} {post : S → Float → Option S → Type 0} {first : S} {ends : List ℕ} {i before : ℕ} {s : S} (g : Left (CallableInFold pre (IsSomeOf post)) (TryFoldsTo post) first ends i before s) {x : Float} (h : i < length ends) (l : before < get_or ends i 0) (e : x ≡ time_of (fix (get_or ends i 0))) where
+  at_slot : (o : Option S) → post s x o → post s (time_of (fix (get_or ends i 0))) o
+  at_slot o p = subst (λ (z : Float). post s z o) e p
+
+  pub left_try : (r : S) → post s x (Some r) → Left (CallableInFold pre (IsSomeOf post)) (TryFoldsTo post) first ends (i + 1) (get_or ends i 0) r
+  left_try r p = record { callable = (calls g h l).1 r (at_slot (Some r) p); same = λ last f. gives g h l last (Some r, at_slot (Some r) p, f) }
+
+  pub left_stop : post s x None → TryFoldsTo post first (times 0 ends) None
+  left_stop p = gives g h l None (None, at_slot None p, refl)
+
+-- ---- a call of `transitions` or `try_transitions` whose step is a function
 pub callable : {S : Type 0} (pre : S → Float → Type 0) (post : S → Float → S → Type 0) → ((s : S) (x : Float) → pre s x) → (s : S) (xs : List Float) → CallableInFold pre post s xs
 callable pre post h s [] = tt
 callable pre post h s (x ∷ xs) = (h s x, λ r p. callable pre post h r xs)
@@ -70,6 +81,22 @@ pub folded : {S : Type 0} (post : S → Float → S → Type 0) (f : S → Float
 unfolding fold
 folded post f h s [] r e = sym e
 folded post f h s (x ∷ xs) r (q, p, e) = folded post f h q xs r e ∙ ap (λ z. fold f z xs) (h s x q p)
+
+module _ {S : Type 0} (f : S → Float → Option S) where
+  abbrev on : Option S → Float → Option S
+  on o x = option_and_then (λ s. f s x) o
+
+  none_on : (xs : List Float) → fold on None xs ≡ None
+  unfolding fold
+  none_on [] = refl
+  none_on (x ∷ xs) = none_on xs
+
+  pub tried : (post : S → Float → Option S → Type 0) → ((s : S) (x : Float) (r : Option S) → post s x r → r ≡ f s x)
+      → (s : S) (xs : List Float) (r : Option S) → TryFoldsTo post s xs r → r ≡ fold on (Some s) xs
+  unfolding fold
+  tried post h s [] r e = e
+  tried post h s (x ∷ xs) r (None, p, e) = e ∙ sym (none_on xs) ∙ ap (λ (o : Option S). fold on o xs) (h s x None p)
+  tried post h s (x ∷ xs) r (Some q, p, e) = tried post h q xs r e ∙ ap (λ (o : Option S). fold on o xs) (h s x (Some q) p)
 
 -- ---- the last rise, from the end
 module _ (slots : List ℕ) where

@@ -6,7 +6,7 @@ ghost use Rattle.std.specs.Prelude.{◌≡◌, ◌≤◌, length};
 ghost use Rattle.std.specs.List.{FoldsTo};
 ghost use Rattle.std.specs.Float.{binary64};
 ghost use Rattle.std.specs.Float.Ieee.{of_bits};
-ghost use Rattle.fit.specs.Slots.{time_of, last_rise, times, CallableInFold};
+ghost use Rattle.fit.specs.Slots.{time_of, last_rise, times, CallableInFold, IsSomeOf, TryFoldsTo};
 ghost use Rattle.fit.specs.Fit.{symbols_of, k_after, fit_step, sums_of, line_with, line_of, fit_of, run_after, check_step, check_of, second_of, Known, grid_fit_of};
 
 // How far a transition may lie from its place on the symbol clock, and a run's length from its number of symbols, in symbols.
@@ -50,6 +50,23 @@ pub fn transitions<S, F: Fn(S, f64) -> S>(ends: &[u32], first: S, step: F) -> S
         before = v;
     }
     s
+}
+
+// The same, up to the first transition where `step` gives none. A function of its own, and not `transitions` over an Option: after a
+// transition that is off a grid the others need not be walked, which `lane_fsk_widths` feels (3.6 % more instructions at 600 slots).
+fn try_transitions<S, F: Fn(S, f64) -> Option<S>>(ends: &[u32], first: S, step: F) -> Option<S>
+    requires { CallableInFold (F.pre step) (IsSomeOf (F.post step)) first (times 0 ends.now) }
+    ensures { TryFoldsTo (F.post step) first (times 0 ends.now) result }
+{
+    let mut s = first;
+    let mut before: u32 = 0;
+    for &v in ends {
+        if before < v {
+            s = step(s, time_of(arith::Fix64(v)))?;
+        }
+        before = v;
+    }
+    Some(s)
 }
 
 // ---- the fit of a line
@@ -198,7 +215,7 @@ fn check_step(c: Check, x: f64, a: f64, t: f64) -> Option<Check>
     })
 }
 
-// The grid a + k t, if all transitions and all runs keep within the two limits.
+// The grid a + k t, if all transitions and all runs keep within the two limits. The first that does not ends the walk.
 fn grid_check(ends: &[u32], a: f64, t: f64) -> Option<Grid>
     ensures { result ≡ check_of (times 0 ends.now) a t }
 {
@@ -207,7 +224,7 @@ fn grid_check(ends: &[u32], a: f64, t: f64) -> Option<Grid>
         k: 0.0,
         prev: None,
     };
-    let c = transitions(ends, Some(none), |c, x| check_step(c?, x, a, t))?;
+    let c = try_transitions(ends, none, |c, x| check_step(c, x, a, t))?;
     Some(Grid { a, t, cost: c.cost })
 }
 

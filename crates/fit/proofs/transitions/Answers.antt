@@ -1,4 +1,5 @@
 -- What is left of the fold at a slot is the whole fold: a slot that rises takes one call.
+use mathlib.Core.Path.{refl}
 use Rattle.fit.proofs.Passes.{left_start, left_call, left_rise, left_flat, left_end}
 use Rattle.fit.proofs.transitions.Goals as goal
 use Rattle.fit.proofs.transitions.Goals.{then-before-v, else-before-v}
@@ -18,4 +19,4 @@ loop-v-preserved g c =
     ]
 
 pub returns : goal.returns
-returns g c = left_end c.loop-v.invariant c.loop-v-test.false
+returns g c = left_end c.loop-v.invariant _ c.loop-v-test.false refl
