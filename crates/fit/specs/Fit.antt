@@ -7,6 +7,7 @@ use Rattle.ieee.specs.Rounding.{round_of}
 use Rattle.arith.specs.Leaves.{abs_of, max_of}
 use Rattle.ieee.specs.Constants.{zero64, one64}
 use Rattle.fit.specs.Slots.{times, fold}
+use Rattle.fit.specs.declared.Last.{Last}
 use Rattle.fit.specs.declared.Line.{Line}
 use Rattle.fit.specs.declared.Grid.{Grid}
 use Rattle.fit.specs.declared.Sums.{Sums}
@@ -30,6 +31,13 @@ unfoldable pub k_after : Option Float → Float → Float → Float → Float
 k_after None k x t = k
 k_after (Some tp) k x t = add binary64 k (symbols_of (sub binary64 x tp) t)
 
+abbrev pub no_last : Last
+no_last = record { k = zero64; prev = None }
+
+-- x is the last transition, with the symbol number k
+abbrev pub last_at : Float → Float → Last
+last_at k x = record { k = k; prev = Some x }
+
 -- ---- the two fits
 abbrev pub summed : Sums → Float → Float → Sums
 summed s k x = record {
@@ -38,15 +46,14 @@ summed s k x = record {
   skk = add binary64 s.skk (mul binary64 k k);
   st = add binary64 s.st x;
   skt = add binary64 s.skt (mul binary64 k x);
-  k = k;
-  prev = Some x;
+  last = last_at k x;
 }
 
 unfoldable pub fit_step : Float → Sums → Float → Sums
-fit_step t s x = summed s (k_after s.prev s.k x t) x
+fit_step t s x = summed s (k_after s.last.prev s.last.k x t) x
 
 abbrev pub no_sums : Sums
-no_sums = record { n = zero64; sk = zero64; skk = zero64; st = zero64; skt = zero64; k = zero64; prev = None }
+no_sums = record { n = zero64; sk = zero64; skk = zero64; st = zero64; skt = zero64; last = no_last }
 
 unfoldable pub sums_of : Float → List Float → Sums
 sums_of t ts = fold (fit_step t) no_sums ts
@@ -84,26 +91,26 @@ abbrev pub distance : Float → Float → Float → Float → Float
 distance a t k x = div binary64 (sub binary64 x (add binary64 a (mul binary64 k t))) t
 
 abbrev pub checked : Check → Float → Float → Float → Option Check
-checked c k r x = then_some (le (abs_of r) grid_tol) (record { cost = add binary64 c.cost (mul binary64 r r); k = k; prev = Some x })
+checked c k r x = then_some (le (abs_of r) grid_tol) (record { cost = add binary64 c.cost (mul binary64 r r); last = last_at k x })
 
 unfoldable pub check_step : Float → Float → Check → Float → Option Check
-check_step a t c x = option_and_then (λ k. checked c k (distance a t k x) x) (run_after c.prev c.k x t)
+check_step a t c x = option_and_then (λ k. checked c k (distance a t k x) x) (run_after c.last.prev c.last.k x t)
 
 -- a check that failed stays failed
 abbrev pub check_on : Float → Float → Option Check → Float → Option Check
 check_on a t c x = option_and_then (λ d. check_step a t d x) c
 
 abbrev pub no_check : Check
-no_check = record { cost = zero64; k = zero64; prev = None }
+no_check = record { cost = zero64; last = no_last }
 
 -- the grid with its cost where the check passed, and no grid where it did not
-abbrev pub answer_of : Float → Float → Check → Grid
+unfoldable pub answer_of : Float → Float → Check → Grid
 answer_of a t c = record { a = a; t = t; cost = c.cost }
 
 unfoldable pub check_of : List Float → Float → Float → Option Grid
 check_of ts a t = option_map (answer_of a t) (fold (check_on a t) (Some no_check) ts)
 
-abbrev pub check_line : List Float → Line → Option Grid
+unfoldable pub check_line : List Float → Line → Option Grid
 check_line ts line = check_of ts line.a line.t
 
 -- the fit once more, with the first fit's symbol

@@ -78,8 +78,30 @@ pub fn symbols(d: f64, t: f64) -> f64
     arith::max64(ieee::round(d / t), 1.0)
 }
 
+// The last transition, where there is one, and its symbol number, 0 before the first.
+#[derive(Clone, Copy)]
+pub struct Last {
+    pub k: f64,
+    pub prev: Option<f64>,
+}
+
+impl Last {
+    // Before the first transition.
+    pub const NONE: Last = Last { k: 0.0, prev: None };
+
+    // The symbol number of the transition x, which is one run further.
+    pub fn k_after(self, x: f64, t: f64) -> f64
+        ensures { result ≡ k_after self.prev self.k x t }
+    {
+        match self.prev {
+            Some(tp) => self.k + symbols(x - tp, t),
+            None => self.k,
+        }
+    }
+}
+
 // The sums of a fit over the transitions so far, by the names of the Rust: of 1, k, k * k, t and k * t, where k is the symbol number of
-// the transition at t. Then the last transition's k, and the last transition, where there is one.
+// the transition at t.
 #[derive(Clone, Copy)]
 pub struct Sums {
     pub n: f64,
@@ -87,33 +109,21 @@ pub struct Sums {
     pub skk: f64,
     pub st: f64,
     pub skt: f64,
-    pub k: f64,
-    pub prev: Option<f64>,
-}
-
-// The symbol number of the transition x.
-pub fn k_after(prev: Option<f64>, k: f64, x: f64, t: f64) -> f64
-    ensures { result ≡ k_after prev k x t }
-{
-    match prev {
-        Some(tp) => k + symbols(x - tp, t),
-        None => k,
-    }
+    pub last: Last,
 }
 
 // The transition x is one more, for the symbol t steps long.
 fn fit_step(s: Sums, x: f64, t: f64) -> Sums
     ensures { result ≡ fit_step t s x }
 {
-    let k = k_after(s.prev, s.k, x, t);
+    let k = s.last.k_after(x, t);
     Sums {
         n: s.n + 1.0,
         sk: s.sk + k,
         skk: s.skk + k * k,
         st: s.st + x,
         skt: s.skt + k * x,
-        k,
-        prev: Some(x),
+        last: Last { k, prev: Some(x) },
     }
 }
 
@@ -158,8 +168,7 @@ pub fn fit_sums(ends: &[u32], t: f64) -> Sums
         skk: 0.0,
         st: 0.0,
         skt: 0.0,
-        k: 0.0,
-        prev: None,
+        last: Last::NONE,
     };
     transitions(ends, none, |s, x| fit_step(s, x, t))
 }
@@ -183,35 +192,33 @@ pub struct Grid {
 
 // The symbol number at the transition x, where the run that ends there is near its whole number of symbols of t steps; at the first
 // transition no run ends.
-fn run_after(prev: Option<f64>, k: f64, x: f64, t: f64) -> Option<f64>
-    ensures { result ≡ run_after prev k x t }
+fn run_after(last: Last, x: f64, t: f64) -> Option<f64>
+    ensures { result ≡ run_after last.prev last.k x t }
 {
-    let Some(tp) = prev else {
-        return Some(k);
+    let Some(tp) = last.prev else {
+        return Some(last.k);
     };
     let d = x - tp;
     let n = symbols(d, t);
-    (arith::abs64(d - n * t) <= RUN_TOL * t).then_some(k + n)
+    (arith::abs64(d - n * t) <= RUN_TOL * t).then_some(last.k + n)
 }
 
-// What the check of a grid found so far: the sum of the squared distances in symbols, and the last transition with its symbol number.
+// What the check of a grid found so far: the sum of the squared distances in symbols, and the last transition.
 #[derive(Clone, Copy)]
 pub struct Check {
     pub cost: f64,
-    pub k: f64,
-    pub prev: Option<f64>,
+    pub last: Last,
 }
 
 // The transition x, where the run before it is near its whole number of symbols and x is near its grid point.
 fn check_step(c: Check, x: f64, a: f64, t: f64) -> Option<Check>
     ensures { result ≡ check_step a t c x }
 {
-    let k = run_after(c.prev, c.k, x, t)?;
+    let k = run_after(c.last, x, t)?;
     let r = (x - (a + k * t)) / t;
     (arith::abs64(r) <= GRID_TOL).then_some(Check {
         cost: c.cost + r * r,
-        k,
-        prev: Some(x),
+        last: Last { k, prev: Some(x) },
     })
 }
 
@@ -221,8 +228,7 @@ fn grid_check(ends: &[u32], a: f64, t: f64) -> Option<Grid>
 {
     let none = Check {
         cost: 0.0,
-        k: 0.0,
-        prev: None,
+        last: Last::NONE,
     };
     let c = try_transitions(ends, none, |c, x| check_step(c, x, a, t))?;
     Some(Grid { a, t, cost: c.cost })

@@ -6,8 +6,9 @@ use Rattle.ieee.specs.Rounding.{round_of}
 use Rattle.arith.specs.Leaves.{width_of}
 use Rattle.ieee.specs.Constants.{zero64}
 use Rattle.fit.specs.Slots.{time_of, fix, transitions_of}
-use Rattle.fit.specs.Fit.{symbols_of, k_after, sums_of}
+use Rattle.fit.specs.Fit.{symbols_of, k_after, no_last, last_at, sums_of}
 use Rattle.fit.specs.declared.Grid.{Grid}
+use Rattle.fit.specs.declared.Last.{Last}
 use Rattle.grid.specs.Guess.{runs_of, grid_of}
 use Rattle.grid.specs.declared.Clock.{Clock}
 use Rattle.grid.specs.declared.Place.{Place}
@@ -31,29 +32,29 @@ clock_with a t count k end = record {
 
 -- k of the last transition, as the sums of a fit count it
 unfoldable pub clock_of : Float → Float → ℕ → List Float → Float → Clock
-clock_of a t count ts end = clock_with a t count (sums_of t ts).k end
+clock_of a t count ts end = clock_with a t count (sums_of t ts).last.k end
 
 -- ---- the boundaries on the grid: an empty slot has no width, a transition is on the grid, the end comes after the last
-abbrev pub place_at : ℕ → Float → ℕ → Float → Option Float → Place
-place_at raw r seen k prev = record { before_raw = raw; before = r; seen = seen; k = k; prev = prev }
+abbrev pub place_at : ℕ → Float → ℕ → Last → Place
+place_at raw r seen last = record { before_raw = raw; before = r; seen = seen; last = last }
 
 abbrev pub transition_at : Clock → Place → ℕ → Float → Place
-transition_at c p v k = place_at v (round_of (mul binary64 (add binary64 c.lead k) c.t)) (p.seen + 1) k (Some (time_of (fix v)))
+transition_at c p v k = place_at v (round_of (mul binary64 (add binary64 c.lead k) c.t)) (p.seen + 1) (last_at k (time_of (fix v)))
 
 unfoldable pub place_of : Clock → Place → ℕ → Place
 place_of c p v =
     cond (leb v p.before_raw)
-    (place_at v p.before p.seen p.k p.prev)
+    (place_at v p.before p.seen p.last)
     (cond (ltb p.seen c.n_tr)
-    (transition_at c p v (k_after p.prev p.k (time_of (fix v)) c.t))
-    (place_at v (round_of (mul binary64 c.stop c.t)) p.seen p.k p.prev))
+    (transition_at c p v (k_after p.last.prev p.last.k (time_of (fix v)) c.t))
+    (place_at v (round_of (mul binary64 c.stop c.t)) p.seen p.last))
 
 unfoldable pub on_grid_of : Clock → Place → List ℕ → List ℕ
 on_grid_of c p [] = []
 on_grid_of c p (v ∷ vs) = (width_of p.before (place_of c p v).before).0 ∷ on_grid_of c (place_of c p v) vs
 
 abbrev pub at_start : Place
-at_start = place_at 0 zero64 0 zero64 None
+at_start = place_at 0 zero64 0 no_last
 
 -- ---- the whole
 unfoldable pub widths_on : Option Grid → ℕ → List ℕ → List ℕ

@@ -8,7 +8,7 @@ ghost use Rattle.ieee.specs.Constants.{zero64};
 ghost use Rattle.fit.specs.Slots.{times};
 ghost use Rattle.grid.specs.Widths.{end_of, clock_of, place_of, at_start, on_grid_of, measured_of, frame_clock, fsk_widths_of};
 
-use fit::Grid;
+use fit::{Grid, Last};
 
 mod guess;
 
@@ -38,15 +38,13 @@ pub struct Clock {
     pub n_tr: usize,
 }
 
-// The boundary before a slot: its 64ths, its time on the grid, how many transitions were seen, and the last of them, where there is one,
-// with its symbol number.
+// The boundary before a slot: its 64ths, its time on the grid, how many transitions were seen, and the last of them.
 #[derive(Clone, Copy)]
 pub struct Place {
     pub before_raw: u32,
     pub before: f64,
     pub seen: usize,
-    pub k: f64,
-    pub prev: Option<f64>,
+    pub last: Last,
 }
 
 // The time of the frame's end.
@@ -63,11 +61,11 @@ fn clock_of(ends: &[u32], end: f64, g: Grid, n_tr: usize) -> Clock
 {
     let s = fit::fit_sums(ends, g.t);
     let lead = fit::symbols(g.a, g.t);
-    let tail = fit::symbols(end - (g.a + s.k * g.t), g.t);
+    let tail = fit::symbols(end - (g.a + s.last.k * g.t), g.t);
     Clock {
         t: g.t,
         lead,
-        stop: lead + s.k + tail,
+        stop: lead + s.last.k + tail,
         n_tr,
     }
 }
@@ -81,13 +79,12 @@ fn place_at(c: Clock, p: Place, v: u32) -> Place
     }
     if p.seen < c.n_tr {
         let x = fit::time_of(arith::Fix64(v));
-        let k = fit::k_after(p.prev, p.k, x, c.t);
+        let k = p.last.k_after(x, c.t);
         return Place {
             before_raw: v,
             before: ieee::round((c.lead + k) * c.t),
             seen: p.seen + 1,
-            k,
-            prev: Some(x),
+            last: Last { k, prev: Some(x) },
         };
     }
     Place {
@@ -105,8 +102,7 @@ fn on_grid(slots: &mut [u32], c: Clock)
         before_raw: 0,
         before: 0.0,
         seen: 0,
-        k: 0.0,
-        prev: None,
+        last: Last::NONE,
     };
     for v in slots {
         let before = p.before;

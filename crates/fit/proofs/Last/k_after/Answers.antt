@@ -1,5 +1,5 @@
 use Rattle.fit.specs.Fit.{k_after}
-use Rattle.fit.proofs.k_after.Goals as goal
+use Rattle.fit.proofs.Last.k_after.Goals as goal
 
 pub returns-in-Some : goal.returns-in-Some
 unfolding k_after
