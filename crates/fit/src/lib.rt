@@ -79,16 +79,13 @@ pub fn symbols(d: f64, t: f64) -> f64
 }
 
 // The last transition, where there is one, and its symbol number, 0 before the first.
-#[derive(Clone, Copy)]
+#[derive(Clone, Copy, Default)]
 pub struct Last {
     pub k: f64,
     pub prev: Option<f64>,
 }
 
 impl Last {
-    // Before the first transition.
-    pub const NONE: Last = Last { k: 0.0, prev: None };
-
     // The symbol number of the transition x, which is one run further.
     pub fn k_after(self, x: f64, t: f64) -> f64
         ensures { result ≡ k_after self.prev self.k x t }
@@ -102,7 +99,7 @@ impl Last {
 
 // The sums of a fit over the transitions so far, by the names of the Rust: of 1, k, k * k, t and k * t, where k is the symbol number of
 // the transition at t.
-#[derive(Clone, Copy)]
+#[derive(Clone, Copy, Default)]
 pub struct Sums {
     pub n: f64,
     pub sk: f64,
@@ -162,15 +159,7 @@ fn line_of(s: Sums) -> Option<Line>
 pub fn fit_sums(ends: &[u32], t: f64) -> Sums
     ensures { result ≡ sums_of t (times 0 ends.now) }
 {
-    let none = Sums {
-        n: 0.0,
-        sk: 0.0,
-        skk: 0.0,
-        st: 0.0,
-        skt: 0.0,
-        last: Last::NONE,
-    };
-    transitions(ends, none, |s, x| fit_step(s, x, t))
+    transitions(ends, Sums::default(), |s, x| fit_step(s, x, t))
 }
 
 // The line of the transitions, their runs counted in symbols of t steps.
@@ -204,7 +193,7 @@ fn run_after(last: Last, x: f64, t: f64) -> Option<f64>
 }
 
 // What the check of a grid found so far: the sum of the squared distances in symbols, and the last transition.
-#[derive(Clone, Copy)]
+#[derive(Clone, Copy, Default)]
 pub struct Check {
     pub cost: f64,
     pub last: Last,
@@ -226,11 +215,7 @@ fn check_step(c: Check, x: f64, a: f64, t: f64) -> Option<Check>
 fn grid_check(ends: &[u32], a: f64, t: f64) -> Option<Grid>
     ensures { result ≡ check_of (times 0 ends.now) a t }
 {
-    let none = Check {
-        cost: 0.0,
-        last: Last::NONE,
-    };
-    let c = try_transitions(ends, none, |c, x| check_step(c, x, a, t))?;
+    let c = try_transitions(ends, Check::default(), |c, x| check_step(c, x, a, t))?;
     Some(Grid { a, t, cost: c.cost })
 }
 

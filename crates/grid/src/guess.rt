@@ -64,7 +64,7 @@ fn run_to(shortest: f64, prev: Option<f64>, x: f64) -> Option<f64>
 }
 
 // The runs of one symbol: their sum and how many; and the last transition, where there is one.
-#[derive(Clone, Copy)]
+#[derive(Clone, Copy, Default)]
 pub struct Mean {
     pub sum: f64,
     pub n: f64,
@@ -89,12 +89,7 @@ fn mean_step(s: Mean, x: f64, shortest: f64) -> Mean
 fn mean_of(ends: &[u32], shortest: f64) -> Mean
     ensures { result ≡ mean_of shortest (times 0 ends.now) }
 {
-    let none = Mean {
-        sum: 0.0,
-        n: 0.0,
-        prev: None,
-    };
-    fit::transitions(ends, none, |s, x| mean_step(s, x, shortest))
+    fit::transitions(ends, Mean::default(), |s, x| mean_step(s, x, shortest))
 }
 
 // ---- the grid of the smallest cost

@@ -39,7 +39,7 @@ pub struct Clock {
 }
 
 // The boundary before a slot: its 64ths, its time on the grid, how many transitions were seen, and the last of them.
-#[derive(Clone, Copy)]
+#[derive(Clone, Copy, Default)]
 pub struct Place {
     pub before_raw: u32,
     pub before: f64,
@@ -98,12 +98,7 @@ fn place_at(c: Clock, p: Place, v: u32) -> Place
 fn on_grid(slots: &mut [u32], c: Clock)
     ensures { slots.new ≡ on_grid_of c at_start slots.old }
 {
-    let mut p = Place {
-        before_raw: 0,
-        before: 0.0,
-        seen: 0,
-        last: Last::NONE,
-    };
+    let mut p = Place::default();
     for v in slots {
         let before = p.before;
         p = place_at(c, p, *v);

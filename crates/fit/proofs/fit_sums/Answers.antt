@@ -8,4 +8,6 @@ transitions-requires c = callable _ _ (λ s x. search rules) _ _
 
 pub returns : goal.returns
 unfolding sums_of
-returns c = folded _ (fit_step c.args.t) (λ s x r h. search rules) _ _ _ c.transitions.ensures
+returns c =
+    let f = folded _ (fit_step c.args.t) (λ s x r h. search rules) _ _ _ c.transitions.ensures in
+    search rules
