@@ -75,7 +75,7 @@ fn try_transitions<S, F: Fn(S, f64) -> Option<S>>(ends: &[u32], first: S, step: 
 pub fn symbols(d: f64, t: f64) -> f64
     ensures { result ≡ symbols_of d t }
 {
-    arith::max64(ieee::round(d / t), 1.0)
+    arith::max(ieee::round(d / t), 1.0)
 }
 
 // The last transition, where there is one, and its symbol number, 0 before the first.

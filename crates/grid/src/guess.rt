@@ -32,7 +32,7 @@ fn runs_step(s: Runs, x: f64) -> Runs
         count: s.count + 1,
         shortest: s
             .prev
-            .map_or(s.shortest, |tp| arith::min64(s.shortest, x - tp)),
+            .map_or(s.shortest, |tp| arith::min(s.shortest, x - tp)),
         prev: Some(x),
     }
 }
