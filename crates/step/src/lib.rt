@@ -3,7 +3,7 @@
 #![tactic(auto)]
 
 ghost use Rattle.std.specs.Prelude.{◌≡◌, true, ℕ, ◌≤◌, List, Float, pos, length, get_or, eqb};
-ghost use Rattle.lane.specs.Answers.{reply_of, phase_of, answer_of};
+ghost use Rattle.lane.specs.Answers.{phase_of, answer_of};
 ghost use Rattle.lane.specs.Refusals.{step_refusal_by};
 ghost use Rattle.lane.specs.Begin.{ring_of, cleared_of};
 ghost use Rattle.step.specs.Core.{zip_of, reals_of, imaginaries_of, lead_in, joined_of, at_call};
@@ -24,6 +24,7 @@ use burst::{Burst, BurstCore, Lead};
 use envelope::At;
 use fsk::{Cand, CandCore, Frame, FrameCore};
 use lane::{Answer, Lane, Reply, StepArgs};
+use refusals::Refusal;
 use shared::{Next, OutCore, Settings};
 
 // ---- refusals
@@ -36,7 +37,7 @@ fn step_refusal(
     s: StepArgs,
     ook: usize,
     fsk: usize,
-) -> u32
+) -> Result<(), Refusal>
     ensures { result ≡ step_refusal_by lane p phase last s ook fsk }
 {
     let busy = phase != 0;
@@ -48,23 +49,13 @@ fn step_refusal(
 
 // ---- answers
 
+#[tactic(auto, unfolding(lane::specs::Answers::phase_of))]
 fn phase_of(n: Next) -> u32
     ensures { result ≡ phase_of n }
 {
     match n {
         Next::Stay => 2,
-        Next::Idle => 0,
-        Next::IdleAt(_) => 0,
-    }
-}
-
-fn reply_of(n: Next) -> Reply
-    ensures { result ≡ reply_of n }
-{
-    match n {
-        Next::Stay => Reply::Stay,
-        Next::Idle => Reply::Idle,
-        Next::IdleAt(e) => Reply::IdleAt(e),
+        Next::Idle | Next::IdleAt(_) => 0,
     }
 }
 
@@ -400,11 +391,10 @@ pub fn step_core(
     ensures { ((answer_of result.reply (joined_of result.core es.new re.new im.new ring.new cs.new), ook.new, fsk.new) ≡ stepped_by (step_refusal_by true c.settings c.phase c.last s (length ook.old) (length fsk.old)) (joined_of c es.old re.old im.old ring.old cs.old) s ook.old fsk.old) × (length es.new ≡ length es.old) × (length re.new ≡ length re.old) × (length im.new ≡ length im.old) }
 {
     let p = c.settings;
-    let k = step_refusal(true, p, c.phase, c.last, s, ook.len(), fsk.len());
-    let mut reply = Reply::Refused(k);
+    let asked = step_refusal(true, p, c.phase, c.last, s, ook.len(), fsk.len());
+    let mut reply = asked.and(Ok(Next::Stay));
     let mut m = c;
-    let ok = k == 0;
-    if ok {
+    if reply.is_ok() {
         ring_put(ring, s.index, s.envelope);
         let q = at_of(c, s);
         let x = s.x;
@@ -414,7 +404,6 @@ pub fn step_core(
         m.x_prev = x;
         m.burst = clear;
         m.serial = c.serial + 1;
-        reply = Reply::Stay;
         let leads = c.phase == 1;
         let mut n: usize = 1;
         if leads {
@@ -437,37 +426,33 @@ pub fn step_core(
             let wb = w.burst;
             m.burst = wb;
             m.phase = phase_of(next);
-            reply = reply_of(next);
+            reply = Ok(next);
         }
     }
     CoreAnswer { reply, core: m }
 }
 
 // Step: one sample of the lead or of the burst.
+#[tactic(auto, unfolding(lane::specs::Step::stepped, lane::specs::Refusals::step_refusal))]
 pub fn step(l: Lane, s: StepArgs, ook: &mut [u32], fsk: &mut [u32]) -> Answer
     ensures { (result, ook.new, fsk.new) ≡ stepped l s ook.old fsk.old }
 {
     let p = l.settings;
     let sound = lane::lane_ok(l);
-    let k = step_refusal(sound, p, l.phase, l.last, s, ook.len(), fsk.len());
-    let ok = k == 0;
-    if ok {
-        let c = core_of(l);
-        let mut es = envelopes(l);
-        let mut re = reals(l);
-        let mut im = imaginaries(l);
-        let mut ring = l.ring;
-        let mut cs = l.burst.frame.cand.cand_f;
-        let a = step_core(
-            c, s, &mut es, &mut re, &mut im, &mut ring, &mut cs, ook, fsk,
-        );
-        let reply = a.reply;
-        let core = a.core;
-        let lane = joined(core, es, re, im, ring, cs);
-        return Answer { reply, lane };
+    if let Err(k) = step_refusal(sound, p, l.phase, l.last, s, ook.len(), fsk.len()) {
+        return lane::refused(l, k);
     }
-    Answer {
-        reply: Reply::Refused(k),
-        lane: l,
-    }
+    let c = core_of(l);
+    let mut es = envelopes(l);
+    let mut re = reals(l);
+    let mut im = imaginaries(l);
+    let mut ring = l.ring;
+    let mut cs = l.burst.frame.cand.cand_f;
+    let a = step_core(
+        c, s, &mut es, &mut re, &mut im, &mut ring, &mut cs, ook, fsk,
+    );
+    let reply = a.reply;
+    let core = a.core;
+    let lane = joined(core, es, re, im, ring, cs);
+    Answer { reply, lane }
 }
