@@ -5,10 +5,11 @@ use mathlib.Core.Path.{◌≡◌, refl, sym}
 use native.Mathlib.Omega.{arith}
 use borrow.Author.Tests.{eqb-true, eqb-false, eq-eqb, ne_eqb, ltb-true, leb-true}
 use lib.Dec.{leb, eqb}
-use Rattle.std.specs.Prelude.{Ok}
+use Rattle.std.specs.Prelude.{⊤, Result, Ok, Err}
 use Rattle.domain.specs.Limits.{spent_serial, max_serial}
 use Rattle.shared.specs.declared.Settings.{Settings}
 use Rattle.refusals.specs.Domain.{settings_ok, unset_ok, index_ok, room_ok}
+use Rattle.refusals.specs.declared.Refusal.{Refusal}
 use Rattle.refusals.specs.declared.Refusal.TheVariants as refusal
 use Rattle.refusals.specs.Serial.{serial_ok, serial_left}
 use Rattle.refusals.specs.State.{burst_ok, lead_ok, cand_ok}
@@ -17,6 +18,7 @@ use Rattle.refusals.proofs.Order.{passed, none_failed}
 use Rattle.lane.specs.declared.BeginArgs.{BeginArgs}
 use Rattle.lane.specs.declared.Lane.{Lane}
 use Rattle.lane.specs.Refusals.{opened_ok, lane_ok, follows_of, begin_floats_ok, open_refusal, begin_refusal, close_refusal, Passes}
+use Rattle.lane.specs.Step.{unless_refused}
 
 -- so a lane that had settings, or is not idle, has them in the domain
 pub opened_tells : (had phase : ℕ) (p : Settings) → opened_ok had phase p ≡ true → (eqb had 0 && eqb phase 0) ≡ false → settings_ok p ≡ true
@@ -56,6 +58,11 @@ lane_passes l h =
 pub passes_lane : (l : Lane) → Passes l → lane_ok l ≡ true
 unfolding lane_ok
 passes_lane l p = simp (p.had, p.named, p.within, p.filled, p.waits, p.near, p.counted)
+
+-- ---- what a call gives, by whether it is refused
+pub by_refusal : {A : Type 0} (P : A → Type 0) (k : Result ⊤ Refusal) {a : A} {r : Refusal → A} → (k ≡ Ok tt → P a) → ((n : Refusal) → k ≡ Err n → P (r n)) → P (unless_refused k a r)
+by_refusal P (Ok u) h g = h refl
+by_refusal P (Err n) h g = g n refl
 
 -- ---- an accepted call finds a serial that can be raised
 

@@ -23,34 +23,35 @@ stay l = record { reply = Ok next.Stay; lane = l }
 unfoldable pub new_lane : Lane
 new_lane = idle_lane 0 no_settings
 
+-- a where the checks pass, and what r says of the refusal where one fails
+abbrev pub unless_refused : {A : Type 0} → Result ⊤ Refusal → A → (Refusal → A) → A
+unless_refused (Ok _) a r = a
+unless_refused (Err k) a r = r k
+
 -- opening puts a new lane in place of any other, and goes on from its serial
 abbrev pub opened_by : Result ⊤ Refusal → Lane → Settings → Answer
-opened_by (Ok _) l p = stamped l (stay (idle_lane 1 p))
-opened_by (Err k) l p = refuse k l
+opened_by k l p = unless_refused k (stamped l (stay (idle_lane 1 p))) (λ r. refuse r l)
 
 unfoldable pub opened : Lane → Settings → Answer
 opened l p = opened_by (open_refusal l p) l p
 
 -- begin writes to neither buffer
 abbrev pub begun_by : Result ⊤ Refusal → Lane → BeginArgs → Answer
-begun_by (Ok _) l b = stamped l (stay (lead_lane l b))
-begun_by (Err k) l b = refuse k l
+begun_by k l b = unless_refused k (stamped l (stay (lead_lane l b))) (λ r. refuse r l)
 
 unfoldable pub begun : Lane → BeginArgs → List ℕ → List ℕ → Answer
 begun l b ook fsk = begun_by (begin_refusal l b (length ook) (length fsk)) l b
 
 -- the answer, the OOK buffer and the FSK buffer
 abbrev pub stepped_by : Result ⊤ Refusal → Lane → StepArgs → List ℕ → List ℕ → Answer × List ℕ × List ℕ
-stepped_by (Ok _) l s ook fsk = stamped_with l (advance_of l s ook fsk)
-stepped_by (Err k) l s ook fsk = (refuse k l, ook, fsk)
+stepped_by k l s ook fsk = unless_refused k (stamped_with l (advance_of l s ook fsk)) (λ r. (refuse r l, ook, fsk))
 
 unfoldable pub stepped : Lane → StepArgs → List ℕ → List ℕ → Answer × List ℕ × List ℕ
 stepped l s ook fsk = stepped_by (step_refusal l s (length ook) (length fsk)) l s ook fsk
 
 -- close writes to the OOK buffer alone
 abbrev pub closed_by : Result ⊤ Refusal → Lane → List ℕ → List ℕ → Answer × List ℕ × List ℕ
-closed_by (Ok _) l ook fsk = stamped_with l (close_of l ook fsk)
-closed_by (Err k) l ook fsk = (refuse k l, ook, fsk)
+closed_by k l ook fsk = unless_refused k (stamped_with l (close_of l ook fsk)) (λ r. (refuse r l, ook, fsk))
 
 unfoldable pub closed : Lane → List ℕ → List ℕ → Answer × List ℕ × List ℕ
 closed l ook fsk = closed_by (close_refusal l (length ook) (length fsk)) l ook fsk
