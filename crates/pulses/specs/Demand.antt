@@ -6,11 +6,11 @@ use Rattle.arith.specs.Leaves.{width_of}
 use Rattle.shared.specs.declared.Settings.{Settings}
 use Rattle.shared.specs.declared.Out.{Out}
 use Rattle.shared.specs.Counts.{bit}
-use Rattle.lane.specs.declared.Reply.{Reply}
 use Rattle.lane.specs.declared.Lane.{Lane}
 use Rattle.lane.specs.declared.Answer.{Answer}
 use Rattle.lane.specs.declared.BeginArgs.{BeginArgs}
 use Rattle.lane.specs.declared.StepArgs.{StepArgs}
+use Rattle.lane.specs.Answers.{Reply}
 use Rattle.lane.specs.Step.{new_lane, opened, begun, stepped, closed}
 use Rattle.lane.specs.Part.{part_of}
 use Rattle.slots.specs.Slots.{slots_of}

@@ -2,7 +2,7 @@
 use mathlib.Core.Bool.{Bool, true, false}
 use mathlib.Core.Path.{◌≡◌, refl}
 use native.Mathlib.Omega.{arith}
-use Rattle.std.specs.Prelude.{⊤, Result, Ok}
+use Rattle.std.specs.Prelude.{⊤, Result, Ok, Err, is_ok}
 use Rattle.refusals.specs.declared.Refusal.{Refusal}
 use Rattle.refusals.specs.declared.Refusal.TheVariants as refusal
 use Rattle.refusals.specs.Order.{check, first_failed}
@@ -10,6 +10,14 @@ use Rattle.refusals.specs.Order.{check, first_failed}
 pub passed : (k : Refusal) (ok : Bool) (rest : Result ⊤ Refusal) → check k ok rest ≡ Ok tt → (ok ≡ true) × (rest ≡ Ok tt)
 passed k true rest e = (refl, e)
 passed k false rest e = let z : ⊥ = grind arith in elim z [ ]
+
+pub is_passed : (k : Result ⊤ Refusal) → is_ok k ≡ true → k ≡ Ok tt
+is_passed (Ok u) h = refl
+is_passed (Err r) h = grind arith
+
+pub not_passed : (k : Result ⊤ Refusal) → is_ok k ≡ false → k ≡ Ok tt → ⊥
+not_passed (Ok u) h e = grind arith
+not_passed (Err r) h e = grind arith
 
 -- a call that no check refuses passes each of them
 pub record AllPassed (settings lane phase serial index floats room : Bool) : Type 0 where
