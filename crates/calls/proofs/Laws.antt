@@ -19,11 +19,11 @@ use Rattle.lane.specs.Step.{stepped, closed}
 use Rattle.lane.specs.Part.{front, named_of, part_refusal, part_of}
 use Rattle.commands.specs.declared.Command.{Command}
 use Rattle.commands.specs.declared.Command.TheVariants.{End, Open, Begin, Step, Unknown, Short, Close}
-use Rattle.lines.specs.declared.Written.{Written}
+use Rattle.std.specs.Prelude.{Option, unwrap_or}
 use Rattle.lines.specs.Line.{max_slots, call_room, larger_of, has_room, record_line, call_text, written_call, put}
 use Rattle.lines.proofs.Room.{room_there, length_call, larger_left, larger_right}
 use Rattle.reached.proofs.Records.{PartsFit, parts_fit_step, parts_fit_close, parts_fit_begin, parts_fit_open, slots_step, slots_close, answered_step, answered_close, answered_begin, answered_open}
-use Rattle.calls.specs.Turn.{State, Called, called, shown_of, answer_text, called_text, text_of, place_of, waits, smaller_of, slots_of, most_of, Shown}
+use Rattle.calls.specs.Turn.{State, Called, called, shown_of, answer_text, called_text, text_of, waits, smaller_of, slots_of, most_of, Shown}
 
 -- ---- room
 
@@ -47,11 +47,7 @@ part_short l r ook fsk most h g = go (eqb (part_refusal l r) 0) (eqb r.state 1) 
     go false b d = omega arith
 
 larger_short : (n m most : ℕ) → n ≤ most → m ≤ most → larger_of n m ≤ most
-larger_short n m most h g = go (ltb n m)
-  where
-    go : (b : Bool) → cond b m n ≤ most
-    go true = g
-    go false = h
+larger_short n m most h g = omega arith
 
 -- room for longer parts is room for shorter ones
 room_less : (n most len at : ℕ) → n ≤ most → has_room most len at ≡ true → has_room n len at ≡ true
@@ -155,14 +151,14 @@ shown_text Stay l ook fsk = refl
 shown_text Idle l ook fsk = refl
 shown_text (IdleAt e) l ook fsk = refl
 
-pub answered : (r : Reply) (l : Lane) (ook fsk fs os x y : List ℕ) (at e : ℕ) (w : Written)
+pub answered : (r : Reply) (l : Lane) (ook fsk fs os x y : List ℕ) (at e : ℕ) (w : Option ℕ)
     → has_room (larger_of (length (shown_of r l l.burst.out_fsk ook fsk)) (length (shown_of r l l.burst.out_ook ook fsk))) (length x) at ≡ true
     → fs ≡ shown_of r l l.burst.out_fsk ook fsk → os ≡ shown_of r l l.burst.out_ook ook fsk
-    → ◌≡◌ {A = Written × List ℕ} (w, y) (written_call r l.burst.out_fsk fs l.burst.out_ook os l.last at x) → e ≡ place_of w at
+    → ◌≡◌ {A = Option ℕ × List ℕ} (w, y) (written_call r l.burst.out_fsk fs l.burst.out_ook os l.last at x) → e ≡ unwrap_or w at
     → ◌≡◌ {A = ℕ × List ℕ} (e, y) (put (answer_text r l ook fsk) (at, x))
 unfolding written_call put
 answered r l ook fsk fs os x y at e w room df dg q de =
-    ap (λ (n : ℕ). (n, y)) de ∙ ap (λ (z : Written × List ℕ). (place_of z.0 at, z.1)) q ∙ rw (df, dg) (rw room (ap (λ (v : List ℕ). (at + length v, sets x at v)) (shown_text r l ook fsk)))
+    ap (λ (n : ℕ). (n, y)) de ∙ ap (λ (z : Option ℕ × List ℕ). (unwrap_or z.0 at, z.1)) q ∙ rw (df, dg) (rw room (ap (λ (v : List ℕ). (at + length v, sets x at v)) (shown_text r l ook fsk)))
 
 -- the room that a turn has is room for the parts of its call
 pub room_shown : (c : Called) (most len at : ℕ) → Shown c most → has_room most len at ≡ true

@@ -9,8 +9,6 @@ use Rattle.lane.specs.Step.{opened, begun, stepped, closed}
 use Rattle.lane.specs.Part.{part_of}
 use Rattle.commands.specs.declared.Command.{Command}
 use Rattle.commands.specs.declared.Command.TheVariants.{End, Open, Begin, Step, Unknown, Short, Close}
-use Rattle.lines.specs.declared.Written.{Written}
-use Rattle.lines.specs.declared.Written.TheVariants.{At, NoRoom}
 use Rattle.lines.specs.Line.{record_line, call_text, max_slots, larger_of}
 
 -- a lane with its OOK and its FSK buffer
@@ -71,11 +69,6 @@ text_of (Step s) c = called_text c
 text_of Unknown c = called_text c
 text_of Short c = called_text c
 text_of Close c = called_text c
-
--- the place after lines that were written
-abbrev pub place_of : Written → ℕ → ℕ
-place_of (At e) at = e
-place_of NoRoom at = at
 
 -- ---- when a command is made
 

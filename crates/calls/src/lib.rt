@@ -6,7 +6,7 @@ ghost use Rattle.std.specs.Prelude.{◌≡◌, true, false, List, ℕ, ◌≤◌
 ghost use Rattle.commands.specs.Command.{decoded, is_step_of};
 ghost use Rattle.reached.specs.Reached.{Sound};
 ghost use Rattle.lines.specs.Line.{larger_of, has_room, put};
-ghost use Rattle.calls.specs.Turn.{Called, called, refused_of, shown_of, answer_text, place_of, waits as Turn·waits, smaller_of, slots_of, most_of};
+ghost use Rattle.calls.specs.Turn.{Called, called, refused_of, shown_of, answer_text, waits as Turn·waits, smaller_of, slots_of, most_of};
 ghost use Rattle.calls.specs.Steps.{no_args, args_of, quiet_of, Took, Turn};
 ghost use Rattle.calls.specs.Stream.{machine, left_by};
 ghost use Rattle.stream.specs.Blocks.{Streamed};
@@ -14,7 +14,6 @@ ghost use Rattle.stream.specs.Blocks.{Streamed};
 use arith::C32;
 use commands::Command;
 use lane::{Answer, Lane, Reply, StepArgs};
-use lines::Written;
 use shared::Out;
 
 // ---- one command
@@ -123,15 +122,6 @@ pub fn call(l: Lane, k: Command, ook: &mut [u32], fsk: &mut [u32]) -> Answer
     call_other(l, k, ook, fsk)
 }
 
-fn place_of(w: Written, at: usize) -> usize
-    ensures { result ≡ place_of w at }
-{
-    match w {
-        Written::At(e) => e,
-        Written::NoRoom => at,
-    }
-}
-
 fn is_refused(r: Reply) -> bool
     ensures { result ≡ refused_of r }
 {
@@ -170,8 +160,7 @@ fn put_answer<'a>(
     let o = l.burst.out_ook;
     let fs = shown(r, l, f, ook, fsk);
     let os = shown(r, l, o, ook, fsk);
-    let w = lines::call_lines(r, f, fs, o, os, l.last, text, at);
-    place_of(w, at)
+    lines::call_lines(r, f, fs, o, os, l.last, text, at).unwrap_or(at)
 }
 
 // ---- commands of a stream
@@ -313,7 +302,7 @@ pub fn most_of(pulses: u32, ook: usize, fsk: usize) -> usize
     ensures { result ≡ slots_of pulses ook fsk }
 {
     let slots = 2 * (pulses as usize);
-    let held = smaller(slots, lines::larger(ook, fsk));
+    let held = smaller(slots, ook.max(fsk));
     smaller(held, domain::MAX_SLOTS)
 }
 

@@ -7,7 +7,7 @@ use native.Mathlib.Omega.{arith}
 use lib.ListN.{length, length-append}
 use lib.Dec.{T, eqb, ltb, leb}
 use lib.Ieee.{Float}
-use borrow.Author.Tests.{ltb-true, ltb-false, leb-true}
+use borrow.Author.Tests.{ltb-false, leb-true}
 use Rattle.shared.specs.declared.Out.{Out}
 use Rattle.shared.specs.declared.Carrier.{Carrier}
 use Rattle.shared.specs.declared.Carrier.TheVariants.{Angle, Vector}
@@ -96,18 +96,10 @@ room_there n len at e =
     (p, omega arith)
 
 pub larger_left : (n m : ℕ) → n ≤ larger_of n m
-larger_left n m = go (ltb n m) refl
-  where
-    go : (b : Bool) → ltb n m ≡ b → n ≤ cond b m n
-    go true q = omega (arith, ltb-true n m q)
-    go false q = omega arith
+larger_left n m = omega arith
 
 pub larger_right : (n m : ℕ) → m ≤ larger_of n m
-larger_right n m = go (ltb n m) refl
-  where
-    go : (b : Bool) → ltb n m ≡ b → m ≤ cond b m n
-    go true q = omega arith
-    go false q = ltb-false n m q
+larger_right n m = omega arith
 
 -- what call_lines needs of its text
 pub parts_fit : (n m len at : ℕ) → has_room (larger_of n m) len at ≡ true → at + (train_room n + train_room m + 48) ≤ len

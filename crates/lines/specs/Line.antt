@@ -1,5 +1,5 @@
 -- The lines that the listing program prints (document 01, "Commands"), as lists of bytes.
-use Rattle.std.specs.Prelude.{ℕ, zero, suc, ◌+◌, ◌*◌, ◌-◌, ◌/◌, ◌%◌, ◌≤◌, Bool, false, cond, ◌≡◌, List, [], ◌∷◌, ◌++◌, length, drop, eqb, ltb, leb, Float}
+use Rattle.std.specs.Prelude.{ℕ, zero, suc, ◌+◌, ◌*◌, ◌-◌, ◌/◌, ◌%◌, ◌≤◌, Bool, false, cond, ◌≡◌, List, [], ◌∷◌, ◌++◌, length, drop, max, eqb, ltb, leb, Float, Option, Some, None}
 use Rattle.std.proofs.lemmas.List.Edits.{sets}
 use Rattle.std.specs.Float.{binary32}
 use Rattle.std.specs.Float.Ieee.{to_bits}
@@ -9,8 +9,6 @@ use Rattle.shared.specs.declared.Carrier.{Carrier}
 use Rattle.shared.specs.Answers.{carrier_kind_of, carrier_first_of, carrier_second_of}
 use Rattle.lane.specs.declared.Reply.{Reply}
 use Rattle.lane.specs.Answers.{refusal_number_of, reply_number_of, reply_envelope_of}
-use Rattle.lines.specs.declared.Written.{Written}
-use Rattle.lines.specs.declared.Written.TheVariants.{At, NoRoom}
 
 -- ---- numbers
 
@@ -107,6 +105,17 @@ call_text r records index =
     (cond (eqb n 1) (records ++ idle_line index)
     (cond (eqb n 2) (records ++ carrier_line index (reply_envelope_of r)) (refused_line (refusal_number_of r))))
 
+-- a line after a tag; where there is no line, nothing
+unfoldable pub after_tag : List ℕ → List ℕ → List ℕ
+after_tag tag [] = []
+after_tag tag (b ∷ l) = tag ++ (b ∷ l)
+
+-- The lines of a call, each after a tag, by its reply, the lines of its two records and the index of its phase line: `fsk`, `ook`, phase. A
+-- refused call (reply number 3) has its number alone. Without records `call_text` is the phase line, or that of the refusal.
+unfoldable pub tagged_call : List ℕ → Reply → List ℕ → List ℕ → ℕ → List ℕ
+tagged_call tag r f o index =
+    cond (eqb (reply_number_of r) 3) [] (after_tag tag f ++ after_tag tag o) ++ after_tag tag (call_text r [] index)
+
 -- ---- stored in a buffer
 
 -- the place after a text that is stored at a place of a buffer, and the buffer with it
@@ -128,16 +137,20 @@ train_room n = 160 + 21 * n
 abbrev pub call_room : ℕ → ℕ
 call_room n = 368 + 42 * n
 
+-- the most that the lines of a call take, by the lengths of its tag and of its two parts
+abbrev pub call_most : ℕ → ℕ → ℕ → ℕ
+call_most tag n m = 3 * tag + (train_room n + train_room m + 48)
+
 abbrev pub larger_of : ℕ → ℕ → ℕ
-larger_of n m = cond (ltb n m) m n
+larger_of n m = max n m
 
 -- whether a text of len bytes has that room at a place
 unfoldable pub has_room : ℕ → ℕ → ℕ → Bool
 has_room n len at = cond (ltb max_slots n) false (cond (ltb len at) false (leb (call_room n) (len - at)))
 
--- the lines of a call, stored where there is room, and the answer where there is none
-unfoldable pub written_call : Reply → Out → List ℕ → Out → List ℕ → ℕ → ℕ → List ℕ → Written × List ℕ
+-- the lines of a call, stored where there is room, and the place after them; none where there is no room
+unfoldable pub written_call : Reply → Out → List ℕ → Out → List ℕ → ℕ → ℕ → List ℕ → Option ℕ × List ℕ
 unfolding put call_text record_line has_room
 written_call r f fs o os index at s =
     let w = call_text r (record_line f fs ++ record_line o os) index in
-    cond (has_room (larger_of (length fs) (length os)) (length s) at) (At (at + length w), sets s at w) (NoRoom, s)
+    cond (has_room (larger_of (length fs) (length os)) (length s) at) (Some (at + length w), sets s at w) (None, s)

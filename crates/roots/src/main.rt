@@ -4,10 +4,11 @@
 
 ghost use Rattle.std.specs.Prelude.{◌+◌, ◌≤◌, ◌<◌, ◌≡◌, length};
 ghost use Rattle.table.specs.Rule.{rule_of};
-ghost use Rattle.lines.specs.Line.{Put};
+ghost use Rattle.lines.specs.Text.{RoomFor, Puts};
 ghost use Rattle.input.specs.Known.{Gave};
 ghost use Rattle.roots.specs.Text.{line, text_room, printed, Printed};
 
+use lines::Text;
 use std::io::Write;
 use std::process::ExitCode;
 
@@ -23,12 +24,12 @@ fn rule(i: u64) -> u64
     r
 }
 
-fn put_line(n: u64, text: &mut [u8], at: usize) -> usize
-    requires { at + 21 ≤ length text.old }
-    ensures { Put (line n) 21 at text.old result text.new }
+fn put_line(n: u64, text: &mut Text)
+    requires { RoomFor 21 text.old }
+    ensures { Puts (line n) 21 text.old text.new }
 {
-    let a = lines::put_decimal(n, text, at);
-    lines::put_byte(10, text, a)
+    text.put_decimal(n);
+    text.put_byte(b'\n');
 }
 
 // All 768 lines, at the start of the text.
@@ -36,13 +37,11 @@ fn put_lines(text: &mut [u8]) -> usize
     requires { text_room ≤ length text.old }
     ensures { Printed result text.new }
 {
-    let mut at = 0;
-    let mut i: u64 = 256;
-    while i < 1024 {
-        at = put_line(rule(i), text, at);
-        i += 1;
+    let mut t = Text::new(text, 0);
+    for i in 256..1024 {
+        put_line(rule(i), &mut t);
     }
-    at
+    t.at
 }
 
 // Writes the lines, and answers whether it did. A write that fails is said on standard error.

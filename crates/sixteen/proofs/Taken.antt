@@ -22,7 +22,9 @@ use Rattle.commands.specs.Command.{is_step_of}
 use Rattle.commands.proofs.Stream.{a_step}
 use Rattle.lines.specs.Line.{call_text, record_line, train_room, has_room, put, Put}
 use Rattle.lines.proofs.Room.{room_there}
-use Rattle.lines.proofs.Laws as lines
+use Rattle.lines.proofs.Writers as lines
+use Rattle.lines.specs.declared.Text.{Text}
+use Rattle.lines.specs.Text.{Puts}
 use Rattle.calls.specs.Turn.{State, Called, unchanged, called, next, shown_of, waits, most_of}
 use Rattle.calls.specs.Turn.{Shown}
 use Rattle.calls.proofs.Laws.{shown_most, too_few_left}
@@ -287,13 +289,13 @@ shown_heard i reply.Stay l ook fsk = refl
 shown_heard i reply.Idle l ook fsk = refl
 shown_heard i (reply.IdleAt e) l ook fsk = refl
 
-pub heard_put : (i : ℕ) (r : Reply) (l : Lane) (ook fsk fs os : List ℕ) (at e : ℕ) (x y : List ℕ) → fs ≡ shown_of r l l.burst.out_fsk ook fsk → os ≡ shown_of r l l.burst.out_ook ook fsk
-    → Put (tagged_text i r (record_line l.burst.out_fsk fs) (record_line l.burst.out_ook os) l.last) (train_room (length fs) + train_room (length os) + 48 + 63) at x e y
-    → Put (heard_text i (answer_of r l, ook, fsk)) (spoken_room r l ook fsk) at x e y
-heard_put i r l ook fsk fs os at e x y is_f is_o puts =
+pub heard_put : (i : ℕ) (r : Reply) (l : Lane) (ook fsk fs os : List ℕ) (x y : Text) → fs ≡ shown_of r l l.burst.out_fsk ook fsk → os ≡ shown_of r l l.burst.out_ook ook fsk
+    → Puts (tagged_text i r (record_line l.burst.out_fsk fs) (record_line l.burst.out_ook os) l.last) (train_room (length fs) + train_room (length os) + 48 + 63) x y
+    → Puts (heard_text i (answer_of r l, ook, fsk)) (spoken_room r l ook fsk) x y
+heard_put i r l ook fsk fs os x y is_f is_o puts =
     lines.same (shown_heard i r l ook fsk)
-    (subst (λ (v : List ℕ). Put (tagged_text i r (record_line l.burst.out_fsk (shown_of r l l.burst.out_fsk ook fsk)) (record_line l.burst.out_ook v) l.last) (train_room (length (shown_of r l l.burst.out_fsk ook fsk)) + train_room (length v) + 48 + 63) at x e y) is_o
-    (subst (λ (v : List ℕ). Put (tagged_text i r (record_line l.burst.out_fsk v) (record_line l.burst.out_ook os) l.last) (train_room (length v) + train_room (length os) + 48 + 63) at x e y) is_f puts))
+    (subst (λ (v : List ℕ). Puts (tagged_text i r (record_line l.burst.out_fsk (shown_of r l l.burst.out_fsk ook fsk)) (record_line l.burst.out_ook v) l.last) (train_room (length (shown_of r l l.burst.out_fsk ook fsk)) + train_room (length v) + 48 + 63) x y) is_o
+    (subst (λ (v : List ℕ). Puts (tagged_text i r (record_line l.burst.out_fsk v) (record_line l.burst.out_ook os) l.last) (train_room (length v) + train_room (length os) + 48 + 63) x y) is_f puts))
 
 pub none_spoken : (i : ℕ) (k : Command) (c : Called) → is_heard_of k ≡ false → none_text k ≡ spoken_text i k c
 none_spoken i k c h = simp h

@@ -5,6 +5,7 @@
 ghost use Rattle.std.specs.Prelude.{◌≡◌, true, false, ◌&&◌, ltb, ◌+◌, ◌≤◌, ◌<◌, length, drop};
 ghost use Rattle.commands.specs.Command.{is_step_of};
 ghost use Rattle.lines.specs.Line.{Put};
+ghost use Rattle.lines.specs.Text.{RoomFor, Puts};
 ghost use Rattle.reached.specs.Reached.{Sound};
 ghost use Rattle.calls.specs.Turn.{Called};
 ghost use Rattle.lane.specs.Answers.{answer_of};
@@ -16,6 +17,7 @@ ghost use Rattle.sixteen.specs.Spoken.{one_of, Heard, spoken_room, has_tagged_ro
 
 use commands::Command;
 use lane::{Answer, Lane, Reply};
+use lines::Text;
 
 // A command for an antenna, with the antenna's lane and how many other lanes are out of idle.
 #[derive(Clone, Copy)]
@@ -127,23 +129,15 @@ fn pass(q: Asked, s: &[u8], from: usize, ook: &mut [u32], fsk: &mut [u32]) -> Pa
 }
 
 // Writes the lines of an antenna's call.
-fn put_heard<'a>(
-    i: usize,
-    r: Reply,
-    l: Lane,
-    ook: &'a [u32],
-    fsk: &'a [u32],
-    text: &mut [u8],
-    at: usize,
-) -> usize
-    requires { at + spoken_room r l ook.now fsk.now ≤ length text.old }
-    ensures { Put (heard_text i (answer_of r l, ook.now, fsk.now)) (spoken_room r l ook.now fsk.now) at text.old result text.new }
+fn put_heard<'a>(i: usize, r: Reply, l: Lane, ook: &'a [u32], fsk: &'a [u32], text: &mut Text)
+    requires { RoomFor (spoken_room r l ook.now fsk.now) text.old }
+    ensures { Puts (heard_text i (answer_of r l, ook.now, fsk.now)) (spoken_room r l ook.now fsk.now) text.old text.new }
 {
     let f = l.burst.out_fsk;
     let o = l.burst.out_ook;
     let fs = calls::shown(r, l, f, ook, fsk);
     let os = calls::shown(r, l, o, ook, fsk);
-    tagged::put_call(i, r, f, fs, o, os, l.last, text, at)
+    tagged::put_call(i, r, f, fs, o, os, l.last, text);
 }
 
 // Whether the lines of a command have its antenna's number: refusals 1 and 2 have none.
@@ -162,18 +156,18 @@ fn is_heard(k: Command) -> bool
 }
 
 // Writes the lines of what is no command.
-fn put_none(k: Command, text: &mut [u8], at: usize) -> usize
-    requires { at + 48 ≤ length text.old }
-    ensures { Put (none_text k) 48 at text.old result text.new }
+fn put_none(k: Command, text: &mut Text)
+    requires { RoomFor 48 text.old }
+    ensures { Puts (none_text k) 48 text.old text.new }
 {
     match k {
-        Command::End => at,
-        Command::Open(_, _) => at,
-        Command::Begin(_) => at,
-        Command::Step(_) => at,
-        Command::Unknown => lines::put_refused(1, text, at),
-        Command::Short => lines::put_refused(2, text, at),
-        Command::Close => at,
+        Command::End => {}
+        Command::Open(_, _) => {}
+        Command::Begin(_) => {}
+        Command::Step(_) => {}
+        Command::Unknown => text.put_refused(1),
+        Command::Short => text.put_refused(2),
+        Command::Close => {}
     }
 }
 
@@ -189,6 +183,23 @@ fn has_room(n: usize, len: usize, at: usize) -> bool
 }
 
 // Writes the lines of a command that was answered so. Most steps print nothing.
+fn put_spoken<'a>(q: Asked, r: Reply, l: Lane, ook: &'a [u32], fsk: &'a [u32], text: &mut Text)
+    requires { RoomFor (spoken_room r l ook.now fsk.now) text.old }
+    ensures { Puts (spoken_text q.antenna q.command (answer_of r l, ook.now, fsk.now)) (spoken_room r l ook.now fsk.now) text.old text.new }
+{
+    let k = q.command;
+    let heard = is_heard(k);
+    if !heard {
+        return put_none(k, text);
+    }
+    let quiet = calls::is_quiet(r, l.burst.out_fsk.state, l.burst.out_ook.state);
+    if quiet {
+        return;
+    }
+    put_heard(q.antenna, r, l, ook, fsk, text);
+}
+
+// The same at a place of the text, and the place after the lines.
 fn put_answer<'a>(
     q: Asked,
     r: Reply,
@@ -201,16 +212,9 @@ fn put_answer<'a>(
     requires { at + spoken_room r l ook.now fsk.now ≤ length text.old }
     ensures { Put (spoken_text q.antenna q.command (answer_of r l, ook.now, fsk.now)) (spoken_room r l ook.now fsk.now) at text.old result text.new }
 {
-    let k = q.command;
-    let heard = is_heard(k);
-    if !heard {
-        return put_none(k, text, at);
-    }
-    let quiet = calls::is_quiet(r, l.burst.out_fsk.state, l.burst.out_ook.state);
-    if quiet {
-        return at;
-    }
-    put_heard(q.antenna, r, l, ook, fsk, text, at)
+    let mut t = Text::new(text, at);
+    put_spoken(q, r, l, ook, fsk, &mut t);
+    t.at
 }
 
 // The commands from one at a place of the bytes up to the first that prints, and its lines.

@@ -4,6 +4,10 @@ use Rattle.lane.specs.declared.Reply.{Reply}
 use Rattle.lane.specs.Answers.{reply_number_of}
 use Rattle.lines.specs.Line.{decimal, call_text, call_room}
 
+-- the antenna's number and a blank
+abbrev pub tag_of : ℕ → List ℕ
+tag_of i = decimal i ++ (32 ∷ [])
+
 -- a line after the number i and a blank; where there is no line, nothing
 unfoldable pub tagged : ℕ → List ℕ → List ℕ
 tagged i [] = []

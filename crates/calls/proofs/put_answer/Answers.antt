@@ -5,4 +5,4 @@ use Rattle.calls.proofs.put_answer.Goals as goal
 pub returns : goal.returns
 returns c =
     answered _ _ c.args.ook.now c.args.fsk.now _ _ _ _ _ _ _ c.requires
-    c.shown-fs.ensures c.shown-os.ensures c.call_lines-w.ensures c.place_of.ensures
+    c.shown-fs.ensures c.shown-os.ensures c.call_lines.ensures c.unwrap_or.ensures

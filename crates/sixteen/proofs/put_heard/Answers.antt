@@ -11,4 +11,4 @@ put_call-requires c =
 pub returns : goal.returns
 returns c =
     let a = c.args in
-    heard_put a.i a.r a.l a.ook.now a.fsk.now _ _ _ _ _ _ c.shown-fs.ensures c.shown-os.ensures c.put_call.ensures
+    heard_put a.i a.r a.l a.ook.now a.fsk.now _ _ _ _ c.shown-fs.ensures c.shown-os.ensures c.put_call.ensures
