@@ -1,7 +1,6 @@
 use mathlib.Core.List.{List}
 use mathlib.Core.Path.{ap, sym, ◌∙◌}
 use Prim.Native.Nat.{ℕ}
-use native.Mathlib.Omega.{arith}
 use borrow.Author.Tests.{lt-leb}
 use Rattle.commands.specs.Command.{decoded, is_step_of}
 use Rattle.commands.proofs.Stream.{short_front, long_front}
