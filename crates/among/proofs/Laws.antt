@@ -1,5 +1,6 @@
 -- A lane among others answers as alone but for refusal 12, which stands among the other checks as the definition has them (`settled`), and
 -- the number of lanes out of idle is changed by one lane at a time.
+use mir.Val.{bool_byte}
 use Prim.Native.Nat.{ℕ, zero, suc, ◌+◌, ◌-◌, ◌^◌, ◌<◌, ◌≤◌}
 use mathlib.Core.Bool.{Bool, true, false, cond, not, ◌&&◌}
 use mathlib.Core.Path.{◌≡◌, refl, sym, ◌∙◌, ap, subst}
@@ -156,3 +157,8 @@ pub outs_new : (n : ℕ) (l : Lane) → l ≡ new_lane → outs (replicate n l) 
 unfolding outs
 outs_new zero l e = refl
 outs_new (suc n) l e = omega (arith, ap out_of e, out_new, outs_new n l e)
+
+-- a test as a number
+pub counted : (b : Bool) → bool_byte b ≡ cond {A = ℕ} b 1 0
+counted true = refl
+counted false = refl

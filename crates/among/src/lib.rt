@@ -2,7 +2,7 @@
 // four others out of idle.
 #![tactic(auto)]
 
-ghost use Rattle.std.specs.Prelude.{◌≡◌, List, ℕ};
+ghost use Rattle.std.specs.Prelude.{◌≡◌, List, ℕ, cond};
 ghost use Rattle.calls.specs.Turn.{Called};
 ghost use Rattle.among.specs.Among.{called_among, out_of, outs, no_antenna};
 ghost use Rattle.among.specs.Settled.{is_begin_of, late_of, settled_of};
@@ -18,15 +18,7 @@ pub const PLACES: u32 = 4;
 fn is_begin(k: Command) -> bool
     ensures { result ≡ is_begin_of k }
 {
-    match k {
-        Command::End => false,
-        Command::Open(_, _) => false,
-        Command::Begin(_) => true,
-        Command::Step(_) => false,
-        Command::Unknown => false,
-        Command::Short => false,
-        Command::Close => false,
-    }
+    matches!(k, Command::Begin(_))
 }
 
 // Whether refusal 12 comes before this reply to a begin: the checks up to 7 come before it.
@@ -69,26 +61,20 @@ pub fn call(l: Lane, others: u32, k: Command, ook: &mut [u32], fsk: &mut [u32]) 
 
 // ---- sixteen
 
-// 1 for a lane out of idle, 0 for an idle one.
-pub fn out_of(l: Lane) -> u32
-    ensures { result ≡ out_of l }
+// Whether a lane is out of idle.
+pub fn is_out(l: &Lane) -> bool
+    ensures { cond result 1 0 ≡ out_of l.now }
 {
-    if l.phase == 0 {
-        return 0;
-    }
-    1
+    l.phase != 0
 }
 
 // How many of the lanes are out of idle.
-pub fn count_out(lanes: [Lane; 16]) -> u32
-    ensures { result ≡ outs lanes }
+pub fn count_out(lanes: &[Lane; 16]) -> u32
+    ensures { result ≡ outs lanes.now }
 {
     let mut n = 0;
-    let mut i = 0;
-    while i < 16 {
-        let l = lanes[i];
-        n += out_of(l);
-        i += 1;
+    for l in lanes {
+        n += u32::from(is_out(l));
     }
     n
 }

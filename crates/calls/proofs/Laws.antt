@@ -1,5 +1,5 @@
 -- What a call prints has room where `most_of` says so: no part that is printed is longer than its buffer, nor than two slots for each pulse.
-use Prim.Native.Nat.{ℕ, ◌+◌, ◌*◌, ◌-◌, ◌<◌, ◌≤◌}
+use Prim.Native.Nat.{ℕ, ◌+◌, ◌*◌, ◌-◌, ◌<◌, ◌≤◌, max}
 use mathlib.Core.Bool.{Bool, true, false, cond}
 use mathlib.Core.Path.{◌≡◌, refl, ◌∙◌, ap}
 use mathlib.Core.List.{List, ◌++◌}
@@ -21,9 +21,9 @@ use Rattle.commands.specs.declared.Command.{Command}
 use Rattle.commands.specs.declared.Command.TheVariants.{End, Open, Begin, Step, Unknown, Short, Close}
 use Rattle.std.specs.Prelude.{Option, unwrap_or}
 use Rattle.lines.specs.Line.{max_slots, call_room, larger_of, has_room, record_line, call_text, written_call, put}
-use Rattle.lines.proofs.Room.{room_there, length_call, larger_left, larger_right}
+use Rattle.lines.proofs.Room.{room_there, length_call}
 use Rattle.reached.proofs.Records.{PartsFit, parts_fit_step, parts_fit_close, parts_fit_begin, parts_fit_open, slots_step, slots_close, answered_step, answered_close, answered_begin, answered_open}
-use Rattle.calls.specs.Turn.{State, Called, called, shown_of, answer_text, called_text, text_of, waits, smaller_of, slots_of, most_of, Shown}
+use Rattle.calls.specs.Turn.{State, Called, called, shown_of, answer_text, called_text, text_of, waits, slots_of, most_of, Shown}
 
 -- ---- room
 
@@ -62,21 +62,10 @@ room_less n most len at h e =
 
 -- ---- the parts that a call prints
 
-smaller_most : (k n m : ℕ) → k ≤ n → k ≤ m → k ≤ smaller_of n m
-smaller_most k n m h g = go (ltb m n)
-  where
-    go : (b : Bool) → k ≤ cond b m n
-    go true = g
-    go false = h
-
 -- and more of them never count
-slots_most : (max ook fsk : ℕ) → slots_of max ook fsk ≤ max_slots
+slots_most : (pulses ook fsk : ℕ) → slots_of pulses ook fsk ≤ max_slots
 unfolding slots_of
-slots_most max ook fsk = go (ltb max_slots (smaller_of (2 * max) (larger_of ook fsk))) refl
-  where
-    go : (b : Bool) → ltb max_slots (smaller_of (2 * max) (larger_of ook fsk)) ≡ b → cond b max_slots (smaller_of (2 * max) (larger_of ook fsk)) ≤ max_slots
-    go true q = omega arith
-    go false q = ltb-false _ _ q
+slots_most pulses ook fsk = omega arith
 
 -- so a text has no room for a call only where too few of its bytes are left
 pub too_few_left : (p : State) (len at : ℕ) → at ≤ len → has_room (most_of p) len at ≡ false → len < at + call_room (most_of p)
@@ -105,13 +94,11 @@ parts_held : (p : State) (c : Called) → length c.1 ≡ length p.1 → length c
     → PartsFit (2 * p.0.settings.max_pulses) c.0.lane c.1 c.2 → PartsFit (most_of p) c.0.lane c.1 c.2
 unfolding slots_of
 parts_held p c h g d f =
-    let larger = larger_of (length p.1) (length p.2) in
-    let left = larger_left (length p.1) (length p.2) in
-    let right = larger_right (length p.1) (length p.2) in
+    let longer : ℕ = max (length p.1) (length p.2) in
     let l = c.0.lane in
-    let short : (o : Out) → length (part_of l o c.1 c.2) ≤ larger = λ o. part_short l o c.1 c.2 larger (omega (arith, h, left)) (omega (arith, g, right)) in
+    let short : (o : Out) → length (part_of l o c.1 c.2) ≤ longer = λ o. part_short l o c.1 c.2 longer (omega (arith, h)) (omega (arith, g)) in
     let within : (o : Out) → length (part_of l o c.1 c.2) ≤ 2 * p.0.settings.max_pulses → length (part_of l o c.1 c.2) ≤ most_of p =
-    λ o k. smaller_most _ _ max_slots (smaller_most _ (2 * p.0.settings.max_pulses) larger k (short o)) (omega (arith, k, d)) in
+    λ o k. omega (arith, k, d, short o) in
     record { ook_part = within l.burst.out_ook f.ook_part; fsk_part = within l.burst.out_fsk f.fsk_part }
 
 -- so have a step and a close that are accepted

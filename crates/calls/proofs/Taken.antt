@@ -25,7 +25,7 @@ use Rattle.stream.specs.Blocks.{Passed}
 use Rattle.stream.proofs.Taken.{stored, passed_one, passed_then}
 use Rattle.calls.specs.declared.Turned.{Turned}
 use Rattle.calls.specs.Turn.{State, Called, called, next, answer_text, called_text, text_of, waits, most_of, Shown}
-use Rattle.calls.specs.Steps.{args_of, quiet_of, Took, Turn}
+use Rattle.calls.specs.Steps.{quiet_of, Took, Turn}
 use Rattle.calls.specs.Stream.{machine}
 use Rattle.calls.proofs.Laws.{there, shown_most, called_short}
 use Rattle.calls.proofs.Orderly.{orderly, step_settled}
@@ -33,11 +33,9 @@ use Rattle.calls.proofs.Silent.{call_sound, kept_room, Steps, none, some, steps_
 
 -- ---- a step among the commands
 
-pub called_step : (p : State) (k : Command) (a : StepArgs) → is_step_of k ≡ true → a ≡ args_of k → stepped p.0 a p.1 p.2 ≡ called p k
+pub called_step : (p : State) (k : Command) (a : StepArgs) → k ≡ Step a → stepped p.0 a p.1 p.2 ≡ called p k
 unfolding called
-called_step p k a steps is_a =
-    let e = (a_step k steps).is in
-    ap (called p) (ap Step is_a ∙ ap (λ (d : Command). Step (args_of d)) e ∙ sym e)
+called_step p k a e = ap (called p) (sym e)
 
 -- the bytes of a step are there
 pub step_room : (s : List ℕ) (used : ℕ) (a : StepArgs) → Step a ≡ decoded (drop used s) → used + 25 ≤ length s

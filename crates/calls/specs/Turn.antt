@@ -1,5 +1,5 @@
 -- What a command does, and the lines that it prints (document 01, "Commands").
-use Rattle.std.specs.Prelude.{ℕ, ◌*◌, ◌≤◌, Bool, true, false, cond, not, List, [], ◌++◌, length, take, ltb}
+use Rattle.std.specs.Prelude.{ℕ, ◌*◌, ◌≤◌, Bool, true, false, cond, not, List, [], ◌++◌, length, take, min, max}
 use Rattle.shared.specs.declared.Out.{Out}
 use Rattle.lane.specs.declared.Lane.{Lane}
 use Rattle.lane.specs.declared.Answer.{Answer}
@@ -9,7 +9,7 @@ use Rattle.lane.specs.Step.{opened, begun, stepped, closed}
 use Rattle.lane.specs.Part.{part_of}
 use Rattle.commands.specs.declared.Command.{Command}
 use Rattle.commands.specs.declared.Command.TheVariants.{End, Open, Begin, Step, Unknown, Short, Close}
-use Rattle.lines.specs.Line.{record_line, call_text, max_slots, larger_of}
+use Rattle.lines.specs.Line.{record_line, call_text, max_slots}
 
 -- a lane with its OOK and its FSK buffer
 abbrev pub State : Type 0
@@ -82,13 +82,10 @@ waits last Unknown = false
 waits last Short = not last
 waits last Close = false
 
-abbrev pub smaller_of : ℕ → ℕ → ℕ
-smaller_of n m = cond (ltb m n) m n
-
 -- the most slots of a part that a call prints: two for each pulse of the settings, and no more than the larger buffer has. Settings above
 -- document 01's 65,536 pulses are refused, and a refused call prints no record
 unfoldable pub slots_of : ℕ → ℕ → ℕ → ℕ
-slots_of max ook fsk = smaller_of (smaller_of (2 * max) (larger_of ook fsk)) max_slots
+slots_of pulses ook fsk = min (min (2 * pulses) (max ook fsk)) max_slots
 
 abbrev pub most_of : State → ℕ
 most_of p = slots_of p.0.settings.max_pulses (length p.1) (length p.2)

@@ -112,7 +112,7 @@ pub extern "C" fn lane_buffers(
     ensures { LeftWithin commands.now result ook.old fsk.old ook.new fsk.new text.new }
 {
     let l = lane::new_lane();
-    let r = calls::block(l, commands, true, ook, fsk, text);
+    let (_, r) = calls::block(l, commands, true, ook, fsk, text);
     r.used
 }
 

@@ -2,12 +2,13 @@
 // table: for i from 256 to 1,023 the largest whole number whose square is at most 64 * i, one number to a line.
 #![tactic(auto)]
 
-ghost use Rattle.std.specs.Prelude.{◌+◌, ◌≤◌, ◌<◌, ◌≡◌, length};
+ghost use Rattle.std.specs.Prelude.{◌+◌, ◌≤◌, ◌<◌, ◌≡◌, length, is_ok};
 ghost use Rattle.table.specs.Rule.{rule_of};
 ghost use Rattle.lines.specs.Text.{RoomFor, Puts};
 ghost use Rattle.input.specs.Known.{Gave};
 ghost use Rattle.roots.specs.Text.{line, text_room, printed, Printed};
 
+use input::Failed;
 use lines::Text;
 use std::io::Write;
 use std::process::ExitCode;
@@ -44,36 +45,25 @@ fn put_lines(text: &mut [u8]) -> usize
     t.at
 }
 
-// Writes the lines, and answers whether it did. A write that fails is said on standard error.
-fn put<W: Write, E: Write>(to: &mut W, err: &mut E, text: &[u8]) -> bool
-    ensures { Gave (W.contents to.old) (W.contents to.new) text.now result }
-{
-    input::put(to, text, b"roots: write", err)
-}
-
-fn print<W: Write, E: Write>(to: &mut W, err: &mut E, text: &mut [u8]) -> bool
+fn print<W: Write>(to: &mut W, text: &mut [u8]) -> Result<(), Failed>
     requires { text_room ≤ length text.old }
-    ensures { Gave (W.contents to.old) (W.contents to.new) printed result }
+    ensures { Gave (W.contents to.old) (W.contents to.new) printed (is_ok result) }
 {
     let at = put_lines(text);
-    put(to, err, &text[..at])
+    input::put(to, &text[..at])
 }
 
-fn run<W: Write, E: Write>(to: &mut W, err: &mut E, text: &mut [u8; 16128]) -> bool
-    ensures { Gave (W.contents to.old) (W.contents to.new) printed result }
+fn run<W: Write>(to: &mut W, text: &mut [u8; 16128]) -> Result<(), Failed>
+    ensures { Gave (W.contents to.old) (W.contents to.new) printed (is_ok result) }
 {
-    print(to, err, text)
+    print(to, text)
 }
 
 // A run that fails ends with a status that is not zero.
 fn main(rt: HostRuntime) -> ExitCode {
     let mut text = [0u8; 16128];
     let mut to = rt.stdout();
+    let done = run(&mut to, &mut text);
     let mut err = rt.stderr();
-    let whole = run(&mut to, &mut err, &mut text);
-    if whole {
-        ExitCode::SUCCESS
-    } else {
-        ExitCode::FAILURE
-    }
+    input::status("roots", done, &mut err)
 }

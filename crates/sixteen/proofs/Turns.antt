@@ -13,7 +13,8 @@ use Rattle.addressed.specs.Addressed.{addressed_of, antenna_of}
 use Rattle.tagged.specs.Tagged.{tagged_room}
 use Rattle.among.specs.Among.{Lanes, lane_at, put_at, out_of, outs, others_out, Sized}
 use Rattle.among.proofs.Laws.{any_default}
-use Rattle.stream.specs.Blocks.{Passed, Left, Streamed}
+use Rattle.stream.specs.declared.Ran.{Ran}
+use Rattle.stream.specs.Blocks.{Passed, Streamed}
 use Rattle.stream.proofs.Running.{Running, full_there, goes_on, ends_there}
 use Rattle.sixteen.specs.declared.Asked.{Asked}
 use Rattle.sixteen.specs.declared.Turned.{Turned}
@@ -90,6 +91,6 @@ module _ {a : Asked} {j : ℕ} (ls : List Lane) {ook fsk : List (List ℕ)} {s :
     pub filled : a.antenna ≡ antenna_of (drop from s) → {ended : Bool} → ended ≡ false
         → Streamed machine p₀ s last (record { used = from; at = at; ended = ended; full = true }) (ls, ook', fsk') y × Sized (ls, ook', fsk')
     filled is_i {ended} on =
-        let left : Left = record { used = from; at = at; ended = ended; full = true } in
+        let left : Ran = record { used = from; at = at; ended = ended; full = true } in
         let block : Streamed machine p₀ s last left (ls, ook, fsk) x = full_there machine h on refl ready (too_few is_i) in
         (subst (λ (p : Lanes). Streamed machine p₀ s last left p y) rows_same (subst (Streamed machine p₀ s last left (ls, ook, fsk)) (sym (row.spoken.no_room none).2) block), subst Sized rows_same among.sized)

@@ -6,15 +6,14 @@ use Rattle.lane.specs.Answers.{answer_of}
 use Rattle.reached.specs.Reached.{Sound}
 use Rattle.lane.specs.declared.Reply.{Reply}
 use Rattle.lines.specs.Line.{train_room, has_room}
+use Rattle.calls.specs.declared.Past.{Past}
 use Rattle.calls.specs.Turn.{State, Called, unchanged, shown_of, most_of}
 use Rattle.calls.specs.Turn.{Shown}
 use Rattle.tagged.specs.Tagged.{tagged_room}
 use Rattle.among.specs.Among.{antennas, called_among, Lanes, lane_at, put_at, others_out, no_antenna, Sized}
-use Rattle.stream.specs.Blocks.{Left, Passed}
+use Rattle.stream.specs.Blocks.{Passed}
 use Rattle.sixteen.specs.declared.Asked.{Asked}
-use Rattle.sixteen.specs.declared.Past.{Past}
 use Rattle.sixteen.specs.declared.Turned.{Turned}
-use Rattle.sixteen.specs.declared.Ran.{Ran}
 use Rattle.sixteen.specs.Sixteen.{spoken_text, row_of, machine}
 
 -- sixteen lanes among which antenna i is asked: this is its lane, with its buffers, and so many others are out of idle
@@ -67,9 +66,6 @@ pub record InRow (a : Asked) (j : ℕ) (ook fsk : List (List ℕ)) (s : List ℕ
   pub ook_set : ook' ≡ set ook j ook_row
   pub fsk_set : fsk' ≡ set fsk j fsk_row
   pub spoken : Spoken a (a.lane, get_or ook j [], get_or fsk j []) s from at x z (z.lane, ook_row, fsk_row) y
-
-abbrev pub left_by : Ran → Left
-left_by r = record { used = r.used; at = r.at; ended = r.ended; full = r.full }
 
 -- every lane is sound
 unfoldable pub AllSound : List Lane → Type 0

@@ -13,11 +13,13 @@ ghost use Rattle.addressed.specs.Addressed.{addressed_of, antenna_of};
 ghost use Rattle.among.specs.Among.{antennas, Sized};
 ghost use Rattle.stream.specs.Blocks.{Streamed};
 ghost use Rattle.sixteen.specs.Sixteen.{heard_text, is_heard_of, none_text, spoken_text, row_of, machine};
-ghost use Rattle.sixteen.specs.Spoken.{one_of, Heard, spoken_room, has_tagged_room, Spoken, InRow, left_by, AllSound};
+ghost use Rattle.sixteen.specs.Spoken.{one_of, Heard, spoken_room, has_tagged_room, Spoken, InRow, AllSound};
 
+use calls::Past;
 use commands::Command;
 use lane::{Answer, Lane, Reply};
 use lines::Text;
+use stream::Ran;
 
 // A command for an antenna, with the antenna's lane and how many other lanes are out of idle.
 #[derive(Clone, Copy)]
@@ -26,14 +28,6 @@ pub struct Asked {
     pub others: u32,
     pub antenna: usize,
     pub command: Command,
-}
-
-// Where some commands lead: the place after them, and what the last of them answers.
-#[derive(Clone, Copy)]
-pub struct Past {
-    pub lane: Lane,
-    pub used: usize,
-    pub reply: Reply,
 }
 
 #[derive(Clone, Copy)]
@@ -144,15 +138,7 @@ fn put_heard<'a>(i: usize, r: Reply, l: Lane, ook: &'a [u32], fsk: &'a [u32], te
 fn is_heard(k: Command) -> bool
     ensures { result ≡ is_heard_of k }
 {
-    match k {
-        Command::End => false,
-        Command::Open(_, _) => true,
-        Command::Begin(_) => true,
-        Command::Step(_) => true,
-        Command::Unknown => false,
-        Command::Short => false,
-        Command::Close => true,
-    }
+    !matches!(k, Command::End | Command::Unknown | Command::Short)
 }
 
 // Writes the lines of what is no command.
@@ -272,19 +258,6 @@ fn turn_in_row(
 
 // ---- a block of bytes
 
-#[derive(Clone, Copy)]
-pub struct Ran {
-    pub lanes: [Lane; 16],
-    // The bytes that the block's commands took.
-    pub used: usize,
-    // The place after the lines.
-    pub at: usize,
-    // Whether the stream has ended, by refusal 1 or 2.
-    pub ended: bool,
-    // Whether the text has no room for another call.
-    pub full: bool,
-}
-
 // The row of an antenna's lane; the first where there is no such antenna.
 fn row_of(i: usize) -> usize
     ensures { result ≡ row_of i }
@@ -305,12 +278,13 @@ pub fn block(
     ook: &mut [[u32; 4096]; 16],
     fsk: &mut [[u32; 4096]; 16],
     text: &mut [u8],
-) -> Ran
+) -> ([Lane; 16], Ran)
     requires { AllSound first × Sized (first, ook.old, fsk.old) }
-    ensures { Streamed machine (first, ook.old, fsk.old) s.now last (left_by result) (result.lanes, ook.new, fsk.new) text.new × AllSound result.lanes × Sized (result.lanes, ook.new, fsk.new) }
+    ensures streamed { Streamed machine (first, ook.old, fsk.old) s.now last result.1 (result.0, ook.new, fsk.new) text.new }
+    ensures sound { AllSound result.0 × Sized (result.0, ook.new, fsk.new) }
 {
     let mut lanes = first;
-    let mut out = among::count_out(lanes);
+    let mut out = among::count_out(&lanes);
     let mut used = 0;
     let mut at = 0;
     let mut ended = false;
@@ -324,7 +298,7 @@ pub fn block(
         let antenna = addressed::antenna_at(s, used);
         let j = row_of(antenna);
         let lane = lanes[j];
-        let others = out - among::out_of(lane);
+        let others = out - u32::from(among::is_out(&lane));
         let q = Asked {
             lane,
             others,
@@ -337,7 +311,7 @@ pub fn block(
             break;
         }
         let m = t.lane;
-        out = others + among::out_of(m);
+        out = others + u32::from(among::is_out(&m));
         lanes[j] = m;
         at = t.at;
         if t.used == used {
@@ -346,11 +320,11 @@ pub fn block(
         }
         used = t.used;
     }
-    Ran {
-        lanes,
+    let ran = Ran {
         used,
         at,
         ended,
         full,
-    }
+    };
+    (lanes, ran)
 }
