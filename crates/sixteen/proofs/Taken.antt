@@ -41,7 +41,7 @@ use Rattle.stream.specs.Blocks.{Seen, Passed}
 use Rattle.stream.proofs.Taken.{stored, passed_one, passed_then}
 use Rattle.sixteen.specs.declared.Asked.{Asked}
 use Rattle.calls.specs.declared.Past.{Past}
-use Rattle.sixteen.specs.declared.Turned.{Turned}
+use Rattle.calls.specs.declared.Turned.{Turned}
 use Rattle.sixteen.specs.Sixteen.{heard_text, is_heard_of, none_text, spoken_text, row_of, machine}
 use Rattle.sixteen.specs.Spoken.{Among, one_of, Heard, spoken_room, has_tagged_room, Told}
 use Rattle.sixteen.proofs.Rows.{put_own, put_again, among_after}

@@ -7,15 +7,15 @@ ghost use Rattle.commands.specs.Command.{is_step_of};
 ghost use Rattle.lines.specs.Line.{Put};
 ghost use Rattle.lines.specs.Text.{RoomFor, Puts};
 ghost use Rattle.reached.specs.Reached.{Sound};
-ghost use Rattle.calls.specs.Turn.{Called};
+ghost use Rattle.calls.specs.Turn.{Called, most_of};
 ghost use Rattle.lane.specs.Answers.{answer_of};
 ghost use Rattle.addressed.specs.Addressed.{addressed_of, antenna_of};
 ghost use Rattle.among.specs.Among.{antennas, Sized};
 ghost use Rattle.stream.specs.Blocks.{Streamed};
 ghost use Rattle.sixteen.specs.Sixteen.{heard_text, is_heard_of, none_text, spoken_text, row_of, machine};
-ghost use Rattle.sixteen.specs.Spoken.{one_of, Heard, spoken_room, has_tagged_room, Spoken, InRow, AllSound};
+ghost use Rattle.sixteen.specs.Spoken.{one_of, Heard, spoken_room, has_tagged_room, Told, in_row, InRow, AllSound};
 
-use calls::Past;
+use calls::{Past, Turned};
 use commands::Command;
 use lane::{Answer, Lane, Reply};
 use lines::Text;
@@ -28,17 +28,6 @@ pub struct Asked {
     pub others: u32,
     pub antenna: usize,
     pub command: Command,
-}
-
-#[derive(Clone, Copy)]
-pub struct Turned {
-    pub lane: Lane,
-    // The place after the commands; the one before them where the stream ends.
-    pub used: usize,
-    // The place after the lines.
-    pub at: usize,
-    // Whether the text has no room for the lines of another call: nothing is changed then.
-    pub full: bool,
 }
 
 // ---- one antenna
@@ -168,6 +157,14 @@ fn has_room(n: usize, len: usize, at: usize) -> bool
     lines::has_room(n, len - 63, at)
 }
 
+// Whether it has room for any call of a lane with these buffers.
+fn has_room_for(l: Lane, ook: &[u32], fsk: &[u32], len: usize, at: usize) -> bool
+    ensures { result ≡ has_tagged_room (most_of (l, ook.now, fsk.now)) len at }
+{
+    let most = calls::most_of(l.settings.max_pulses, ook.len(), fsk.len());
+    has_room(most, len, at)
+}
+
 // Writes the lines of a command that was answered so. Most steps print nothing.
 fn put_spoken<'a>(q: Asked, r: Reply, l: Lane, ook: &'a [u32], fsk: &'a [u32], text: &mut Text)
     requires { RoomFor (spoken_room r l ook.now fsk.now) text.old }
@@ -213,20 +210,9 @@ fn turn(
     text: &mut [u8],
     at: usize,
 ) -> Turned
-    requires { (from < length s.now) × (q.command ≡ addressed_of (drop from s.now)) × (q.antenna ≡ antenna_of (drop from s.now)) × Sound q.lane × (at ≤ length text.old) }
-    ensures { Spoken q (q.lane, ook.old, fsk.old) s.now from at text.old result (result.lane, ook.new, fsk.new) text.new }
+    requires { (from < length s.now) × (q.command ≡ addressed_of (drop from s.now)) × (q.antenna ≡ antenna_of (drop from s.now)) × Sound q.lane × (has_tagged_room (most_of (q.lane, ook.old, fsk.old)) (length text.old) at ≡ true) }
+    ensures { Told q (q.lane, ook.old, fsk.old) s.now from at text.old result (result.lane, ook.new, fsk.new) text.new }
 {
-    let l = q.lane;
-    let most = calls::most_of(l.settings.max_pulses, ook.len(), fsk.len());
-    let room = has_room(most, text.len(), at);
-    if !room {
-        return Turned {
-            lane: l,
-            used: from,
-            at,
-            full: true,
-        };
-    }
     let g = pass(q, s, from, ook, fsk);
     let n = g.lane;
     let r = g.reply;
@@ -235,7 +221,6 @@ fn turn(
         lane: n,
         used: g.used,
         at: e,
-        full: false,
     }
 }
 
@@ -250,7 +235,7 @@ fn turn_in_row(
     text: &mut [u8],
     at: usize,
 ) -> Turned
-    requires { (from < length s.now) × (q.command ≡ addressed_of (drop from s.now)) × (q.antenna ≡ antenna_of (drop from s.now)) × Sound q.lane × (at ≤ length text.old) × (j < antennas) }
+    requires { (from < length s.now) × (q.command ≡ addressed_of (drop from s.now)) × (q.antenna ≡ antenna_of (drop from s.now)) × Sound q.lane × (has_tagged_room (most_of (in_row q.lane j ook.old fsk.old)) (length text.old) at ≡ true) × (j < antennas) }
     ensures { InRow q j ook.old fsk.old s.now from at text.old result ook.new fsk.new text.new }
 {
     turn(q, s, from, &mut ook[j], &mut fsk[j], text, at)
@@ -298,6 +283,12 @@ pub fn block(
         let antenna = addressed::antenna_at(s, used);
         let j = row_of(antenna);
         let lane = lanes[j];
+        let len = text.len();
+        let room = has_room_for(lane, &ook[j], &fsk[j], len, at);
+        if !room {
+            full = true;
+            break;
+        }
         let others = out - u32::from(among::is_out(&lane));
         let q = Asked {
             lane,
@@ -306,10 +297,6 @@ pub fn block(
             command,
         };
         let t = turn_in_row(q, j, s, used, ook, fsk, text, at);
-        if t.full {
-            full = true;
-            break;
-        }
         let m = t.lane;
         out = others + u32::from(among::is_out(&m));
         lanes[j] = m;
