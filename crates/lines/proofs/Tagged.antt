@@ -10,9 +10,9 @@ use lib.ListN.{length}
 use lib.Dec.{eqb}
 use lib.Ieee.{Float}
 use Rattle.shared.specs.declared.Out.{Out}
-use Rattle.lane.specs.declared.Reply.{Reply}
-use Rattle.lane.specs.declared.Reply.TheVariants.{Refused, Stay, Idle, IdleAt}
-use Rattle.lane.specs.Answers.{reply_number_of}
+use Rattle.shared.specs.declared.Next.{Next}
+use Rattle.shared.specs.declared.Next.TheVariants.{Stay, Idle, IdleAt}
+use Rattle.std.specs.Prelude.{Result, Ok, Err, is_err}
 use Rattle.lines.specs.Line.{train_line, record_line, idle_line, carrier_line, refused_line, call_text, after_tag, tagged_call}
 
 pub tagged_some : (t l : List ℕ) → 0 < length l → t ++ l ≡ after_tag t l
@@ -45,43 +45,37 @@ record_none t o ws q = simp q
 
 -- ---- the phase line, or that of a refusal
 
-module _ (t : List ℕ) (index : ℕ) (r : Reply) where
-  pub refused_tagged : (n : ℕ) → r ≡ Refused n → t ++ refused_line n ≡ after_tag t (call_text r [] index)
+module _ (t : List ℕ) (index : ℕ) (r : Result Next ℕ) where
+  pub refused_tagged : (n : ℕ) → r ≡ Err n → t ++ refused_line n ≡ after_tag t (call_text r [] index)
   unfolding call_text refused_line
-  refused_tagged n e = tagged_some t (refused_line n) (omega arith) ∙ ap (λ (x : Reply). after_tag t (call_text x [] index)) (sym e)
+  refused_tagged n e = tagged_some t (refused_line n) (omega arith) ∙ ap (λ (x : Result Next ℕ). after_tag t (call_text x [] index)) (sym e)
 
-  pub stay_tagged : r ≡ Stay → [] ≡ after_tag t (call_text r [] index)
+  pub stay_tagged : r ≡ Ok Stay → [] ≡ after_tag t (call_text r [] index)
   unfolding call_text after_tag
-  stay_tagged e = ap (λ (x : Reply). after_tag t (call_text x [] index)) (sym e)
+  stay_tagged e = ap (λ (x : Result Next ℕ). after_tag t (call_text x [] index)) (sym e)
 
-  pub idle_tagged : r ≡ Idle → t ++ idle_line index ≡ after_tag t (call_text r [] index)
+  pub idle_tagged : r ≡ Ok Idle → t ++ idle_line index ≡ after_tag t (call_text r [] index)
   unfolding call_text idle_line
-  idle_tagged e = tagged_some t (idle_line index) (omega arith) ∙ ap (λ (x : Reply). after_tag t (call_text x [] index)) (sym e)
+  idle_tagged e = tagged_some t (idle_line index) (omega arith) ∙ ap (λ (x : Result Next ℕ). after_tag t (call_text x [] index)) (sym e)
 
-  pub carrier_tagged : (a : Float) → r ≡ IdleAt a → t ++ carrier_line index a ≡ after_tag t (call_text r [] index)
+  pub carrier_tagged : (a : Float) → r ≡ Ok (IdleAt a) → t ++ carrier_line index a ≡ after_tag t (call_text r [] index)
   unfolding call_text carrier_line
-  carrier_tagged a e = tagged_some t (carrier_line index a) (omega arith) ∙ ap (λ (x : Reply). after_tag t (call_text x [] index)) (sym e)
+  carrier_tagged a e = tagged_some t (carrier_line index a) (omega arith) ∙ ap (λ (x : Result Next ℕ). after_tag t (call_text x [] index)) (sym e)
 
   -- ---- a call
 
-  pub refused_call : (f o : List ℕ) → eqb (reply_number_of r) 3 ≡ true → after_tag t (call_text r [] index) ≡ tagged_call t r f o index
+  pub refused_call : (f o : List ℕ) → is_err r ≡ true → after_tag t (call_text r [] index) ≡ tagged_call t r f o index
   unfolding tagged_call
   refused_call f o q = simp q
 
-  pub accepted_call : (f o : List ℕ) → eqb (reply_number_of r) 3 ≡ false → (after_tag t f ++ after_tag t o) ++ after_tag t (call_text r [] index) ≡ tagged_call t r f o index
+  pub accepted_call : (f o : List ℕ) → is_err r ≡ false → (after_tag t f ++ after_tag t o) ++ after_tag t (call_text r [] index) ≡ tagged_call t r f o index
   unfolding tagged_call
   accepted_call f o q = simp q
 
-pub not_refused : (r : Reply) → ((n : ℕ) → r ≡ Refused n → ⊥) → eqb (reply_number_of r) 3 ≡ false
-not_refused (Refused n) h = absurd (h n refl)
-not_refused Stay h = refl
-not_refused Idle h = refl
-not_refused (IdleAt e) h = refl
-
 -- with no tag it is what one lane's call prints
-pub call_untagged : (r : Reply) (f o : List ℕ) (index : ℕ) → tagged_call [] r f o index ≡ call_text r (f ++ o) index
+pub call_untagged : (r : Result Next ℕ) (f o : List ℕ) (index : ℕ) → tagged_call [] r f o index ≡ call_text r (f ++ o) index
 unfolding tagged_call call_text
-call_untagged (Refused n) f o index = no_tag (refused_line n)
-call_untagged Stay f o index = simp (no_tag, append-nil)
-call_untagged Idle f o index = simp no_tag
-call_untagged (IdleAt e) f o index = simp no_tag
+call_untagged (Err n) f o index = no_tag (refused_line n)
+call_untagged (Ok Stay) f o index = simp (no_tag, append-nil)
+call_untagged (Ok Idle) f o index = simp no_tag
+call_untagged (Ok (IdleAt e)) f o index = simp no_tag

@@ -7,8 +7,7 @@ ghost use Rattle.lines.specs.Line.{glyph as Line·glyph};
 ghost use Rattle.lines.specs.Text.{RoomFor, Puts, Begins};
 ghost use Rattle.shared.specs.declared.Carrier.TheVariants as Carrier;
 
-use lane::Reply;
-use shared::{Carrier, Out};
+use shared::{Carrier, Next, Out};
 
 // A lent buffer, and the place in it where the next line goes.
 #[derive(Drop)]
@@ -224,21 +223,21 @@ impl<'a> Text<'a> {
     }
 
     // The phase line after a tag, or that of a refusal.
-    fn put_phase(&mut self, tag: &[u8], r: Reply, index: u64)
+    fn put_phase(&mut self, tag: &[u8], r: Result<Next, u32>, index: u64)
         requires { RoomFor (length tag.now + 48) self.old }
         ensures { Puts (after_tag tag.now (call_text r [] index)) (length tag.now + 48) self.old self.new }
     {
         match r {
-            Reply::Refused(n) => {
+            Err(n) => {
                 self.put_bytes(tag);
                 self.put_refused(n);
             }
-            Reply::Stay => {}
-            Reply::Idle => {
+            Ok(Next::Stay) => {}
+            Ok(Next::Idle) => {
                 self.put_bytes(tag);
                 self.put_idle(index);
             }
-            Reply::IdleAt(e) => {
+            Ok(Next::IdleAt(e)) => {
                 self.put_bytes(tag);
                 self.put_idle_at(index, e);
             }
@@ -253,7 +252,7 @@ impl<'a> Text<'a> {
     pub fn put_call(
         &mut self,
         tag: &[u8],
-        r: Reply,
+        r: Result<Next, u32>,
         f: Out,
         fs: &[u32],
         o: Out,
@@ -264,8 +263,8 @@ impl<'a> Text<'a> {
         ensures { Puts (tagged_call tag.now r (record_line f fs.now) (record_line o os.now) index) (call_most (length tag.now) (length fs.now) (length os.now)) self.old self.new }
     {
         match r {
-            Reply::Refused(_) => self.put_phase(tag, r, index),
-            _ => {
+            Err(_) => self.put_phase(tag, r, index),
+            Ok(_) => {
                 self.put_record(tag, f, fs);
                 self.put_record(tag, o, os);
                 self.put_phase(tag, r, index);
@@ -286,7 +285,7 @@ pub fn has_room(n: usize, len: usize, at: usize) -> bool
 // Writes the lines of a call at a place of the text, and answers the place after them: `None` where
 // there was no room, and nothing was written.
 pub fn call_lines(
-    r: Reply,
+    r: Result<Next, u32>,
     f: Out,
     fs: &[u32],
     o: Out,
