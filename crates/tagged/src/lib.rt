@@ -7,9 +7,8 @@ ghost use Rattle.lines.specs.Line.{record_line, train_room};
 ghost use Rattle.lines.specs.Text.{RoomFor, Puts};
 ghost use Rattle.tagged.specs.Tagged.{tag_of, tagged_text};
 
-use lane::Reply;
 use lines::Text;
-use shared::Out;
+use shared::{Next, Out};
 
 // Puts the antenna's number and a blank at the start of out, and answers how long they are.
 fn put_tag(i: usize, out: &mut [u8]) -> usize
@@ -26,7 +25,7 @@ fn put_tag(i: usize, out: &mut [u8]) -> usize
 // alone.
 pub fn put_call(
     i: usize,
-    r: Reply,
+    r: Result<Next, u32>,
     f: Out,
     fs: &[u32],
     o: Out,
