@@ -6,14 +6,15 @@ ghost use Rattle.std.specs.Prelude.{◌≡◌, true, false, List, ℕ, ◌≤◌
 ghost use Rattle.commands.specs.Command.{decoded, is_step_of};
 ghost use Rattle.reached.specs.Reached.{Sound};
 ghost use Rattle.lines.specs.Line.{larger_of, has_room, put};
-ghost use Rattle.calls.specs.Turn.{Called, called, refused_of, shown_of, answer_text, waits as Turn·waits, slots_of, most_of};
+ghost use Rattle.calls.specs.Turn.{Called, called, shown_of, answer_text, waits as Turn·waits, slots_of, most_of};
 ghost use Rattle.calls.specs.Steps.{quiet_of, Took, Turn};
 ghost use Rattle.calls.specs.Stream.{machine};
 ghost use Rattle.stream.specs.Blocks.{Streamed};
 
 use commands::Command;
 use lane::{Answer, Lane, Reply};
-use shared::Out;
+use refusals::Refusal;
+use shared::{Next, Out};
 use stream::Ran;
 
 // ---- one command
@@ -55,21 +56,21 @@ pub fn call_other(l: Lane, k: Command, ook: &mut [u32], fsk: &[u32]) -> Answer
     let m = anew(l);
     match k {
         Command::End => Answer {
-            reply: Reply::Stay,
+            reply: Ok(Next::Stay),
             lane: l,
         },
         Command::Open(p, _) => lane::open(l, p),
         Command::Begin(b) => lane::begin(m, b, ook, fsk),
         Command::Step(_) => Answer {
-            reply: Reply::Stay,
+            reply: Ok(Next::Stay),
             lane: l,
         },
         Command::Unknown => Answer {
-            reply: Reply::Refused(1),
+            reply: Err(Refusal::Unknown),
             lane: l,
         },
         Command::Short => Answer {
-            reply: Reply::Refused(2),
+            reply: Err(Refusal::Short),
             lane: l,
         },
         Command::Close => lane::close(m, ook, fsk),
@@ -86,18 +87,17 @@ pub fn call(l: Lane, k: Command, ook: &mut [u32], fsk: &mut [u32]) -> Answer
     }
 }
 
-fn is_refused(r: Reply) -> bool
-    ensures { result ≡ refused_of r }
-{
-    matches!(r, Reply::Refused(_))
-}
-
 // The part of a record that a call prints: none where it is refused, whatever the lane still holds.
-pub fn shown<'a>(r: Reply, l: Lane, o: Out, ook: &'a [u32], fsk: &'a [u32]) -> &'a [u32]
+pub fn shown<'a, E: Copy>(
+    r: Result<Next, E>,
+    l: Lane,
+    o: Out,
+    ook: &'a [u32],
+    fsk: &'a [u32],
+) -> &'a [u32]
     ensures { result.now ≡ shown_of r l o ook.now fsk.now }
 {
-    let refused = is_refused(r);
-    if refused {
+    if r.is_err() {
         return &ook[..0];
     }
     lane::part(l, o, ook, fsk)
@@ -119,7 +119,7 @@ fn put_answer<'a>(
     let o = l.burst.out_ook;
     let fs = shown(r, l, f, ook, fsk);
     let os = shown(r, l, o, ook, fsk);
-    lines::call_lines(r, f, fs, o, os, l.last, text, at).unwrap_or(at)
+    lines::call_lines(r.map_err(u32::from), f, fs, o, os, l.last, text, at).unwrap_or(at)
 }
 
 // ---- commands of a stream
@@ -133,14 +133,12 @@ pub struct Past {
 }
 
 // Whether a call prints nothing: it stays, and decides no record.
-pub fn is_quiet(r: Reply, f: u32, o: u32) -> bool
+pub fn is_quiet<E: Copy>(r: Result<Next, E>, f: u32, o: u32) -> bool
     ensures { result ≡ quiet_of r f o }
 {
     match r {
-        Reply::Refused(_) => false,
-        Reply::Stay => (f != 1) & (o != 1),
-        Reply::Idle => false,
-        Reply::IdleAt(_) => false,
+        Ok(Next::Stay) => (f != 1) & (o != 1),
+        Ok(Next::Idle | Next::IdleAt(_)) | Err(_) => false,
     }
 }
 
@@ -157,7 +155,7 @@ fn steps(lane: Lane, s: &[u8], from: usize, ook: &mut [u32], fsk: &mut [u32]) ->
     let mut ring = lane.ring;
     let mut cs = lane.burst.frame.cand.cand_f;
     let mut used = from;
-    let mut reply = Reply::Stay;
+    let mut reply = Ok(Next::Stay);
     while used < s.len() {
         let is = commands::is_step_at(s, used);
         if !is {
