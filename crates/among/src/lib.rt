@@ -9,6 +9,8 @@ ghost use Rattle.among.specs.Settled.{is_begin_of, late_of, settled_of};
 
 use commands::Command;
 use lane::{Answer, Lane, Reply};
+use refusals::Refusal;
+use shared::Next;
 
 // How many lanes may be out of idle together.
 pub const PLACES: u32 = 4;
@@ -26,10 +28,8 @@ fn is_late(r: Reply) -> bool
     ensures { result ≡ late_of r }
 {
     match r {
-        Reply::Refused(k) => k == 8,
-        Reply::Stay => true,
-        Reply::Idle => true,
-        Reply::IdleAt(_) => true,
+        Err(k) => k == Refusal::Room,
+        Ok(_) => true,
     }
 }
 
@@ -43,7 +43,7 @@ pub fn settle(l: Lane, a: Answer, k: Command, others: u32) -> Answer
     let refused = begins & ((PLACES <= others) & late);
     if refused {
         return Answer {
-            reply: Reply::Refused(12),
+            reply: Err(Refusal::Places),
             lane: l,
         };
     }
@@ -84,12 +84,12 @@ pub fn no_antenna(k: Command) -> Reply
     ensures { result ≡ no_antenna k }
 {
     match k {
-        Command::End => Reply::Stay,
-        Command::Open(_, _) => Reply::Refused(6),
-        Command::Begin(_) => Reply::Refused(6),
-        Command::Step(_) => Reply::Refused(6),
-        Command::Unknown => Reply::Refused(1),
-        Command::Short => Reply::Refused(2),
-        Command::Close => Reply::Refused(6),
+        Command::End => Ok(Next::Stay),
+        Command::Open(_, _) => Err(Refusal::Index),
+        Command::Begin(_) => Err(Refusal::Index),
+        Command::Step(_) => Err(Refusal::Index),
+        Command::Unknown => Err(Refusal::Unknown),
+        Command::Short => Err(Refusal::Short),
+        Command::Close => Err(Refusal::Index),
     }
 }
