@@ -33,7 +33,8 @@ pub struct Asked {
 // ---- one antenna
 
 // The step at a place of the bytes and those of the same antenna that follow it, up to the first that
-// prints: core and arrays are changed in place (as `calls::steps` does).
+// prints: core and arrays are changed in place (as `calls::steps` does). One loop for both would need a
+// trait that says where a step stands and what either machine makes of it: longer than the loop.
 fn steps(q: Asked, s: &[u8], from: usize, ook: &mut [u32], fsk: &mut [u32]) -> Past
     requires { (from < length s.now) × (q.command ≡ addressed_of (drop from s.now)) × (q.antenna ≡ antenna_of (drop from s.now)) × (is_step_of q.command ≡ true) × (q.antenna < antennas) × Sound q.lane }
     ensures { Heard q (q.lane, ook.old, fsk.old) s.now from result (result.lane, ook.new, fsk.new) }
