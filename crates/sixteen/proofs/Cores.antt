@@ -10,7 +10,7 @@ use borrow.Author.Tests.{eqb-true, lt-ltb}
 use Rattle.shared.specs.Counts.{zero_c32}
 use Rattle.shared.proofs.Tests.{both_true}
 use Rattle.lane.specs.declared.Lane.{Lane}
-use Rattle.lane.specs.declared.Reply.{Reply}
+use Rattle.lane.specs.Answers.{Reply}
 use Rattle.lane.specs.declared.StepArgs.{StepArgs}
 use Rattle.lane.specs.Answers.{answer_of}
 use Rattle.lane.specs.Step.{new_lane}

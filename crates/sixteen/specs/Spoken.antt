@@ -2,9 +2,8 @@
 -- the first that prints or is another antenna's.
 use Rattle.std.specs.Prelude.{ℕ, ◌+◌, ◌-◌, ◌<◌, ◌≤◌, Bool, true, false, cond, ◌≡◌, List, [], ◌∷◌, ◌++◌, length, take, set, get_or, ltb}
 use Rattle.lane.specs.declared.Lane.{Lane}
-use Rattle.lane.specs.Answers.{answer_of}
+use Rattle.lane.specs.Answers.{Reply, answer_of}
 use Rattle.reached.specs.Reached.{Sound}
-use Rattle.lane.specs.declared.Reply.{Reply}
 use Rattle.lines.specs.Line.{train_room, has_room}
 use Rattle.calls.specs.declared.Past.{Past}
 use Rattle.calls.specs.declared.Turned.{Turned}

@@ -19,6 +19,7 @@ use calls::{Past, Turned};
 use commands::Command;
 use lane::{Answer, Lane, Reply};
 use lines::Text;
+use shared::Next;
 use stream::Ran;
 
 // A command for an antenna, with the antenna's lane and how many other lanes are out of idle.
@@ -48,7 +49,7 @@ fn steps(q: Asked, s: &[u8], from: usize, ook: &mut [u32], fsk: &mut [u32]) -> P
     let mut ring = lane.ring;
     let mut cs = lane.burst.frame.cand.cand_f;
     let mut used = from;
-    let mut reply = Reply::Stay;
+    let mut reply = Ok(Next::Stay);
     while used < s.len() {
         let is = addressed::is_step_for(s, used, i);
         if !is {
@@ -121,7 +122,7 @@ fn put_heard<'a>(i: usize, r: Reply, l: Lane, ook: &'a [u32], fsk: &'a [u32], te
     let o = l.burst.out_ook;
     let fs = calls::shown(r, l, f, ook, fsk);
     let os = calls::shown(r, l, o, ook, fsk);
-    tagged::put_call(i, r, f, fs, o, os, l.last, text);
+    tagged::put_call(i, r.map_err(u32::from), f, fs, o, os, l.last, text);
 }
 
 // Whether the lines of a command have its antenna's number: refusals 1 and 2 have none.
