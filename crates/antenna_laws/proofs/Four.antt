@@ -1,12 +1,12 @@
 -- At most four lanes are out of idle: a call takes a place only by an accepted begin, and that finds fewer than four others out.
 use Prim.Native.Nat.{ℕ, ◌+◌, ◌<◌, ◌≤◌}
-use mathlib.Core.Bool.{Bool, true, false, cond, true≢false}
+use mathlib.Core.Bool.{Bool, true, false, true≢false}
 use mathlib.Core.Path.{◌≡◌, refl, sym, ◌∙◌, ap, subst}
 use mathlib.Core.Logic.{◌⊎◌, inl, inr}
 use mathlib.Core.List.{List, [], ◌∷◌}
 use native.Mathlib.Omega.{arith}
 use lib.ListN.{length, set}
-use lib.Dec.{leb, eqb}
+use lib.Dec.{leb}
 use borrow.Author.Tests.{leb-false, eq-eqb, ne_eqb}
 use Rattle.std.specs.Prelude.{⊤, Result, Ok, Err}
 use Rattle.shared.specs.declared.Settings.{Settings}

@@ -9,7 +9,7 @@ use lib.Seq.{sets}
 use lib.Dec.{eqb, ltb, leb}
 use borrow.Author.Tests.{ltb-false, leb-false, le-ltb, le-leb}
 use Rattle.std.specs.Prelude.{Result, Ok, Err, is_ok, IsErrAnd, MatchResult}
-use Rattle.shared.specs.declared.Next.TheVariants as next
+use Rattle.shared.specs.declared.Next.TheVariants.{Stay, Idle, IdleAt}
 use Rattle.shared.specs.declared.Next.{Next}
 use Rattle.shared.specs.declared.Out.{Out}
 use Rattle.shared.proofs.Tests.{clash}
@@ -80,9 +80,9 @@ too_few_left p len at h e =
 -- a record's part, where the call is not refused
 shown_by : (r : Reply) (l : Lane) (o : Out) (ook fsk : List ℕ) (most : ℕ) → ((reply_number_of r ≡ 3 → ⊥) → length (part_of l o ook fsk) ≤ most) → length (shown_of r l o ook fsk) ≤ most
 shown_by (Err n) l o ook fsk most h = omega arith
-shown_by (Ok next.Stay) l o ook fsk most h = h (λ e. omega (arith, e))
-shown_by (Ok next.Idle) l o ook fsk most h = h (λ e. omega (arith, e))
-shown_by (Ok (next.IdleAt x)) l o ook fsk most h = h (λ e. omega (arith, e))
+shown_by (Ok Stay) l o ook fsk most h = h (λ e. omega (arith, e))
+shown_by (Ok Idle) l o ook fsk most h = h (λ e. omega (arith, e))
+shown_by (Ok (IdleAt x)) l o ook fsk most h = h (λ e. omega (arith, e))
 
 shown_fits : (c : Called) (most : ℕ) → ((reply_number_of c.0.reply ≡ 3 → ⊥) → PartsFit most c.0.lane c.1 c.2) → Shown c most
 shown_fits c most h =
@@ -136,9 +136,9 @@ shown_text : (r : Reply) (l : Lane) (ook fsk : List ℕ)
     → call_text (by_number r) (record_line l.burst.out_fsk (shown_of r l l.burst.out_fsk ook fsk) ++ record_line l.burst.out_ook (shown_of r l l.burst.out_ook ook fsk)) l.last ≡ answer_text r l ook fsk
 unfolding answer_text call_text
 shown_text (Err n) l ook fsk = refl
-shown_text (Ok next.Stay) l ook fsk = refl
-shown_text (Ok next.Idle) l ook fsk = refl
-shown_text (Ok (next.IdleAt e)) l ook fsk = refl
+shown_text (Ok Stay) l ook fsk = refl
+shown_text (Ok Idle) l ook fsk = refl
+shown_text (Ok (IdleAt e)) l ook fsk = refl
 
 -- std's map_err by the number of a refusal
 pub in_number : (r : Reply) (z : Result Next ℕ) → MatchResult r (λ n. z ≡ Ok n) (λ k. IsErrAnd z (λ m. m ≡ number_of k)) → z ≡ by_number r

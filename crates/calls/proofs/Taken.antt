@@ -10,7 +10,7 @@ use Rattle.std.specs.Prelude.{Ok, Err}
 use borrow.Author.Tests.{not-true}
 use Rattle.shared.proofs.Tests.{both_true, clash}
 use Rattle.lane.specs.declared.Lane.{Lane}
-use Rattle.shared.specs.declared.Next.TheVariants as next
+use Rattle.shared.specs.declared.Next.TheVariants.{Stay, Idle, IdleAt}
 use Rattle.lane.specs.declared.StepArgs.{StepArgs}
 use Rattle.lane.specs.Answers.{Reply, answer_of}
 use Rattle.lane.specs.Step.{stepped}
@@ -59,13 +59,13 @@ took_one p s from k used r q size inside sound is_k ready is_size is_used is_c i
 silent : (r : Reply) (l : Lane) (ook fsk : List ℕ) → quiet_of r l.burst.out_fsk.state l.burst.out_ook.state ≡ true → answer_text r l ook fsk ≡ []
 unfolding answer_text call_text record_line
 silent (Err k) l ook fsk h = clash (sym h)
-silent (Ok next.Stay) l ook fsk h =
+silent (Ok Stay) l ook fsk h =
     let f = l.burst.out_fsk in
     let o = l.burst.out_ook in
     let b = both_true (not (eqb f.state 1)) (not (eqb o.state 1)) h in
     simp (not-true (eqb f.state 1) b.0, not-true (eqb o.state 1) b.1)
-silent (Ok next.Idle) l ook fsk h = clash (sym h)
-silent (Ok (next.IdleAt e)) l ook fsk h = clash (sym h)
+silent (Ok Idle) l ook fsk h = clash (sym h)
+silent (Ok (IdleAt e)) l ook fsk h = clash (sym h)
 
 -- the steps so far, from p on
 abbrev pub StepsTaken : State → List ℕ → ℕ → ℕ → Reply → State → Type 0

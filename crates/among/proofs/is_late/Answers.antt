@@ -1,4 +1,3 @@
-use mathlib.Core.Bool.{Bool}
 use mathlib.Core.Path.{◌≡◌, refl, ap, sym, ◌∙◌}
 use denote.Enum.Bare.{sameb}
 use lib.Dec.{eqb}
