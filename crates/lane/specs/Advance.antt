@@ -4,7 +4,7 @@ use Rattle.arith.specs.Leaves.{lead_len_of}
 use Rattle.shared.specs.declared.Next.TheVariants as next
 use Rattle.envelope.specs.declared.At.{At}
 use Rattle.burst.specs.declared.Lead.{Lead}
-use Rattle.burst.specs.declared.Sampled.{Sampled}
+use Rattle.burst.specs.Types.{Sampled}
 use Rattle.burst.specs.Sample.{sample_of}
 use Rattle.burst.specs.Lead.{lead_add_of, lead_full_of}
 use Rattle.lane.specs.declared.StepArgs.{StepArgs}

@@ -3,9 +3,9 @@
 use Rattle.std.specs.Prelude.{ℕ, cond, List, eqb, Ok}
 use Rattle.shared.specs.declared.Next.TheVariants as next
 use Rattle.ook.specs.Train.{end_train_of}
-use Rattle.ook.specs.declared.Ended.{Ended}
+use Rattle.ook.specs.Types.{Ended}
 use Rattle.burst.specs.Makers.{with_train}
-use Rattle.burst.specs.declared.Burst.{Burst}
+use Rattle.burst.specs.Types.{Burst}
 use Rattle.lane.specs.declared.Lane.{Lane}
 use Rattle.lane.specs.declared.Answer.{Answer}
 use Rattle.lane.specs.Begin.{lane_of, cleared_of}

@@ -8,6 +8,7 @@ ghost use Rattle.lane.specs.Idle.{no_out, no_run, no_runs, none_done, no_frame, 
 ghost use Rattle.lane.specs.Begin.{ring_before_of, history_of, ring_of, begin_lead_of, cleared_of, lead_lane};
 ghost use Rattle.shared.specs.Core.{whole_out, numbered};
 ghost use Rattle.burst.specs.Makers.{with_serials};
+ghost use Rattle.burst.specs.Types.{Burst};
 ghost use Rattle.lane.specs.Close.{idle_with, end_burst_of};
 ghost use Rattle.lane.specs.Step.{refuse, new_lane, opened, begun, closed};
 ghost use Rattle.lane.specs.Part.{front, named_of, part_refusal, part_of};
@@ -20,7 +21,7 @@ use ook::{Env, Train};
 use presence::Pres;
 use refusals::Refusal;
 use run::Run;
-use shared::{Carrier, Next, Out, OutCore, Settings};
+use shared::{Carrier, Flat, Next, Out, OutCore, Settings};
 
 // The seven envelopes before begin's, nearest first.
 #[derive(Clone, Copy)]
@@ -517,7 +518,7 @@ pub fn begin(l: Lane, b: BeginArgs, ook: &[u32], fsk: &[u32]) -> Answer
 pub fn no_core_out() -> OutCore
     ensures { whole_out result ≡ no_out }
 {
-    let carrier = shared::angle(0.0);
+    let carrier = Flat::angle(0.0);
     OutCore {
         index: 0,
         end: 0,

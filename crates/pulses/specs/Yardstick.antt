@@ -10,9 +10,9 @@ use Rattle.shared.specs.Answers.{is_stay_of}
 use Rattle.envelope.specs.declared.At.{At}
 use Rattle.envelope.specs.declared.Seen.{Seen}
 use Rattle.envelope.specs.See.{see_of}
-use Rattle.burst.specs.declared.Burst.{Burst}
+use Rattle.burst.specs.Types.{Burst}
 use Rattle.burst.specs.declared.Lead.{Lead}
-use Rattle.burst.specs.declared.Sampled.{Sampled}
+use Rattle.burst.specs.Types.{Sampled}
 use Rattle.burst.specs.Sample.{sample_of}
 use Rattle.burst.specs.Lead.{lead_add_of, largest_of, begin_burst_of, lead_at_of, onward, staying}
 use Rattle.lane.specs.declared.Lane.{Lane}

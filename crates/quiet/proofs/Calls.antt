@@ -18,8 +18,8 @@ use Rattle.shared.proofs.Counts.{inc_exact}
 use Rattle.refusals.proofs.Domain.{InDomain}
 use Rattle.refusals.proofs.Order.{is_passed}
 use Rattle.burst.specs.declared.Lead.{Lead}
-use Rattle.burst.specs.declared.Burst.{Burst}
-use Rattle.burst.specs.declared.Sampled.{Sampled}
+use Rattle.burst.specs.Types.{Burst}
+use Rattle.burst.specs.Types.{Sampled}
 use Rattle.burst.specs.Sample.{sample_of}
 use Rattle.burst.specs.Lead.{lead_add_of, staying, replay_from, lead_full_of}
 use Rattle.lane.specs.declared.Lane.{Lane}

@@ -19,9 +19,9 @@ use Rattle.shared.specs.Answers.{is_stay_of}
 use Rattle.shared.specs.declared.Next.{Next}
 use Rattle.shared.specs.declared.Next.TheVariants as next
 use Rattle.burst.specs.Makers.{with_serials}
-use Rattle.burst.specs.declared.Burst.{Burst}
+use Rattle.burst.specs.Types.{Burst}
 use Rattle.burst.specs.declared.Lead.{Lead}
-use Rattle.burst.specs.declared.Sampled.{Sampled}
+use Rattle.burst.specs.Types.{Sampled}
 use Rattle.burst.specs.Lead.{lead_add_of, largest_of, begin_burst_of, staying, replay_of, lead_full_of}
 use Rattle.refusals.proofs.Domain.{InDomain, settings_tell}
 use Rattle.refusals.specs.Domain.{settings_ok, unset_ok, index_ok, room_ok}

@@ -21,8 +21,8 @@ use Rattle.ook.specs.declared.Train.{Train}
 use Rattle.shared.specs.declared.Out.{Out}
 use Rattle.shared.specs.declared.Settings.{Settings}
 use Rattle.fsk.specs.declared.Committed.{Committed}
-use Rattle.fsk.specs.declared.Frame.{Frame}
-use Rattle.burst.specs.declared.Burst.{Burst}
+use Rattle.fsk.specs.Types.{Frame}
+use Rattle.burst.specs.Types.{Burst}
 use Rattle.burst.specs.declared.Lead.{Lead}
 use Rattle.burst.specs.Lead.{lead_add_of, largest_of, begin_burst_of, staying, replay_of, lead_full_of}
 use Rattle.reached.specs.Limits.{Paired, BurstFits}

@@ -21,11 +21,11 @@ use Rattle.envelope.specs.declared.At.{At}
 use Rattle.burst.specs.Lead.{lead_add_of, lead_at_of, largest_of, begin_burst_of, onward, replay_from, replay_of, lead_full_of, staying}
 use Rattle.burst.specs.Sample.{sample_of}
 use Rattle.burst.specs.Core.{whole_burst, whole_sampled, at_in_of, samples_from, samples_of}
-use Rattle.burst.specs.declared.Burst.{Burst}
-use Rattle.burst.specs.declared.BurstCore.{BurstCore}
+use Rattle.burst.specs.Types.{Burst}
+use Rattle.burst.specs.Types.{BurstCore}
 use Rattle.burst.specs.declared.Lead.{Lead}
-use Rattle.burst.specs.declared.Sampled.{Sampled}
-use Rattle.burst.specs.declared.SampledCore.{SampledCore}
+use Rattle.burst.specs.Types.{Sampled}
+use Rattle.burst.specs.Types.{SampledCore}
 use Rattle.step.specs.declared.Core.{Core}
 use Rattle.lane.specs.declared.StepArgs.{StepArgs}
 use Rattle.lane.specs.declared.Lane.{Lane}

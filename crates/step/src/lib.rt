@@ -347,9 +347,9 @@ fn lead_add(
         es[i] = e;
         re[i + 1] = x.re;
         im[i + 1] = x.im;
-        return shared::inc(n);
+        return n.wrapping_add(1);
     }
-    shared::inc(n)
+    n.wrapping_add(1)
 }
 
 // What a sample of the burst reads.

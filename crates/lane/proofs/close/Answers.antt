@@ -3,7 +3,7 @@ use mathlib.Core.Path.{ap, sym, ◌∙◌}
 use mathlib.Core.List.{List}
 use Prim.Native.Nat.{ℕ}
 use native.Mathlib.Omega.{arith}
-use Rattle.burst.specs.declared.Burst.{Burst}
+use Rattle.burst.specs.Types.{Burst}
 use Rattle.lane.specs.Begin.{cleared_of}
 use Rattle.lane.specs.Close.{idle_with, end_burst_of, close_of}
 use Rattle.lane.specs.Step.{closed}
