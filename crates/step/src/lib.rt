@@ -29,6 +29,7 @@ use shared::{Next, OutCore, Settings};
 
 // ---- refusals
 
+#[tactic(auto, unfolding(refusals::specs::Order::first_failed))]
 fn step_refusal(
     lane: bool,
     p: Settings,
@@ -40,15 +41,14 @@ fn step_refusal(
 ) -> Result<(), Refusal>
     ensures { result ≡ step_refusal_by lane p phase last s ook fsk }
 {
-    let busy = phase != 0;
-    let index = refusals::index_ok(s.index) & lane::follows(last, s.index);
-    let floats = lane::step_floats_ok(s);
-    let room = refusals::room_ok(p, ook, fsk);
-    // One test where nothing refuses: with the chain of checks alone a step of a stream takes 3 % longer.
-    if lane & busy & index & floats & room {
-        return Ok(());
-    }
-    refusals::first_failed(true, lane, busy, true, index, floats, room)
+    refusals::check(lane, Refusal::Lane)?;
+    refusals::check(phase != 0, Refusal::Phase)?;
+    refusals::check(
+        refusals::index_ok(s.index) & lane::follows(last, s.index),
+        Refusal::Index,
+    )?;
+    refusals::check(lane::step_floats_ok(s), Refusal::Float)?;
+    refusals::check(refusals::room_ok(p, ook, fsk), Refusal::Room)
 }
 
 // ---- answers
