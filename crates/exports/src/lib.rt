@@ -14,6 +14,8 @@ use lane::{Answer, Lane};
 
 // ---- the leaves
 
+// The leaves stay numbers: `leaf` is called from C and Rust by the number, and any other number has the answer 0.
+
 // The lower half of x: a u32, or the pattern of an f32.
 fn low(x: u64) -> u32
     ensures { result ≡ x % 2 ^ 32 }
