@@ -60,12 +60,14 @@ fn words(text: &[u8]) -> &str {
     }
 }
 
-// The status of a program: what failed is said on standard error, `err`, after the program's name.
+// The status of a program: what failed is said on standard error, `err`, after the program's name. An
+// input with no end has no line.
 pub fn status<E: Write>(program: &str, done: Result<(), Failed>, err: &mut E) -> ExitCode
     ensures { MatchResult done (λ _. exit_status result ≡ 0) (λ _. exit_status result ≡ 1) }
 {
     match done {
         Ok(()) => ExitCode::SUCCESS,
+        Err(Failed::Endless) => ExitCode::FAILURE,
         Err(why) => {
             let _ = writeln!(err, "{program}: {why}");
             ExitCode::FAILURE

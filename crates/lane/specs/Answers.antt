@@ -1,4 +1,4 @@
--- Document 01's number and values for every case of a reply.
+-- What a call answers, with document 01's number and values for every case.
 use Rattle.std.specs.Prelude.{ℕ, Float, Result, Ok, Err}
 use Rattle.ieee.specs.Constants.{zero32}
 use Rattle.refusals.specs.declared.Refusal.{Refusal}

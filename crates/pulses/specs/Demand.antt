@@ -66,7 +66,7 @@ module _ (W : Program) where
   start = record { lane = W.new; ook = []; trains = []; yard = unused }
 
   -- "A burst gives a train where a call of it returns an OOK record that decides one": begin, step or close c returned r, and earlier are
-  -- the trains that its burst had given before. The part is fetched by the lane that the call returned. A refusal returns its number alone.
+  -- the trains that its burst had given before. The part is fetched by the lane that the call returned. A refusal returns its reason alone.
   abbrev taken : Bool → Place W → Call → List Given → Returned W.Lanes → Place W
   taken a k c earlier r = record {
     lane = r.lane;

@@ -42,7 +42,7 @@ impl Crossing {
 }
 
 // A sample is of the run's level (same), or it ends a run that is too short to count (short), or a run begins with it. Whoever moves
-// a run decides this once for a sample and hands the two flags on to all that moves with it; as a struct they take 4 to 6 % more
+// a run decides this once for a sample and hands the two flags on to all that moves with it; as an enum they take 4 to 6 % more
 // instructions (docs/SPEED.md).
 #[tactic(auto, unfolding(crate::specs::Run::begins_of))]
 pub fn begins(same: bool, short: bool) -> bool

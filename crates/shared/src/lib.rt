@@ -1,4 +1,4 @@
-// What the whole lane shares: settings, answers and records, each by value, and the whole numbers that count.
+// What the whole lane shares: settings, answers and records, each by value.
 #![tactic(auto)]
 
 ghost use Rattle.std.specs.Prelude.{◌≡◌, ◌+◌, ◌-◌, ◌<◌, slice_set};
@@ -57,7 +57,7 @@ pub struct Out {
 }
 
 // The same in the core: the carrier as a number and two floats, which fit between the numbers around them (`carrier_in`); an enum there
-// takes a quarter more time (docs/SPEED.md). `OutCore` is a struct of its own: it differs from `Out` in two fields, and a serial beside a
+// takes 3 to 7 % more instructions (docs/SPEED.md). `OutCore` is a struct of its own: it differs from `Out` in two fields, and a serial beside a
 // generic record would put one struct more between a reader and each field.
 #[derive(Clone, Copy)]
 pub struct Flat {
@@ -78,7 +78,7 @@ pub struct OutCore {
     pub carrier: Flat,
 }
 
-// ---- whole numbers
+// ---- the pulse buffers
 
 // A slot past the end is not written. An index test: of a slice whose `get_mut` gave None nothing is known, not even that it stays.
 pub fn put(pairs: &mut [u32], i: usize, v: u32)
