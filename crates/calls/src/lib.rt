@@ -169,7 +169,6 @@ fn pass(l: Lane, k: Command, s: &[u8], from: usize, ook: &mut [u32], fsk: &mut [
     let a = call_other(l, k, ook, fsk);
     let lane = a.lane;
     let reply = a.reply;
-    // Asked for before the call, it makes the loop over the steps slower too: 495.
     let size = commands::size_of(k);
     Past {
         lane,
