@@ -18,11 +18,12 @@ fn rule(i: u64) -> u64
     requires { i < 1024 }
     ensures { result ≡ rule_of i }
 {
-    let mut r: u64 = 255;
-    while 64 * i < r * r {
-        r -= 1;
+    for r in (1..256).rev() {
+        if r * r <= 64 * i {
+            return r;
+        }
     }
-    r
+    0
 }
 
 fn put_line(n: u64, text: &mut Text)
