@@ -24,27 +24,22 @@ fn spell(n: u64, out: &mut [u8]) -> usize
     ensures { Spelled n result out.new }
 {
     out[19] = 48 + (n % 10) as u8;
-    let mut i: usize = 19;
     let mut rest = n / 10;
-    while i > 0 {
+    for i in (0..19).rev() {
         if rest == 0 {
-            return i;
+            return i + 1;
         }
-        i -= 1;
         out[i] = 48 + (rest % 10) as u8;
         rest /= 10;
     }
-    i
+    0
 }
 
 fn glyph(d: u32) -> u8
     requires { d < 16 }
     ensures { result ≡ Line·glyph d }
 {
-    if d < 10 {
-        return 48 + d as u8;
-    }
-    87 + d as u8
+    b"0123456789abcdef"[d as usize]
 }
 
 // The time from a train's index to its end: 0 where the end is the smaller one.
@@ -102,15 +97,10 @@ impl<'a> Text<'a> {
         ensures { Puts (float x) 9 self.old self.new }
     {
         let n = ieee::bits_of_f32(x);
-        let a = glyph(n / 0x1000_0000 % 16);
-        let b = glyph(n / 0x100_0000 % 16);
-        let c = glyph(n / 0x10_0000 % 16);
-        let d = glyph(n / 0x1_0000 % 16);
-        let e = glyph(n / 0x1000 % 16);
-        let f = glyph(n / 0x100 % 16);
-        let g = glyph(n / 0x10 % 16);
-        let h = glyph(n % 16);
-        self.put_bytes(&[b' ', a, b, c, d, e, f, g, h]);
+        self.put_byte(b' ');
+        for k in (0..8u32).rev() {
+            self.put_byte(glyph((n >> (4 * k)) % 16));
+        }
     }
 
     // ---- a train line
