@@ -423,7 +423,7 @@ fn ring_before(ring: [f32; 32], index: u64, back: u64, e: f32) -> [f32; 32]
     r
 }
 
-// `history` of the Rust.
+// `history` of the Rust. One line for each field: History is the public input, with seven fields of their own names, so there is no list to go through.
 fn fill_history(ring: [f32; 32], index: u64, h: History) -> [f32; 32]
     ensures { result ≡ history_of ring index h }
 {
@@ -437,13 +437,11 @@ fn fill_history(ring: [f32; 32], index: u64, h: History) -> [f32; 32]
 }
 
 // The envelope goes to its place in the ring.
-fn ring_with(ring: [f32; 32], index: u64, e: f32) -> [f32; 32]
-    ensures { result ≡ ring_of ring index e }
+pub fn ring_put(ring: &mut [f32; 32], index: u64, e: f32)
+    ensures { ring.new ≡ ring_of ring.old index e }
 {
-    let mut r = ring;
     let i = (index % 32) as usize;
-    r[i] = e;
-    r
+    ring[i] = e;
 }
 
 fn begin_lead(b: BeginArgs) -> Lead
@@ -480,9 +478,9 @@ fn lead_lane(l: Lane, b: BeginArgs, serial: u64) -> Lane
 {
     let x = b.x;
     let h = b.history;
-    let ring0 = l.ring;
-    let ring1 = ring_with(ring0, b.index, b.envelope);
-    let ring = fill_history(ring1, b.index, h);
+    let mut ring = l.ring;
+    ring_put(&mut ring, b.index, b.envelope);
+    let ring = fill_history(ring, b.index, h);
     let lead = begin_lead(b);
     let old = l.burst;
     let mut burst = clear_records(old, serial);

@@ -5,7 +5,7 @@
 ghost use Rattle.std.specs.Prelude.{◌≡◌, true, ℕ, ◌≤◌, List, Float, pos, length, get_or, eqb};
 ghost use Rattle.lane.specs.Answers.{phase_of, answer_of};
 ghost use Rattle.lane.specs.Refusals.{step_refusal_by};
-ghost use Rattle.lane.specs.Begin.{ring_of, cleared_of};
+ghost use Rattle.lane.specs.Begin.{cleared_of};
 ghost use Rattle.step.specs.Core.{zip_of, reals_of, imaginaries_of, lead_in, joined_of, at_call};
 ghost use Rattle.fsk.specs.Core.{whole_frame};
 ghost use Rattle.shared.specs.Core.{whole_out};
@@ -23,7 +23,7 @@ use arith::C32;
 use burst::{Burst, BurstCore, Lead};
 use envelope::At;
 use fsk::{Cand, CandCore, Frame, FrameCore};
-use lane::{Answer, Lane, Reply, StepArgs};
+use lane::{Answer, Lane, Reply, StepArgs, ring_put};
 use refusals::Refusal;
 use shared::{Next, OutCore, Settings};
 
@@ -321,13 +321,6 @@ fn clear_core(b: BurstCore) -> BurstCore
     n.out_ook = o;
     n.out_fsk = o;
     n
-}
-
-fn ring_put(ring: &mut [f32; 32], index: u64, e: f32)
-    ensures { ring.new ≡ ring_of ring.old index e }
-{
-    let i = (index % 32) as usize;
-    ring[i] = e;
 }
 
 // The sample joins the lead-in.
