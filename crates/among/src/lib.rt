@@ -23,7 +23,8 @@ fn is_begin(k: Command) -> bool
     matches!(k, Command::Begin(_))
 }
 
-// Whether refusal 12 comes before this reply to a begin: the checks up to 7 come before it.
+// Whether refusal 12 comes before this reply to a begin: the checks up to 7 come before it. A match, as `is_none_or` over
+// `r.err()` would hide that an accepted begin is late too.
 fn is_late(r: Reply) -> bool
     ensures { result ≡ late_of r }
 {
@@ -79,7 +80,8 @@ pub fn count_out(lanes: &[Lane; 16]) -> u32
     n
 }
 
-// The reply to a command whose antenna is above 15: refusal 6, right after 1 and 2.
+// The reply to a command whose antenna is above 15: refusal 6, right after 1 and 2. Each command has its own line, as in its
+// definition, so that none falls under another's reply.
 pub fn no_antenna(k: Command) -> Reply
     ensures { result ≡ no_antenna k }
 {

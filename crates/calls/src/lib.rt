@@ -118,7 +118,8 @@ pub fn is_quiet<E: Copy>(r: Result<Next, E>, f: u32, o: u32) -> bool
 }
 
 // The steps from a place of the bytes on, where one is, up to the first that prints: core and arrays
-// are changed in place. A sound lane never meets refusal 4, so it is not asked for.
+// are changed in place. A sound lane never meets refusal 4, so it is not asked for. Where the steps end is known only at each
+// place, by its byte and by what the step before it answered, so there are no parts for a `for` to go through.
 fn steps(lane: Lane, s: &[u8], from: usize, ook: &mut [u32], fsk: &mut [u32]) -> Past
     requires { (from < length s.now) × (is_step_of (decoded (drop from s.now)) ≡ true) × Sound lane }
     ensures { Took (lane, ook.old, fsk.old) s.now from result.used result.reply (result.lane, ook.new, fsk.new) }
@@ -224,7 +225,7 @@ pub fn most_of(pulses: u32, ook: usize, fsk: usize) -> usize
 }
 
 // Whether a command is not made yet: nothing is left, or only the beginning of a command and more
-// may come.
+// may come. Each command has its own line, as in its definition, so that none waits by falling under another.
 pub fn waits(last: bool, k: Command) -> bool
     ensures { result ≡ Turn·waits last k }
 {
@@ -241,7 +242,8 @@ pub fn waits(last: bool, k: Command) -> bool
 
 // The turns of a block of bytes: each command's as soon as its own last byte is there, until the
 // next waits for more, the text has no room, or the stream ends. `last` says that no byte will come
-// after the block. The lane comes and goes by value: lent, it costs a call of an OOK stream 506
+// after the block. A turn goes on by as many bytes as its commands take, and has three reasons to be the last, so no index is
+// counted. The lane comes and goes by value: lent, it costs a call of an OOK stream 506
 // instructions in place of 487.
 pub fn block(
     lane: Lane,

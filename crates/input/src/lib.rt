@@ -100,7 +100,8 @@ pub fn read_more<R: Read>(
     }
 }
 
-// All of the text, or the first failure: a write that takes nothing is one, and none is tried again.
+// All of the text, or the first failure: a write that takes nothing is one, and none is tried again. Each write takes as many
+// bytes as it likes, so there is no index for a `for` to count; std's `write_all` would try an interrupted write again.
 fn write_text<W: Write>(to: &mut W, text: &[u8]) -> io::Result<()>
     ensures { Gave (W.contents to.old) (W.contents to.new) text.now (is_ok result) }
 {

@@ -115,6 +115,7 @@ impl<'a> Text<'a> {
         }
     }
 
+    // The number is the record's own field, which a caller may set to any: 1 is FSK, and any other prints as OOK.
     fn put_kind(&mut self, fsk: u32)
         requires { RoomFor 3 self.old }
         ensures { Puts (kind fsk) 3 self.old self.new }
