@@ -1,5 +1,6 @@
 // The lane by value: opening, begin, close, and the part of a buffer that a record names; its step is the crate `step`. Every value of every argument
-// ends with the reply of document 01 or with the first refusal that applies, lane and buffers then as they were.
+// ends with the reply of document 01 or with the first refusal that applies, lane and buffers then as they were. The two buffers are lent as two
+// slices, here and below, and not as a struct of both: so a signature says which of them a call may write, as `begin` none and `close` one.
 #![tactic(auto)]
 
 ghost use Rattle.std.specs.Prelude.{◌≡◌, true, ℕ, ◌≤◌, List};
@@ -55,7 +56,7 @@ pub struct StepArgs {
 
 #[derive(Clone, Copy)]
 pub struct Lane {
-    // 0 where it never had settings, 1 where it has.
+    // 0 where it never had settings, 1 where it has; a number, as those in `Settings`.
     pub opened: u32,
     pub settings: Settings,
     // 0 idle, 1 lead, 2 burst.
