@@ -66,7 +66,8 @@ fn phase_of(n: Next) -> u32
 // ---- the core: the lane but for its arrays, which are lent
 
 // The lead-in's envelopes and samples, the ring and the candidates stand beside it: es, re and im, ring, cs. The serial is
-// that of both records too.
+// that of both records too. The samples are two arrays of numbers: as one of C32 an OOK stream takes 5 % more instructions a call,
+// with all the arrays in one struct that is lent 4 %.
 #[derive(Clone, Copy)]
 pub struct Core {
     pub opened: u32,
