@@ -257,7 +257,8 @@ fn row_of(i: usize) -> usize
 
 // The turns of a block of bytes: each command's as soon as its own last byte is there, until the
 // next waits for more, the text has no room, or the stream ends. `last` says that no byte will come
-// after the block.
+// after the block. As in `calls::block`, a turn goes on by as many bytes as its commands take: no index is
+// counted.
 pub fn block(
     first: [Lane; 16],
     s: &[u8],
