@@ -15,13 +15,8 @@ fn without_antenna(k: Command) -> Command
     ensures { result ≡ without_antenna k }
 {
     match k {
-        Command::End => Command::End,
-        Command::Open(p, carries) => Command::Open(p, carries),
-        Command::Begin(b) => Command::Begin(b),
-        Command::Step(s) => Command::Step(s),
-        Command::Unknown => Command::Unknown,
-        Command::Short => Command::Short,
         Command::Close => Command::Short,
+        other => other,
     }
 }
 
@@ -36,12 +31,6 @@ pub fn command_at(s: &[u8], at: usize) -> Command
     commands::decode_by(u[0], commands::after(u, 2))
 }
 
-fn wide(b: u8) -> usize
-    ensures { (result ≡ b) × (result < 256) }
-{
-    b as usize
-}
-
 // The antenna's number, 0 where its byte is not there.
 pub fn antenna_at(s: &[u8], at: usize) -> usize
     ensures { (result ≡ antenna_of (drop at s.now)) × (result < 256) }
@@ -50,19 +39,17 @@ pub fn antenna_at(s: &[u8], at: usize) -> usize
     if u.len() < 2 {
         return 0;
     }
-    wide(u[1])
+    usize::from(u[1])
 }
 
 // How many bytes a command takes, the antenna's counted.
 pub fn size_of(k: Command) -> usize
     ensures { result ≡ addressed_size k }
 {
-    let n = commands::size_of(k);
-    let none = n == 0;
-    if none {
-        return 0;
+    match commands::size_of(k) {
+        0 => 0,
+        n => n + 1,
     }
-    n + 1
 }
 
 // Whether a step for the antenna i stands at a place of the bytes. Most commands of a stream are
@@ -74,11 +61,7 @@ pub fn is_step_for(s: &[u8], at: usize, i: usize) -> bool
     if u.len() < 26 {
         return false;
     }
-    let steps = u[0] == 3;
-    if steps {
-        return wide(u[1]) == i;
-    }
-    false
+    u[0] == 3 && usize::from(u[1]) == i
 }
 
 // The operands of the step at a place of the bytes.

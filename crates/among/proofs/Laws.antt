@@ -1,5 +1,6 @@
 -- A lane among others answers as alone but for refusal 12, which stands among the other checks as the definition has them (`settled`), and
 -- the number of lanes out of idle is changed by one lane at a time.
+use mir.Val.{bool_byte}
 use Prim.Native.Nat.{ℕ, zero, suc, ◌+◌, ◌-◌, ◌^◌, ◌<◌, ◌≤◌}
 use mathlib.Core.Bool.{Bool, true, false, cond, not, ◌&&◌}
 use mathlib.Core.Path.{◌≡◌, refl, sym, ◌∙◌, ap, subst}
@@ -9,9 +10,11 @@ use native.Mathlib.Nat.{not-suc-le-zero, le_of_suc-le-suc}
 use lib.ListN.{length, set, get_or, drop, replicate}
 use lib.Dec.{leb, ltb, eqb}
 use borrow.Author.Tests.{ltb-true, ltb-false, le-leb, lt-leb}
+use Rattle.std.specs.Prelude.{Ok}
 use Rattle.refusals.specs.Domain.{index_ok, room_ok}
 use Rattle.refusals.specs.Serial.{serial_left}
 use Rattle.refusals.specs.Order.{check, first_failed}
+use Rattle.refusals.specs.declared.Refusal.TheVariants as refusal
 use Rattle.lane.specs.declared.Lane.{Lane}
 use Rattle.lane.specs.declared.BeginArgs.{BeginArgs}
 use Rattle.lane.specs.declared.Answer.{Answer}
@@ -37,8 +40,8 @@ full_or_free n = go (ltb n places) refl
 
 -- of eight checks, 12 is the seventh: without it the answer is the same but where all before it pass
 seventh : (l : Lane) (b : BeginArgs) (settings lane phase serial index floats free room : Bool)
-    → begun_by (check 3 settings (check 4 lane (check 5 phase (check 13 serial (check 6 index (check 7 floats (check 12 free (check 8 room 0)))))))) l b
-    ≡ cond (not free && late_of (begun_by (first_failed settings lane phase serial index floats room) l b).reply) (refuse 12 l) (begun_by (first_failed settings lane phase serial index floats room) l b)
+    → begun_by (check refusal.Settings settings (check refusal.Lane lane (check refusal.Phase phase (check refusal.Serial serial (check refusal.Index index (check refusal.Float floats (check refusal.Places free (check refusal.Room room (Ok tt))))))))) l b
+    ≡ cond (not free && late_of (begun_by (first_failed settings lane phase serial index floats room) l b).reply) (refuse refusal.Places l) (begun_by (first_failed settings lane phase serial index floats room) l b)
 unfolding first_failed
 seventh l b false lane phase serial index floats false room = refl
 seventh l b true false phase serial index floats false room = refl
@@ -54,7 +57,7 @@ begin_settled : (n : ℕ) (l : Lane) (b : BeginArgs) (ook fsk : List ℕ) → be
 unfolding begun_among begin_refusal_among begun begin_refusal settled_of
 begin_settled n l b ook fsk =
     seventh l b (not (eqb l.opened 0)) (lane_ok l) (eqb l.phase 0) (serial_left l.serial) (index_ok b.index) (begin_floats_ok b) (ltb n places) (room_ok l.settings (length ook) (length fsk))
-    ∙ ap (λ (full : Bool). cond (full && late_of (begun l b ook fsk).reply) (refuse 12 l) (begun l b ook fsk)) (sym (full_or_free n))
+    ∙ ap (λ (full : Bool). cond (full && late_of (begun l b ook fsk).reply) (refuse refusal.Places l) (begun l b ook fsk)) (sym (full_or_free n))
 
 -- so the order of checks is kept by what the code does: the lane's own answer first, and then 12 in place of what it comes before
 pub settled : (n : ℕ) (p : State) (k : Command) → called_among n p k ≡ (settled_of n k p.0 (called p k).0, (called p k).1, (called p k).2)
@@ -77,7 +80,7 @@ settled_sound : (n : ℕ) (k : Command) (l : Lane) (a : Answer) → Sound l → 
 unfolding settled_of
 settled_sound n k l a h g = go (is_begin_of k && (leb places n && late_of a.reply))
   where
-    go : (b : Bool) → Sound (cond b (refuse 12 l) a).lane
+    go : (b : Bool) → Sound (cond b (refuse refusal.Places l) a).lane
     go true = h
     go false = g
 
@@ -156,3 +159,8 @@ pub outs_new : (n : ℕ) (l : Lane) → l ≡ new_lane → outs (replicate n l) 
 unfolding outs
 outs_new zero l e = refl
 outs_new (suc n) l e = omega (arith, ap out_of e, out_new, outs_new n l e)
+
+-- a test as a number
+pub counted : (b : Bool) → bool_byte b ≡ cond {A = ℕ} b 1 0
+counted true = refl
+counted false = refl

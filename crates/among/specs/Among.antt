@@ -1,14 +1,16 @@
 -- Document 02, R-4: "One receiver now serves sixteen lanes, and from sixteen idle ones at most four are ever out of idle together." A lane
 -- among others answers as it does alone, but for refusal 12 of begin.
-use Rattle.std.specs.Prelude.{ℕ, ◌+◌, ◌-◌, cond, not, ◌≡◌, List, [], ◌∷◌, length, set, get_or, eqb, ltb}
+use Rattle.std.specs.Prelude.{ℕ, ◌+◌, ◌-◌, cond, not, ◌≡◌, List, [], ◌∷◌, length, set, get_or, eqb, ltb, ⊤, Result, Ok, Err}
+use Rattle.shared.specs.declared.Next.TheVariants.{Stay}
 use Rattle.refusals.specs.Domain.{index_ok, room_ok}
 use Rattle.refusals.specs.Serial.{serial_left}
 use Rattle.refusals.specs.Order.{check}
+use Rattle.refusals.specs.declared.Refusal.{Refusal}
+use Rattle.refusals.specs.declared.Refusal.TheVariants as refusal
 use Rattle.lane.specs.declared.Lane.{Lane}
 use Rattle.lane.specs.declared.Answer.{Answer}
 use Rattle.lane.specs.declared.BeginArgs.{BeginArgs}
-use Rattle.lane.specs.declared.Reply.{Reply}
-use Rattle.lane.specs.declared.Reply.TheVariants.{Refused, Stay}
+use Rattle.lane.specs.Answers.{Reply}
 use Rattle.lane.specs.Refusals.{lane_ok, begin_floats_ok}
 use Rattle.lane.specs.Step.{new_lane, begun_by}
 use Rattle.commands.specs.declared.Command.{Command}
@@ -25,16 +27,16 @@ places = 4
 -- ---- one lane, n others being out of idle
 
 -- "12: begin finds at least four other lanes out of idle; it comes after 7, before 8, and is given in no other case."
-unfoldable pub begin_refusal_among : ℕ → Lane → BeginArgs → ℕ → ℕ → ℕ
+unfoldable pub begin_refusal_among : ℕ → Lane → BeginArgs → ℕ → ℕ → Result ⊤ Refusal
 begin_refusal_among n l b ook fsk =
-    check 3 (not (eqb l.opened 0))
-    (check 4 (lane_ok l)
-    (check 5 (eqb l.phase 0)
-    (check 13 (serial_left l.serial)
-    (check 6 (index_ok b.index)
-    (check 7 (begin_floats_ok b)
-    (check 12 (ltb n places)
-    (check 8 (room_ok l.settings ook fsk) 0)))))))
+    check refusal.Settings (not (eqb l.opened 0))
+    (check refusal.Lane (lane_ok l)
+    (check refusal.Phase (eqb l.phase 0)
+    (check refusal.Serial (serial_left l.serial)
+    (check refusal.Index (index_ok b.index)
+    (check refusal.Float (begin_floats_ok b)
+    (check refusal.Places (ltb n places)
+    (check refusal.Room (room_ok l.settings ook fsk) (Ok tt))))))))
 
 unfoldable pub begun_among : ℕ → Lane → BeginArgs → List ℕ → List ℕ → Answer
 begun_among n l b ook fsk = begun_by (begin_refusal_among n l b (length ook) (length fsk)) l b
@@ -82,13 +84,13 @@ others_out ls i = outs ls - out_of (get_or ls i new_lane)
 
 -- "An antenna number above 15 is refusal 6, met right after 2."
 abbrev pub no_antenna : Command → Reply
-no_antenna End = Stay
-no_antenna (Open s carries) = Refused 6
-no_antenna (Begin b) = Refused 6
-no_antenna (Step s) = Refused 6
-no_antenna Unknown = Refused 1
-no_antenna Short = Refused 2
-no_antenna Close = Refused 6
+no_antenna End = Ok Stay
+no_antenna (Open s carries) = Err refusal.Index
+no_antenna (Begin b) = Err refusal.Index
+no_antenna (Step s) = Err refusal.Index
+no_antenna Unknown = Err refusal.Unknown
+no_antenna Short = Err refusal.Short
+no_antenna Close = Err refusal.Index
 
 -- the answer to a command of antenna i, with its buffers as the call leaves them
 unfoldable pub answer_to : Lanes → ℕ → Command → Called

@@ -2,13 +2,15 @@
 // four others out of idle.
 #![tactic(auto)]
 
-ghost use Rattle.std.specs.Prelude.{◌≡◌, List, ℕ};
+ghost use Rattle.std.specs.Prelude.{◌≡◌, List, ℕ, cond};
 ghost use Rattle.calls.specs.Turn.{Called};
 ghost use Rattle.among.specs.Among.{called_among, out_of, outs, no_antenna};
 ghost use Rattle.among.specs.Settled.{is_begin_of, late_of, settled_of};
 
 use commands::Command;
 use lane::{Answer, Lane, Reply};
+use refusals::Refusal;
+use shared::Next;
 
 // How many lanes may be out of idle together.
 pub const PLACES: u32 = 4;
@@ -18,26 +20,17 @@ pub const PLACES: u32 = 4;
 fn is_begin(k: Command) -> bool
     ensures { result ≡ is_begin_of k }
 {
-    match k {
-        Command::End => false,
-        Command::Open(_, _) => false,
-        Command::Begin(_) => true,
-        Command::Step(_) => false,
-        Command::Unknown => false,
-        Command::Short => false,
-        Command::Close => false,
-    }
+    matches!(k, Command::Begin(_))
 }
 
-// Whether refusal 12 comes before this reply to a begin: the checks up to 7 come before it.
+// Whether refusal 12 comes before this reply to a begin: the checks up to 7 come before it. A match, as `is_none_or` over
+// `r.err()` would hide that an accepted begin is late too.
 fn is_late(r: Reply) -> bool
     ensures { result ≡ late_of r }
 {
     match r {
-        Reply::Refused(k) => k == 8,
-        Reply::Stay => true,
-        Reply::Idle => true,
-        Reply::IdleAt(_) => true,
+        Err(k) => k == Refusal::Room,
+        Ok(_) => true,
     }
 }
 
@@ -51,7 +44,7 @@ pub fn settle(l: Lane, a: Answer, k: Command, others: u32) -> Answer
     let refused = begins & ((PLACES <= others) & late);
     if refused {
         return Answer {
-            reply: Reply::Refused(12),
+            reply: Err(Refusal::Places),
             lane: l,
         };
     }
@@ -69,41 +62,36 @@ pub fn call(l: Lane, others: u32, k: Command, ook: &mut [u32], fsk: &mut [u32]) 
 
 // ---- sixteen
 
-// 1 for a lane out of idle, 0 for an idle one.
-pub fn out_of(l: Lane) -> u32
-    ensures { result ≡ out_of l }
+// Whether a lane is out of idle.
+pub fn is_out(l: &Lane) -> bool
+    ensures { cond result 1 0 ≡ out_of l.now }
 {
-    if l.phase == 0 {
-        return 0;
-    }
-    1
+    l.phase != 0
 }
 
 // How many of the lanes are out of idle.
-pub fn count_out(lanes: [Lane; 16]) -> u32
-    ensures { result ≡ outs lanes }
+pub fn count_out(lanes: &[Lane; 16]) -> u32
+    ensures { result ≡ outs lanes.now }
 {
     let mut n = 0;
-    let mut i = 0;
-    while i < 16 {
-        let l = lanes[i];
-        n += out_of(l);
-        i += 1;
+    for l in lanes {
+        n += u32::from(is_out(l));
     }
     n
 }
 
-// The reply to a command whose antenna is above 15: refusal 6, right after 1 and 2.
+// The reply to a command whose antenna is above 15: refusal 6, right after 1 and 2. Each command has its own line, as in its
+// definition, so that none falls under another's reply.
 pub fn no_antenna(k: Command) -> Reply
     ensures { result ≡ no_antenna k }
 {
     match k {
-        Command::End => Reply::Stay,
-        Command::Open(_, _) => Reply::Refused(6),
-        Command::Begin(_) => Reply::Refused(6),
-        Command::Step(_) => Reply::Refused(6),
-        Command::Unknown => Reply::Refused(1),
-        Command::Short => Reply::Refused(2),
-        Command::Close => Reply::Refused(6),
+        Command::End => Ok(Next::Stay),
+        Command::Open(_, _) => Err(Refusal::Index),
+        Command::Begin(_) => Err(Refusal::Index),
+        Command::Step(_) => Err(Refusal::Index),
+        Command::Unknown => Err(Refusal::Unknown),
+        Command::Short => Err(Refusal::Short),
+        Command::Close => Err(Refusal::Index),
     }
 }

@@ -6,7 +6,8 @@ use mathlib.Core.Path.{◌≡◌, refl, sym, ◌∙◌, ap, subst}
 use mathlib.Core.List.{List, [], ◌∷◌}
 use lib.Dec.{eqb, ltb, leb}
 use borrow.Author.Tests.{eqb-true, eqb-false}
-use Rattle.lane.specs.declared.Reply.TheVariants.{Refused}
+use Rattle.std.specs.Prelude.{Err}
+use Rattle.refusals.specs.declared.Refusal.TheVariants as refusal
 use Rattle.commands.specs.declared.Command.{Command}
 use Rattle.calls.specs.Turn.{State, Called, called, next, unchanged}
 use Rattle.among.specs.Among.{antennas, places, called_among, Lanes, lane_at, others_out, no_antenna, answer_to, after_call, Sized}
@@ -28,7 +29,7 @@ module _ (p : Lanes) (i : ℕ) (k : Command) (h : i < antennas) where
   pub own_alone : met12 (answer_to p i k).0.reply ≡ false → answer_to p i k ≡ called (lane_at p i) k
   own_alone e = answer_own p i k h ∙ among_alone (others_out p.0 i) (lane_at p i) k (sym met_own ∙ e)
 
-  pub own_twelve : met12 (answer_to p i k).0.reply ≡ true → answer_to p i k ≡ unchanged (Refused 12) (lane_at p i)
+  pub own_twelve : met12 (answer_to p i k).0.reply ≡ true → answer_to p i k ≡ unchanged (Err refusal.Places) (lane_at p i)
   own_twelve e = answer_own p i k h ∙ among_twelve (others_out p.0 i) (lane_at p i) k (sym met_own ∙ e)
 
 -- ---- a list of calls

@@ -1,104 +1,91 @@
--- What a lane alone answers: it refuses a call where the first check that fails has a number, and no check has the number 12.
+-- What a lane alone answers: it refuses a call where a check fails, and no check has the number 12.
 use Prim.Native.Nat.{ℕ}
-use mathlib.Core.Bool.{Bool, true, false, cond, not, ◌&&◌}
+use mathlib.Core.Bool.{Bool, true, false, not, ◌&&◌}
 use mathlib.Core.Path.{◌≡◌, refl}
 use mathlib.Core.List.{List}
 use native.Mathlib.Omega.{arith}
 use lib.ListN.{length}
 use lib.Dec.{eqb}
-use Rattle.shared.specs.declared.Next.{Next}
-use Rattle.shared.specs.declared.Next.TheVariants as next
+use Rattle.std.specs.Prelude.{⊤, Result, Ok, Err, is_ok, is_err}
+use Rattle.refusals.specs.declared.Refusal.{Refusal}
+use Rattle.refusals.specs.declared.Refusal.TheVariants as refusal
 use Rattle.shared.specs.declared.Settings.{Settings}
 use Rattle.refusals.specs.Domain.{settings_ok, index_ok, room_ok}
 use Rattle.refusals.specs.Serial.{serial_left}
-use Rattle.refusals.specs.Order.{check, first_failed}
+use Rattle.refusals.specs.Order.{number_of, check, first_failed}
 use Rattle.lane.specs.declared.Lane.{Lane}
 use Rattle.lane.specs.declared.Answer.{Answer}
 use Rattle.lane.specs.declared.BeginArgs.{BeginArgs}
 use Rattle.lane.specs.declared.StepArgs.{StepArgs}
-use Rattle.lane.specs.declared.Reply.{Reply}
-use Rattle.lane.specs.declared.Reply.TheVariants.{Refused, Stay, Idle, IdleAt}
-use Rattle.lane.specs.Answers.{refusal_number_of, reply_of}
+use Rattle.lane.specs.Answers.{Reply, refusal_number_of}
 use Rattle.lane.specs.Refusals.{lane_ok, begin_floats_ok, step_floats_ok, follows_of, open_refusal, begin_refusal, step_refusal, close_refusal}
 use Rattle.lane.specs.Idle.{idle_lane}
 use Rattle.lane.specs.Begin.{lead_lane}
 use Rattle.lane.specs.Advance.{settle_of, fill_of, advance_of}
 use Rattle.lane.specs.Close.{idle_with, close_of}
 use Rattle.lane.specs.Serial.{stamped, stamped_with}
-use Rattle.lane.specs.Step.{refuse, stay, opened, begun, stepped, closed}
+use Rattle.lane.specs.Step.{refuse, unless_refused, stay, opened, begun, stepped, closed}
 use Rattle.reached.proofs.Accepted.{step_ways, close_ways}
 use Rattle.commands.specs.declared.Command.{Command}
 use Rattle.commands.specs.declared.Command.TheVariants.{End, Open, Begin, Step, Unknown, Short, Close}
-use Rattle.calls.specs.Turn.{State, called, refused_of}
+use Rattle.calls.specs.Turn.{State, called}
 
 -- ---- accepted calls are answered
 
-next_answers : (n : Next) → refused_of (reply_of n) ≡ false
-unfolding reply_of
-next_answers next.Stay = refl
-next_answers next.Idle = refl
-next_answers (next.IdleAt e) = refl
-
-pub advance_answers : (l : Lane) (s : StepArgs) (ook fsk : List ℕ) → refused_of (advance_of l s ook fsk).0.reply ≡ false
+pub advance_answers : (l : Lane) (s : StepArgs) (ook fsk : List ℕ) → is_err (advance_of l s ook fsk).0.reply ≡ false
 unfolding fill_of settle_of
-advance_answers l s ook fsk = step_ways (λ (r : Answer × List ℕ × List ℕ). refused_of r.0.reply ≡ false) l s ook fsk (λ ld ring. refl) (λ ld ring r. next_answers r.0.next)
+advance_answers l s ook fsk = step_ways (λ (r : Answer × List ℕ × List ℕ). is_err r.0.reply ≡ false) l s ook fsk (λ ld ring. refl) (λ ld ring r. refl)
 
-pub close_answers : (l : Lane) (ook fsk : List ℕ) → refused_of (close_of l ook fsk).0.reply ≡ false
+pub close_answers : (l : Lane) (ook fsk : List ℕ) → is_err (close_of l ook fsk).0.reply ≡ false
 unfolding idle_with
-close_answers l ook fsk = close_ways (λ (r : Answer × List ℕ × List ℕ). refused_of r.0.reply ≡ false) l ook fsk (λ b o. refl)
+close_answers l ook fsk = close_ways (λ (r : Answer × List ℕ × List ℕ). is_err r.0.reply ≡ false) l ook fsk (λ b o. refl)
 
 -- ---- a call is refused exactly where a check fails
 
-pub open_refuses : (l : Lane) (p : Settings) → refused_of (opened l p).reply ≡ not (eqb (open_refusal l p) 0)
+pub open_refuses : (l : Lane) (p : Settings) → is_err (opened l p).reply ≡ not (is_ok (open_refusal l p))
 unfolding opened
-open_refuses l p = go (eqb (open_refusal l p) 0)
+open_refuses l p = go (open_refusal l p)
   where
-    go : (b : Bool) → refused_of (cond b (stamped l (stay (idle_lane 1 p))) (refuse (open_refusal l p) l)).reply ≡ not b
-    go true = refl
-    go false = refl
+    go : (k : Result ⊤ Refusal) → is_err (unless_refused k (stamped l (stay (idle_lane 1 p))) (λ r. refuse r l)).reply ≡ not (is_ok k)
+    go (Ok u) = refl
+    go (Err r) = refl
 
-pub begin_refuses : (l : Lane) (b : BeginArgs) (ook fsk : List ℕ) → refused_of (begun l b ook fsk).reply ≡ not (eqb (begin_refusal l b (length ook) (length fsk)) 0)
+pub begin_refuses : (l : Lane) (b : BeginArgs) (ook fsk : List ℕ) → is_err (begun l b ook fsk).reply ≡ not (is_ok (begin_refusal l b (length ook) (length fsk)))
 unfolding begun
-begin_refuses l b ook fsk = go (eqb n 0)
+begin_refuses l b ook fsk = go (begin_refusal l b (length ook) (length fsk))
   where
-    n : ℕ
-    n = begin_refusal l b (length ook) (length fsk)
+    go : (k : Result ⊤ Refusal) → is_err (unless_refused k (stamped l (stay (lead_lane l b))) (λ r. refuse r l)).reply ≡ not (is_ok k)
+    go (Ok u) = refl
+    go (Err r) = refl
 
-    go : (c : Bool) → refused_of (cond c (stamped l (stay (lead_lane l b))) (refuse n l)).reply ≡ not c
-    go true = refl
-    go false = refl
-
-pub step_refuses : (l : Lane) (s : StepArgs) (ook fsk : List ℕ) → refused_of (stepped l s ook fsk).0.reply ≡ not (eqb (step_refusal l s (length ook) (length fsk)) 0)
+pub step_refuses : (l : Lane) (s : StepArgs) (ook fsk : List ℕ) → is_err (stepped l s ook fsk).0.reply ≡ not (is_ok (step_refusal l s (length ook) (length fsk)))
 unfolding stepped
-step_refuses l s ook fsk = go (eqb n 0)
+step_refuses l s ook fsk = go (step_refusal l s (length ook) (length fsk))
   where
-    n : ℕ
-    n = step_refusal l s (length ook) (length fsk)
+    go : (k : Result ⊤ Refusal) → is_err (unless_refused k (stamped_with l (advance_of l s ook fsk)) (λ r. (refuse r l, ook, fsk))).0.reply ≡ not (is_ok k)
+    go (Ok u) = advance_answers l s ook fsk
+    go (Err r) = refl
 
-    go : (c : Bool) → refused_of (cond c (stamped_with l (advance_of l s ook fsk)) (refuse n l, ook, fsk)).0.reply ≡ not c
-    go true = advance_answers l s ook fsk
-    go false = refl
-
-pub close_refuses : (l : Lane) (ook fsk : List ℕ) → refused_of (closed l ook fsk).0.reply ≡ not (eqb (close_refusal l (length ook) (length fsk)) 0)
+pub close_refuses : (l : Lane) (ook fsk : List ℕ) → is_err (closed l ook fsk).0.reply ≡ not (is_ok (close_refusal l (length ook) (length fsk)))
 unfolding closed
-close_refuses l ook fsk = go (eqb n 0)
+close_refuses l ook fsk = go (close_refusal l (length ook) (length fsk))
   where
-    n : ℕ
-    n = close_refusal l (length ook) (length fsk)
-
-    go : (c : Bool) → refused_of (cond c (stamped_with l (close_of l ook fsk)) (refuse n l, ook, fsk)).0.reply ≡ not c
-    go true = close_answers l ook fsk
-    go false = refl
+    go : (k : Result ⊤ Refusal) → is_err (unless_refused k (stamped_with l (close_of l ook fsk)) (λ r. (refuse r l, ook, fsk))).0.reply ≡ not (is_ok k)
+    go (Ok u) = close_answers l ook fsk
+    go (Err r) = refl
 
 -- ---- never by 12
 
-not_refused : (r : Reply) → refused_of r ≡ false → refusal_number_of r ≡ 12 → ⊥
-not_refused (Refused k) h e = let z : ◌≡◌ {A = Bool} true false = h in let y : ◌≡◌ {A = ℕ} 0 1 = cc in omega arith
-not_refused Stay h e = omega arith
-not_refused Idle h e = omega arith
-not_refused (IdleAt x) h e = omega arith
+not_refused : (r : Reply) → is_err r ≡ false → refusal_number_of r ≡ 12 → ⊥
+not_refused (Err k) h e = let z : ◌≡◌ {A = Bool} true false = h in let y : ◌≡◌ {A = ℕ} 0 1 = cc in omega arith
+not_refused (Ok n) h e = omega arith
 
-not_twelve : (s l p n i f r : Bool) → first_failed s l p n i f r ≡ 12 → ⊥
+-- the number of the first check that fails, 0 where none does
+abbrev failed_number : Result ⊤ Refusal → ℕ
+failed_number (Ok u) = 0
+failed_number (Err k) = number_of k
+
+not_twelve : (s l p n i f r : Bool) → failed_number (first_failed s l p n i f r) ≡ 12 → ⊥
 unfolding first_failed
 not_twelve false l p n i f r e = omega arith
 not_twelve true false p n i f r e = omega arith
@@ -109,39 +96,33 @@ not_twelve true true true true true false r e = omega arith
 not_twelve true true true true true true false e = omega arith
 not_twelve true true true true true true true e = omega arith
 
-opening_not_twelve : (l : Lane) (p : Settings) → open_refusal l p ≡ 12 → ⊥
+opening_not_twelve : (l : Lane) (p : Settings) → failed_number (open_refusal l p) ≡ 12 → ⊥
 unfolding open_refusal
 opening_not_twelve l p = go (settings_ok p) (serial_left l.serial)
   where
-    go : (s n : Bool) → check 3 s (check 13 n 0) ≡ 12 → ⊥
+    go : (s n : Bool) → failed_number (check refusal.Settings s (check refusal.Serial n (Ok tt))) ≡ 12 → ⊥
     go false n e = omega arith
     go true false e = omega arith
     go true true e = omega arith
 
--- an answer by n, where n is not 0, or another that is no refusal
-by_check : (n : ℕ) (l : Lane) (a : Answer) → refused_of a.reply ≡ false → (n ≡ 12 → ⊥) → refusal_number_of (cond (eqb n 0) a (refuse n l)).reply ≡ 12 → ⊥
-by_check n l a h k = go (eqb n 0)
-  where
-    go : (b : Bool) → refusal_number_of (cond b a (refuse n l)).reply ≡ 12 → ⊥
-    go true e = not_refused a.reply h e
-    go false e = k e
+-- a refusal by the first check that fails, or another answer that is no refusal
+by_check : (k : Result ⊤ Refusal) (l : Lane) (a : Answer) → is_err a.reply ≡ false → (failed_number k ≡ 12 → ⊥) → refusal_number_of (unless_refused k a (λ r. refuse r l)).reply ≡ 12 → ⊥
+by_check (Ok u) l a h k e = not_refused a.reply h e
+by_check (Err r) l a h k e = k e
 
-by_check_with : (n : ℕ) (l : Lane) (a : Answer × List ℕ × List ℕ) (ook fsk : List ℕ) → refused_of a.0.reply ≡ false → (n ≡ 12 → ⊥) → refusal_number_of (cond (eqb n 0) a (refuse n l, ook, fsk)).0.reply ≡ 12 → ⊥
-by_check_with n l a ook fsk h k = go (eqb n 0)
-  where
-    go : (b : Bool) → refusal_number_of (cond b a (refuse n l, ook, fsk)).0.reply ≡ 12 → ⊥
-    go true e = not_refused a.0.reply h e
-    go false e = k e
+by_check_with : (k : Result ⊤ Refusal) (l : Lane) (a : Answer × List ℕ × List ℕ) (ook fsk : List ℕ) → is_err a.0.reply ≡ false → (failed_number k ≡ 12 → ⊥) → refusal_number_of (unless_refused k a (λ r. (refuse r l, ook, fsk))).0.reply ≡ 12 → ⊥
+by_check_with (Ok u) l a ook fsk h k e = not_refused a.0.reply h e
+by_check_with (Err r) l a ook fsk h k e = k e
 
-begin_not_twelve : (l : Lane) (b : BeginArgs) (m n : ℕ) → begin_refusal l b m n ≡ 12 → ⊥
+begin_not_twelve : (l : Lane) (b : BeginArgs) (m n : ℕ) → failed_number (begin_refusal l b m n) ≡ 12 → ⊥
 unfolding begin_refusal
 begin_not_twelve l b m n = not_twelve (not (eqb l.opened 0)) (lane_ok l) (eqb l.phase 0) (serial_left l.serial) (index_ok b.index) (begin_floats_ok b) (room_ok l.settings m n)
 
-step_not_twelve : (l : Lane) (s : StepArgs) (m n : ℕ) → step_refusal l s m n ≡ 12 → ⊥
+step_not_twelve : (l : Lane) (s : StepArgs) (m n : ℕ) → failed_number (step_refusal l s m n) ≡ 12 → ⊥
 unfolding step_refusal
 step_not_twelve l s m n = not_twelve true (lane_ok l) (not (eqb l.phase 0)) true (index_ok s.index && follows_of l.last s.index) (step_floats_ok s) (room_ok l.settings m n)
 
-close_not_twelve : (l : Lane) (m n : ℕ) → close_refusal l m n ≡ 12 → ⊥
+close_not_twelve : (l : Lane) (m n : ℕ) → failed_number (close_refusal l m n) ≡ 12 → ⊥
 unfolding close_refusal
 close_not_twelve l m n = not_twelve true (lane_ok l) (not (eqb l.phase 0)) true true true (room_ok l.settings m n)
 

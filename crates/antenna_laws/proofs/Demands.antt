@@ -7,8 +7,12 @@ use mathlib.Core.Path.{◌≡◌, refl, sym, ◌∙◌, ap, subst}
 use mathlib.Core.List.{List, [], ◌∷◌, ◌++◌}
 use lib.ListN.{length, get_or-replicate}
 use lib.Dec.{eqb}
-use borrow.Author.Tests.{eqb-true, eqb-false, ne_eqb}
+use borrow.Author.Tests.{eqb-true, eqb-false}
+use Rattle.std.specs.Prelude.{⊤, Result, Ok, Err, is_ok, is_err}
 use Rattle.shared.specs.declared.Settings.{Settings}
+use Rattle.refusals.specs.declared.Refusal.{Refusal}
+use Rattle.refusals.proofs.Order.{not_passed}
+use Rattle.lane.proofs.Refusals.{by_refusal}
 use Rattle.lane.specs.declared.Lane.{Lane}
 use Rattle.lane.specs.declared.Answer.{Answer}
 use Rattle.lane.specs.declared.BeginArgs.{BeginArgs}
@@ -19,7 +23,7 @@ use Rattle.lane.specs.Serial.{stamp_of}
 use Rattle.lane.specs.Step.{new_lane, opened, begun, stepped, closed}
 use Rattle.commands.specs.declared.Command.{Command}
 use Rattle.commands.specs.declared.Command.TheVariants.{End, Open, Begin, Step, Unknown, Short, Close}
-use Rattle.calls.specs.Turn.{State, Called, called, next, refused_of}
+use Rattle.calls.specs.Turn.{State, Called, called, next}
 use Rattle.pulses.specs.Yardstick.{as_left, lent, Call, opening, begin, step, close, Given, fetched, Yardstick, unused, refusal, accepts, advanced, lent_well, handed_on}
 use Rattle.pulses.specs.Demand.{the_lane, Place, returned_by, start, after, Demand3}
 use Rattle.pulses.specs.Demand as demand
@@ -39,13 +43,17 @@ use Rattle.antenna_laws.proofs.Alone.{paired, heard_leads}
 
 -- ---- a refused step or close leaves the buffers too
 
-step_kept : (l : Lane) (s : StepArgs) (ook fsk : List ℕ) → eqb (step_refusal l s (length ook) (length fsk)) 0 ≡ false → next (stepped l s ook fsk) ≡ (l, ook, fsk)
+step_kept : (l : Lane) (s : StepArgs) (ook fsk : List ℕ) → is_ok (step_refusal l s (length ook) (length fsk)) ≡ false → next (stepped l s ook fsk) ≡ (l, ook, fsk)
 unfolding stepped
-step_kept l s ook fsk q = rw q refl
+step_kept l s ook fsk q = by_refusal (λ (a : Called). next a ≡ (l, ook, fsk)) (step_refusal l s (length ook) (length fsk)) (λ e. absurd (not_passed _ q e)) (λ n e. refl)
 
-close_kept : (l : Lane) (ook fsk : List ℕ) → eqb (close_refusal l (length ook) (length fsk)) 0 ≡ false → next (closed l ook fsk) ≡ (l, ook, fsk)
+close_kept : (l : Lane) (ook fsk : List ℕ) → is_ok (close_refusal l (length ook) (length fsk)) ≡ false → next (closed l ook fsk) ≡ (l, ook, fsk)
 unfolding closed
-close_kept l ook fsk q = rw q refl
+close_kept l ook fsk q = by_refusal (λ (a : Called). next a ≡ (l, ook, fsk)) (close_refusal l (length ook) (length fsk)) (λ e. absurd (not_passed _ q e)) (λ n e. refl)
+
+not_ok : (k : Result ⊤ Refusal) → (k ≡ Ok tt → ⊥) → is_ok k ≡ false
+not_ok (Ok u) h = absurd (h refl)
+not_ok (Err n) h = refl
 
 -- ---- the list is handed on
 
@@ -111,9 +119,9 @@ module _ (k : Place the_lane) (p : State) (ts : List Given) (F : Follows k p ts)
   shows m n = cond n ts (trains_by ts m (called p m))
 
   Advances : Command → Call → Type 0
-  Advances m c = Follows (after the_lane (accepts k.yard c) k c) (next (called p m)) (shows m (refused_of (called p m).0.reply))
+  Advances m c = Follows (after the_lane (accepts k.yard c) k c) (next (called p m)) (shows m (is_err (called p m).0.reply))
 
-  joined : (m : Command) (c : Call) (b : Bool) → accepts k.yard c ≡ b → refused_of (called p m).0.reply ≡ not b
+  joined : (m : Command) (c : Call) (b : Bool) → accepts k.yard c ≡ b → is_err (called p m).0.reply ≡ not b
       → Follows (after the_lane b k c) (next (called p m)) (shows m (not b)) → Advances m c
   unfolding Advances
   joined m c b a r f =
@@ -126,34 +134,34 @@ module _ (k : Place the_lane) (p : State) (ts : List Given) (F : Follows k p ts)
 
   open_advances : (s : Settings) (carries : Bool) → Advances (Open s carries) (opening s)
   unfolding after refusal called lent_well stamp_of idle_lane
-  open_advances s carries = go (eqb (open_refusal p.0 s) 0) refl
+  open_advances s carries = go (is_ok (open_refusal p.0 s)) refl
     where
-      yard : (b : Bool) → eqb (open_refusal p.0 s) 0 ≡ b → accepts k.yard (opening s) ≡ b
-      yard b q = ap (λ (l : Lane). eqb (open_refusal l s) 0) yard_lane ∙ q
+      yard : (b : Bool) → is_ok (open_refusal p.0 s) ≡ b → accepts k.yard (opening s) ≡ b
+      yard b q = ap (λ (l : Lane). is_ok (open_refusal l s)) yard_lane ∙ q
 
-      rests : eqb (open_refusal p.0 s) 0 ≡ true → (opened p.0 s).lane.phase ≡ 0
+      rests : is_ok (open_refusal p.0 s) ≡ true → (opened p.0 s).lane.phase ≡ 0
       rests q = ap (λ (a : Answer). a.lane.phase) (open_accepted p.0 s q)
 
-      go : (b : Bool) → eqb (open_refusal p.0 s) 0 ≡ b → Advances (Open s carries) (opening s)
+      go : (b : Bool) → is_ok (open_refusal p.0 s) ≡ b → Advances (Open s carries) (opening s)
       go true q =
           joined (Open s carries) (opening s) true (yard true q) (open_refuses p.0 s ∙ ap not q)
           (record { same = after_same k F.same (opening s) true (yard true q) refl; lane = ap (λ (l : Lane). (opened l s).lane) F.lane; ook = λ n. absurd (n (rests q)); trains = refl })
       go false q =
           joined (Open s carries) (opening s) false (yard false q) (open_refuses p.0 s ∙ ap not q)
           (refused (after the_lane false k (opening s)) (next (called p (Open s carries))) (after_same k F.same (opening s) false (yard false q) refl)
-          (open_refused k.lane s (ap (λ (l : Lane). eqb (open_refusal l s) 0) F.lane ∙ q)) refl refl (ap (λ (l : Lane). (l, p.1, p.2)) (open_refused p.0 s q)))
+          (open_refused k.lane s (ap (λ (l : Lane). is_ok (open_refusal l s)) F.lane ∙ q)) refl refl (ap (λ (l : Lane). (l, p.1, p.2)) (open_refused p.0 s q)))
 
   begin_advances : (b : BeginArgs) → Advances (Begin b) (begin b p.1 p.2)
   unfolding after refusal called lent_well returned_by
-  begin_advances b = go (eqb (begin_refusal p.0 b (length p.1) (length p.2)) 0) refl
+  begin_advances b = go (is_ok (begin_refusal p.0 b (length p.1) (length p.2))) refl
     where
       c : Call
       c = begin b p.1 p.2
 
-      as_here : (l : Lane) (d : Bool) → l ≡ p.0 → eqb (begin_refusal p.0 b (length p.1) (length p.2)) 0 ≡ d → eqb (begin_refusal l b (length p.1) (length p.2)) 0 ≡ d
-      as_here l d e q = ap (λ (x : Lane). eqb (begin_refusal x b (length p.1) (length p.2)) 0) e ∙ q
+      as_here : (l : Lane) (d : Bool) → l ≡ p.0 → is_ok (begin_refusal p.0 b (length p.1) (length p.2)) ≡ d → is_ok (begin_refusal l b (length p.1) (length p.2)) ≡ d
+      as_here l d e q = ap (λ (x : Lane). is_ok (begin_refusal x b (length p.1) (length p.2))) e ∙ q
 
-      go : (d : Bool) → eqb (begin_refusal p.0 b (length p.1) (length p.2)) 0 ≡ d → Advances (Begin b) c
+      go : (d : Bool) → is_ok (begin_refusal p.0 b (length p.1) (length p.2)) ≡ d → Advances (Begin b) c
       go true q =
           joined (Begin b) c true (as_here k.yard.lane true yard_lane q) (begin_refuses p.0 b p.1 p.2 ∙ ap not q)
           (record {
@@ -171,19 +179,19 @@ module _ (k : Place the_lane) (p : State) (ts : List Given) (F : Follows k p ts)
   abbrev placed : Bool → Call → Called → Place the_lane
   placed a c r = record { lane = r.0.lane; ook = cond a r.1 k.ook; trains = cond a (k.trains ++ fetched r) k.trains; yard = advanced a k.yard c }
 
-  -- a step or a close: `run` is its answer, and `no` its first check that fails, which is 0 only of a lane out of idle
-  module _ (m : Command) (c : Call) (run : Lane → List ℕ → Called) (no : Lane → ℕ → ℕ)
+  -- a step or a close: `run` is its answer, and `no` its first check that fails, which there is none of only of a lane out of idle
+  module _ (m : Command) (c : Call) (run : Lane → List ℕ → Called) (no : Lane → ℕ → Result ⊤ Refusal)
       (is_called : called p m ≡ run p.0 p.1) (is_shown : trains_by ts m (called p m) ≡ ts ++ fetched (called p m))
       (is_after : (a : Bool) → after the_lane a k c ≡ placed a c (run k.lane k.ook)) (is_lent : (a : Bool) → lent_well a c ≡ true)
-      (yards : accepts k.yard c ≡ eqb (no k.yard.lane (length k.yard.ook)) 0)
-      (refuses : (l : Lane) (ook : List ℕ) → refused_of (run l ook).0.reply ≡ not (eqb (no l (length ook)) 0))
-      (keeps : (l : Lane) (ook : List ℕ) → eqb (no l (length ook)) 0 ≡ false → next (run l ook) ≡ (l, ook, p.2))
-      (tells : (l : Lane) (n : ℕ) → no l n ≡ 0 → l.phase ≡ 0 → ⊥) where
-    tested : (b : Bool) → eqb (no p.0 (length p.1)) 0 ≡ b → refused_of (called p m).0.reply ≡ not b
-    tested b q = ap (λ (r : Called). refused_of r.0.reply) is_called ∙ refuses p.0 p.1 ∙ ap not q
+      (yards : accepts k.yard c ≡ is_ok (no k.yard.lane (length k.yard.ook)))
+      (refuses : (l : Lane) (ook : List ℕ) → is_err (run l ook).0.reply ≡ not (is_ok (no l (length ook))))
+      (keeps : (l : Lane) (ook : List ℕ) → is_ok (no l (length ook)) ≡ false → next (run l ook) ≡ (l, ook, p.2))
+      (tells : (l : Lane) (n : ℕ) → no l n ≡ Ok tt → l.phase ≡ 0 → ⊥) where
+    tested : (b : Bool) → is_ok (no p.0 (length p.1)) ≡ b → is_err (called p m).0.reply ≡ not b
+    tested b q = ap (λ (r : Called). is_err r.0.reply) is_called ∙ refuses p.0 p.1 ∙ ap not q
 
     -- refused on the lane and on the place alike
-    lane_refused : eqb (no p.0 (length p.1)) 0 ≡ false → eqb (no k.lane (length k.ook)) 0 ≡ false → accepts k.yard c ≡ false → Advances m c
+    lane_refused : is_ok (no p.0 (length p.1)) ≡ false → is_ok (no k.lane (length k.ook)) ≡ false → accepts k.yard c ≡ false → Advances m c
     lane_refused q u a =
         joined m c false a (tested false q)
         (refused (after the_lane false k c) (next (called p m)) (after_same k F.same c false a (is_lent false))
@@ -194,23 +202,23 @@ module _ (k : Place the_lane) (p : State) (ts : List Given) (F : Follows k p ts)
     idle_advances : p.0.phase ≡ 0 → Advances m c
     idle_advances h = lane_refused (none p.0 p.1 refl) (none k.lane k.ook F.lane) (yards ∙ none k.yard.lane k.yard.ook yard_lane)
       where
-        none : (l : Lane) (ook : List ℕ) → l ≡ p.0 → eqb (no l (length ook)) 0 ≡ false
-        none l ook e = ne_eqb (no l (length ook)) 0 (λ z. tells l (length ook) z (ap (λ (x : Lane). x.phase) e ∙ h))
+        none : (l : Lane) (ook : List ℕ) → l ≡ p.0 → is_ok (no l (length ook)) ≡ false
+        none l ook e = not_ok (no l (length ook)) (λ z. tells l (length ook) z (ap (λ (x : Lane). x.phase) e ∙ h))
 
     -- while it is not, lane and buffer are those of the place
     busy_advances : (p.0.phase ≡ 0 → ⊥) → Advances m c
-    busy_advances n = go (eqb (no p.0 (length p.1)) 0) refl
+    busy_advances n = go (is_ok (no p.0 (length p.1))) refl
       where
-        as_here : (b : Bool) (l : Lane) (ook : List ℕ) → l ≡ p.0 → ook ≡ p.1 → eqb (no p.0 (length p.1)) 0 ≡ b → eqb (no l (length ook)) 0 ≡ b
-        as_here b l ook e f q = ap (λ (x : Lane). eqb (no x (length ook)) 0) e ∙ ap (λ (o : List ℕ). eqb (no p.0 (length o)) 0) f ∙ q
+        as_here : (b : Bool) (l : Lane) (ook : List ℕ) → l ≡ p.0 → ook ≡ p.1 → is_ok (no p.0 (length p.1)) ≡ b → is_ok (no l (length ook)) ≡ b
+        as_here b l ook e f q = ap (λ (x : Lane). is_ok (no x (length ook))) e ∙ ap (λ (o : List ℕ). is_ok (no p.0 (length o))) f ∙ q
 
-        yard : (b : Bool) → eqb (no p.0 (length p.1)) 0 ≡ b → accepts k.yard c ≡ b
+        yard : (b : Bool) → is_ok (no p.0 (length p.1)) ≡ b → accepts k.yard c ≡ b
         yard b q = yards ∙ as_here b k.yard.lane k.yard.ook yard_lane (yard_ook n) q
 
         runs : run k.lane k.ook ≡ called p m
         runs = ap (λ (l : Lane). run l k.ook) F.lane ∙ ap (run p.0) (F.ook n) ∙ sym is_called
 
-        go : (b : Bool) → eqb (no p.0 (length p.1)) 0 ≡ b → Advances m c
+        go : (b : Bool) → is_ok (no p.0 (length p.1)) ≡ b → Advances m c
         go true q =
             joined m c true (yard true q) (tested true q)
             (record {

@@ -1,14 +1,17 @@
 -- At most four lanes are out of idle: a call takes a place only by an accepted begin, and that finds fewer than four others out.
 use Prim.Native.Nat.{ℕ, ◌+◌, ◌<◌, ◌≤◌}
-use mathlib.Core.Bool.{Bool, true, false, cond, true≢false}
+use mathlib.Core.Bool.{Bool, true, false, true≢false}
 use mathlib.Core.Path.{◌≡◌, refl, sym, ◌∙◌, ap, subst}
 use mathlib.Core.Logic.{◌⊎◌, inl, inr}
 use mathlib.Core.List.{List, [], ◌∷◌}
 use native.Mathlib.Omega.{arith}
 use lib.ListN.{length, set}
-use lib.Dec.{leb, eqb}
-use borrow.Author.Tests.{leb-false, eqb-true, eq-eqb, ne_eqb}
+use lib.Dec.{leb}
+use borrow.Author.Tests.{leb-false, eq-eqb, ne_eqb}
+use Rattle.std.specs.Prelude.{⊤, Result, Ok, Err}
 use Rattle.shared.specs.declared.Settings.{Settings}
+use Rattle.refusals.specs.declared.Refusal.{Refusal}
+use Rattle.lane.specs.declared.Answer.{Answer}
 use Rattle.lane.specs.declared.Lane.{Lane}
 use Rattle.lane.specs.declared.BeginArgs.{BeginArgs}
 use Rattle.lane.specs.declared.StepArgs.{StepArgs}
@@ -18,7 +21,7 @@ use Rattle.lane.specs.Begin.{lead_lane}
 use Rattle.lane.specs.Advance.{advance_of}
 use Rattle.lane.specs.Close.{close_of}
 use Rattle.lane.specs.Serial.{stamp_of, stamped, stamped_with}
-use Rattle.lane.specs.Step.{new_lane, refuse, stay, opened, begun, stepped, closed}
+use Rattle.lane.specs.Step.{new_lane, refuse, unless_refused, stay, opened, begun, stepped, closed}
 use Rattle.commands.specs.declared.Command.{Command}
 use Rattle.commands.specs.declared.Command.TheVariants.{End, Open, Begin, Step, Unknown, Short, Close}
 use Rattle.calls.specs.Turn.{State, Called, called}
@@ -42,19 +45,16 @@ out_idle l h = rw (eq-eqb l.phase 0 h) refl
 
 open_takes : (l : Lane) (s : Settings) → out_of (opened l s).lane ≤ out_of l
 unfolding opened stamp_of idle_lane
-open_takes l s = go (eqb (open_refusal l s) 0)
+open_takes l s = go (open_refusal l s)
   where
-    go : (b : Bool) → out_of (cond b (stamped l (stay (idle_lane 1 s))) (refuse (open_refusal l s) l)).lane ≤ out_of l
-    go true = omega (arith, out_idle (stamp_of (l.serial + 1) (idle_lane 1 s)) refl)
-    go false = omega arith
+    go : (k : Result ⊤ Refusal) → out_of (unless_refused k (stamped l (stay (idle_lane 1 s))) (λ r. refuse r l)).lane ≤ out_of l
+    go (Ok u) = omega (arith, out_idle (stamp_of (l.serial + 1) (idle_lane 1 s)) refl)
+    go (Err r) = omega arith
 
 -- a step and a close are accepted only of a lane that is out of idle
-busy_takes : (n : ℕ) (l : Lane) (a : Called) (ook fsk : List ℕ) → (n ≡ 0 → l.phase ≡ 0 → ⊥) → out_of (cond (eqb n 0) a (refuse n l, ook, fsk)).0.lane ≤ out_of l
-busy_takes n l a ook fsk h = go (eqb n 0) refl
-  where
-    go : (b : Bool) → eqb n 0 ≡ b → out_of (cond b a (refuse n l, ook, fsk)).0.lane ≤ out_of l
-    go true q = omega (arith, out_busy l (h (eqb-true n 0 q)), out_one a.0.lane)
-    go false q = omega arith
+busy_takes : (k : Result ⊤ Refusal) (l : Lane) (a : Called) (ook fsk : List ℕ) → (k ≡ Ok tt → l.phase ≡ 0 → ⊥) → out_of (unless_refused k a (λ r. (refuse r l, ook, fsk))).0.lane ≤ out_of l
+busy_takes (Ok u) l a ook fsk h = omega (arith, out_busy l (h refl), out_one a.0.lane)
+busy_takes (Err r) l a ook fsk h = omega arith
 
 step_takes : (l : Lane) (s : StepArgs) (ook fsk : List ℕ) → out_of (stepped l s ook fsk).0.lane ≤ out_of l
 unfolding stepped
@@ -69,14 +69,14 @@ close_takes l ook fsk = busy_takes (close_refusal l (length ook) (length fsk)) l
 -- a begin that comes before 12 is refused
 early_begin : (l : Lane) (b : BeginArgs) (ook fsk : List ℕ) → late_of (begun l b ook fsk).reply ≡ false → (begun l b ook fsk).lane ≡ l
 unfolding begun
-early_begin l b ook fsk = go (eqb n 0)
+early_begin l b ook fsk = go (begin_refusal l b (length ook) (length fsk))
   where
-    n : ℕ
-    n = begin_refusal l b (length ook) (length fsk)
+    answer : Result ⊤ Refusal → Answer
+    answer k = unless_refused k (stamped l (stay (lead_lane l b))) (λ r. refuse r l)
 
-    go : (c : Bool) → late_of (cond c (stamped l (stay (lead_lane l b))) (refuse n l)).reply ≡ false → (cond c (stamped l (stay (lead_lane l b))) (refuse n l)).lane ≡ l
-    go true h = absurd (true≢false h)
-    go false h = refl
+    go : (k : Result ⊤ Refusal) → late_of (answer k).reply ≡ false → (answer k).lane ≡ l
+    go (Ok u) h = absurd (true≢false h)
+    go (Err r) h = refl
 
 begin_takes : (n : ℕ) (p : State) (b : BeginArgs) → (out_of (called_among n p (Begin b)).0.lane ≤ out_of p.0) ⊎ (n < places)
 unfolding called

@@ -9,7 +9,8 @@ use lib.ListN.{length-set}
 use lib.Seq.{get_or-set_same, get_or-set_other, set-get_or}
 use lib.Dec.{leb, ltb}
 use borrow.Author.Tests.{ltb-true, ltb-false, ne_eqb, lt-ltb, le-ltb}
-use Rattle.lane.specs.declared.Reply.TheVariants.{Refused}
+use Rattle.std.specs.Prelude.{Err}
+use Rattle.refusals.specs.declared.Refusal.TheVariants as refusal
 use Rattle.lane.specs.Answers.{refusal_number_of}
 use Rattle.lane.specs.Step.{new_lane, refuse}
 use Rattle.commands.specs.declared.Command.{Command}
@@ -28,11 +29,11 @@ meets n p k = is_begin_of k && (leb places n && late_of (called p k).0.reply)
 
 pub among_alone : (n : ℕ) (p : State) (k : Command) → meets n p k ≡ false → called_among n p k ≡ called p k
 unfolding settled_of
-among_alone n p k h = settled n p k ∙ ap (λ (b : Bool). (cond b (refuse 12 p.0) (called p k).0, (called p k).1, (called p k).2)) h
+among_alone n p k h = settled n p k ∙ ap (λ (b : Bool). (cond b (refuse refusal.Places p.0) (called p k).0, (called p k).1, (called p k).2)) h
 
-pub among_twelve : (n : ℕ) (p : State) (k : Command) → meets n p k ≡ true → called_among n p k ≡ unchanged (Refused 12) p
+pub among_twelve : (n : ℕ) (p : State) (k : Command) → meets n p k ≡ true → called_among n p k ≡ unchanged (Err refusal.Places) p
 unfolding settled_of called
-among_twelve n p (Begin b) h = settled n p (Begin b) ∙ ap (λ (c : Bool). (cond c (refuse 12 p.0) (called p (Begin b)).0, p.1, p.2)) h
+among_twelve n p (Begin b) h = settled n p (Begin b) ∙ ap (λ (c : Bool). (cond c (refuse refusal.Places p.0) (called p (Begin b)).0, p.1, p.2)) h
 among_twelve n p End h = absurd (false≢true h)
 among_twelve n p (Open s carries) h = absurd (false≢true h)
 among_twelve n p (Step s) h = absurd (false≢true h)

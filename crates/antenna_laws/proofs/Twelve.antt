@@ -1,6 +1,6 @@
 -- 12 is given in its one case and in no other: the lane alone never gives it, and among others `meets` says where.
 use Prim.Native.Nat.{ℕ, zero, suc, ◌+◌, ◌<◌}
-use mathlib.Core.Bool.{Bool, true, false, cond, ◌&&◌, false≢true}
+use mathlib.Core.Bool.{true, false, ◌&&◌, false≢true}
 use mathlib.Core.Path.{◌≡◌, refl, sym, ◌∙◌, ap}
 use mathlib.Core.Logic.{◌⊎◌, inl, inr}
 use mathlib.Core.List.{List, [], ◌∷◌}
@@ -8,17 +8,20 @@ use native.Mathlib.Omega.{arith}
 use native.Mathlib.Nat.{not-suc-le-zero, le_of_suc-le-suc}
 use lib.ListN.{length, get_or}
 use lib.Dec.{eqb, leb}
-use borrow.Author.Tests.{eqb-true, leb-true, le-leb}
+use borrow.Author.Tests.{leb-true, le-leb}
 use Rattle.shared.proofs.Tests.{both_true}
 use Rattle.lane.specs.declared.Lane.{Lane}
 use Rattle.lane.specs.declared.BeginArgs.{BeginArgs}
-use Rattle.lane.specs.declared.Reply.{Reply}
-use Rattle.lane.specs.declared.Reply.TheVariants.{Refused, Stay}
-use Rattle.lane.specs.Answers.{refusal_number_of}
+use Rattle.std.specs.Prelude.{⊤, Result, Ok, Err}
+use Rattle.shared.specs.declared.Next.TheVariants.{Stay}
+use Rattle.refusals.specs.declared.Refusal.{Refusal}
+use Rattle.refusals.specs.declared.Refusal.TheVariants as refusal
+use Rattle.refusals.specs.Order.{number_of}
+use Rattle.lane.specs.Answers.{Reply, refusal_number_of}
 use Rattle.lane.specs.Refusals.{begin_refusal}
 use Rattle.lane.specs.Begin.{lead_lane}
 use Rattle.lane.specs.Serial.{stamped}
-use Rattle.lane.specs.Step.{new_lane, refuse, stay, begun}
+use Rattle.lane.specs.Step.{new_lane, refuse, unless_refused, stay, begun}
 use Rattle.commands.specs.declared.Command.{Command}
 use Rattle.commands.specs.declared.Command.TheVariants.{End, Open, Begin, Step, Unknown, Short, Close}
 use Rattle.calls.specs.Turn.{State, Called, called, next, unchanged}
@@ -57,7 +60,7 @@ none_twelve Unknown e = omega arith
 none_twelve Short e = omega arith
 none_twelve Close e = omega arith
 
-module _ (p : Lanes) (i : ℕ) (k : Command) (e : (answer_to p i k).0.reply ≡ Refused 12) where
+module _ (p : Lanes) (i : ℕ) (k : Command) (e : (answer_to p i k).0.reply ≡ Err refusal.Places) where
   there : i < antennas
   there = inside i (λ h. h) (λ h. absurd (none_twelve k (ap (λ (c : Called). refusal_number_of c.0.reply) (sym (answer_none p i k h)) ∙ ap refusal_number_of e)))
 
@@ -68,25 +71,35 @@ pub twelve_keeps : TwelveKeeps
 unfolding TwelveKeeps
 twelve_keeps p i k e =
     let h = there p i k e in
-    let same : answer_to p i k ≡ unchanged (Refused 12) (lane_at p i) = own_twelve p i k h (met p i k e) in
+    let same : answer_to p i k ≡ unchanged (Err refusal.Places) (lane_at p i) = own_twelve p i k h (met p i k e) in
     (same, after_own p i k h ∙ ap (λ (c : Called). put_at p i (next c)) same ∙ put_back p i)
 
+-- no other refusal has the number 8
+is_eighth : (k : Refusal) → eqb (number_of k) 8 ≡ true → k ≡ refusal.Room
+is_eighth refusal.Room h = refl
+is_eighth refusal.Unknown h = absurd (false≢true h)
+is_eighth refusal.Short h = absurd (false≢true h)
+is_eighth refusal.Settings h = absurd (false≢true h)
+is_eighth refusal.Lane h = absurd (false≢true h)
+is_eighth refusal.Phase h = absurd (false≢true h)
+is_eighth refusal.Index h = absurd (false≢true h)
+is_eighth refusal.Float h = absurd (false≢true h)
+is_eighth refusal.Places h = absurd (false≢true h)
+is_eighth refusal.Serial h = absurd (false≢true h)
+
 -- a begin that 12 comes before is accepted, or refused by 8
-late_begin : (l : Lane) (b : BeginArgs) (ook fsk : List ℕ) → late_of (begun l b ook fsk).reply ≡ true → ((begun l b ook fsk).reply ≡ Stay) ⊎ ((begun l b ook fsk).reply ≡ Refused 8)
+late_begin : (l : Lane) (b : BeginArgs) (ook fsk : List ℕ) → late_of (begun l b ook fsk).reply ≡ true → ((begun l b ook fsk).reply ≡ Ok Stay) ⊎ ((begun l b ook fsk).reply ≡ Err refusal.Room)
 unfolding begun
-late_begin l b ook fsk = go (eqb n 0)
+late_begin l b ook fsk = go (begin_refusal l b (length ook) (length fsk))
   where
-    n : ℕ
-    n = begin_refusal l b (length ook) (length fsk)
+    reply : Result ⊤ Refusal → Reply
+    reply k = (unless_refused k (stamped l (stay (lead_lane l b))) (λ r. refuse r l)).reply
 
-    reply : Bool → Reply
-    reply c = (cond c (stamped l (stay (lead_lane l b))) (refuse n l)).reply
+    go : (k : Result ⊤ Refusal) → late_of (reply k) ≡ true → (reply k ≡ Ok Stay) ⊎ (reply k ≡ Err refusal.Room)
+    go (Ok u) h = inl refl
+    go (Err r) h = inr (ap (λ (x : Refusal). Err x) (is_eighth r h))
 
-    go : (c : Bool) → late_of (reply c) ≡ true → (reply c ≡ Stay) ⊎ (reply c ≡ Refused 8)
-    go true h = inl refl
-    go false h = inr (ap Refused (eqb-true n 8 h))
-
-late_is : (p : State) (k : Command) → is_begin_of k ≡ true → late_of (called p k).0.reply ≡ true → ((called p k).0.reply ≡ Stay) ⊎ ((called p k).0.reply ≡ Refused 8)
+late_is : (p : State) (k : Command) → is_begin_of k ≡ true → late_of (called p k).0.reply ≡ true → ((called p k).0.reply ≡ Ok Stay) ⊎ ((called p k).0.reply ≡ Err refusal.Room)
 unfolding called
 late_is p (Begin b) h = late_begin p.0 b p.1 p.2
 late_is p End h = absurd (false≢true h)
@@ -96,11 +109,11 @@ late_is p Unknown h = absurd (false≢true h)
 late_is p Short h = absurd (false≢true h)
 late_is p Close h = absurd (false≢true h)
 
-is_late : (r : Reply) → (r ≡ Stay) ⊎ (r ≡ Refused 8) → late_of r ≡ true
+is_late : (r : Reply) → (r ≡ Ok Stay) ⊎ (r ≡ Err refusal.Room) → late_of r ≡ true
 is_late r (inl e) = ap late_of e
 is_late r (inr e) = ap late_of e
 
-given : (p : Lanes) (i : ℕ) (k : Command) → (answer_to p i k).0.reply ≡ Refused 12 → Twelve p i k
+given : (p : Lanes) (i : ℕ) (k : Command) → (answer_to p i k).0.reply ≡ Err refusal.Places → Twelve p i k
 given p i k e =
     let h = there p i k e in
     let n = others_out p.0 i in
@@ -109,7 +122,7 @@ given p i k e =
     let b = both_true (leb places n) (late_of r) a.1 in
     record { antenna = h; begins = a.0; full = leb-true places n b.0; late = late_is (lane_at p i) k a.0 b.1 }
 
-gives : (p : Lanes) (i : ℕ) (k : Command) → Twelve p i k → (answer_to p i k).0.reply ≡ Refused 12
+gives : (p : Lanes) (i : ℕ) (k : Command) → Twelve p i k → (answer_to p i k).0.reply ≡ Err refusal.Places
 gives p i k t =
     let n = others_out p.0 i in
     let r = (called (lane_at p i) k).0.reply in

@@ -1,8 +1,7 @@
 -- Lists of calls of sixteen antennas, what one of them hears, and the lane alone.
 use Rattle.std.specs.Prelude.{ℕ, zero, suc, Bool, true, false, not, ◌&&◌, List, [], ◌∷◌, map, replicate, eqb}
 use Rattle.lane.specs.declared.Lane.{Lane}
-use Rattle.lane.specs.declared.Reply.{Reply}
-use Rattle.lane.specs.Answers.{refusal_number_of}
+use Rattle.lane.specs.Answers.{Reply, refusal_number_of}
 use Rattle.lane.specs.Step.{new_lane}
 use Rattle.commands.specs.declared.Command.{Command}
 use Rattle.calls.specs.Turn.{State, Called, called, next}

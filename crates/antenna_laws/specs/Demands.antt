@@ -1,8 +1,8 @@
 -- The commands that one antenna hears, as the calls of demand 3's lists (crate pulses): so that demand 3 and R-9 speak of each antenna.
-use Rattle.std.specs.Prelude.{ℕ, cond, true, ◌≡◌, List, [], ◌∷◌, ◌++◌}
+use Rattle.std.specs.Prelude.{ℕ, cond, true, ◌≡◌, List, [], ◌∷◌, ◌++◌, is_err}
 use Rattle.commands.specs.declared.Command.{Command}
 use Rattle.commands.specs.declared.Command.TheVariants.{End, Open, Begin, Step, Unknown, Short, Close}
-use Rattle.calls.specs.Turn.{State, Called, called, next, refused_of}
+use Rattle.calls.specs.Turn.{State, Called, called, next}
 use Rattle.pulses.specs.Yardstick.{as_left, Call, opening, begin, step, close, Given, fetched, unused, handed_on}
 use Rattle.pulses.specs.Demand.{the_lane, start, bursts, Each, NoneYet}
 use Rattle.pulses.specs.Demand as demand
@@ -43,7 +43,7 @@ trains_by ts Close c = ts ++ fetched c
 
 unfoldable pub trains_of : List Given → List (Command × Called) → List Given
 trains_of ts [] = ts
-trains_of ts (h ∷ hs) = trains_of (cond (refused_of h.1.0.reply) ts (trains_by ts h.0 h.1)) hs
+trains_of ts (h ∷ hs) = trains_of (cond (is_err h.1.0.reply) ts (trains_by ts h.0 h.1)) hs
 
 -- What is said of antenna j over the list cs. Its calls are one of demand 3's lists, and where that ends the lane and the trains are the
 -- antenna's own: since that is so of every list, it is so wherever a burst ends in one.

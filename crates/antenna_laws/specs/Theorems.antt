@@ -1,7 +1,8 @@
 -- Document 02, R-4, sentence by sentence, over every list of calls. The proofs are in proofs/, one file for each group.
-use Rattle.std.specs.Prelude.{ℕ, ◌+◌, ◌<◌, ◌≤◌, true, false, ◌≡◌, ◌⊎◌, List, length}
+use Rattle.std.specs.Prelude.{ℕ, ◌+◌, ◌<◌, ◌≤◌, true, false, ◌≡◌, ◌⊎◌, List, length, Ok, Err}
+use Rattle.shared.specs.declared.Next.TheVariants.{Stay}
+use Rattle.refusals.specs.declared.Refusal.TheVariants as refusal
 use Rattle.lane.specs.declared.Lane.{Lane}
-use Rattle.lane.specs.declared.Reply.TheVariants.{Refused, Stay}
 use Rattle.commands.specs.declared.Command.{Command}
 use Rattle.calls.specs.Turn.{State, called, unchanged}
 use Rattle.among.specs.Among.{antennas, places, Lanes, lane_at, outs, others_out, answer_to, after_call, Sized}
@@ -33,7 +34,7 @@ AsAlone =
 
 -- a call that meets 12 changes nothing
 unfoldable pub TwelveKeeps : Type 0
-TwelveKeeps = (p : Lanes) (i : ℕ) (k : Command) → (answer_to p i k).0.reply ≡ Refused 12 → (answer_to p i k ≡ unchanged (Refused 12) (lane_at p i)) × (after_call p i k ≡ p)
+TwelveKeeps = (p : Lanes) (i : ℕ) (k : Command) → (answer_to p i k).0.reply ≡ Err refusal.Places → (answer_to p i k ≡ unchanged (Err refusal.Places) (lane_at p i)) × (after_call p i k ≡ p)
 
 -- and no call changes another antenna's lane or buffers
 unfoldable pub OthersKept : Type 0
@@ -58,14 +59,14 @@ pub record Twelve (p : Lanes) (i : ℕ) (k : Command) : Type 0 where
   pub antenna : i < antennas
   pub begins : is_begin_of k ≡ true
   pub full : places ≤ others_out p.0 i
-  pub late : ((called (lane_at p i) k).0.reply ≡ Stay) ⊎ ((called (lane_at p i) k).0.reply ≡ Refused 8)
+  pub late : ((called (lane_at p i) k).0.reply ≡ Ok Stay) ⊎ ((called (lane_at p i) k).0.reply ≡ Err refusal.Room)
 
 unfoldable pub TwelveExactly : Type 0
-TwelveExactly = (p : Lanes) (i : ℕ) (k : Command) → ((answer_to p i k).0.reply ≡ Refused 12 → Twelve p i k) × (Twelve p i k → (answer_to p i k).0.reply ≡ Refused 12)
+TwelveExactly = (p : Lanes) (i : ℕ) (k : Command) → ((answer_to p i k).0.reply ≡ Err refusal.Places → Twelve p i k) × (Twelve p i k → (answer_to p i k).0.reply ≡ Err refusal.Places)
 
 -- a lane alone never gives it
 unfoldable pub NeverAlone : Type 0
-NeverAlone = (p : State) (k : Command) → (called p k).0.reply ≡ Refused 12 → ⊥
+NeverAlone = (p : State) (k : Command) → (called p k).0.reply ≡ Err refusal.Places → ⊥
 
 -- ---- "A lane that turns idle frees its place for the next call."
 

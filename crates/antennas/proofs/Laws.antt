@@ -5,11 +5,11 @@ use mathlib.Core.Path.{◌≡◌, refl}
 use mathlib.Core.List.{List, ◌++◌}
 use Rattle.stream.specs.Machine.{May}
 use Rattle.stream.proofs.Printed.{program_prints}
-use Rattle.sixteen.specs.Sixteen.{machine, at_first, antennas_of}
+use Rattle.sixteen.specs.Sixteen.{machine, antennas_of}
 use Rattle.sixteen.proofs.Orderly.{orderly}
-use Rattle.antennas.specs.Passes.{Ends}
+use Rattle.antennas.specs.Antennas.{Ends}
 
 -- from sixteen new lanes with buffers of zeros, a run that is over has printed the lines of what it read, whatever comes after its end
-pub antennas_prints : {ook fsk : List (List ℕ)} (r : Ends at_first true ook fsk) (t : List ℕ) → May r.runs.last t → r.runs.printed ≡ antennas_of (r.runs.read ++ t)
+pub antennas_prints : (r : Ends true) (t : List ℕ) → May r.runs.last t → r.runs.printed ≡ antennas_of (r.runs.read ++ t)
 unfolding antennas_of
 antennas_prints r t may = program_prints machine orderly r.runs.blocks (r.runs.over refl) t may

@@ -5,35 +5,12 @@ ghost use Rattle.arith.specs.Carry.{bound_of, rounded_of, remainder_of, between_
 
 use crate::{Carried, RUN_FIX, Steps, step_of, width};
 
-// The largest u32, where a width stops.
-const U32_MAX: u64 = 0xffff_ffff;
-
-// The smaller of two.
-fn smaller(x: u64, y: u64) -> u64
-    ensures { result ≡ min x y }
-{
-    if x < y {
-        return x;
-    }
-    y
-}
-
-// The larger of two.
-fn larger(x: u64, y: u64) -> u64
-    ensures { result ≡ max x y }
-{
-    if x < y {
-        return y;
-    }
-    x
-}
-
 // The boundary of the edge t: its distance from the origin to the nearest 64th, at most MAX_BOUND, never below the boundary before.
 fn bound_of(origin: f64, before: u64, t: f64) -> u64
     ensures { result ≡ bound_of origin before t }
 {
     let nearest = step_of((t - origin) * RUN_FIX);
-    larger(before, smaller(nearest, domain::MAX_BOUND))
+    before.max(nearest.min(domain::MAX_BOUND))
 }
 
 // A boundary in whole steps, a tie up. Nothing is added to the boundary, so that no sum can wrap.
@@ -56,7 +33,7 @@ fn between(before: u64, b: u64) -> Steps
     requires { before ≤ b }
     ensures { result ≡ between_of before b }
 {
-    let n = smaller(rounded(b) - rounded(before), U32_MAX);
+    let n = (rounded(b) - rounded(before)).min(u32::MAX as u64);
     Steps(n as u32)
 }
 
@@ -65,11 +42,9 @@ pub fn carried_at(origin: f64, before: u64, t: f64) -> Carried
     ensures { result ≡ carried_at origin before t }
 {
     let bound = bound_of(origin, before, t);
-    let width = between(before, bound);
-    let rest = remainder(bound);
     Carried {
-        width,
-        remainder: rest,
+        width: between(before, bound),
+        remainder: remainder(bound),
         bound,
     }
 }
@@ -78,14 +53,13 @@ pub fn carried_at(origin: f64, before: u64, t: f64) -> Carried
 pub fn width_by(carry: u32, origin: f64, before: u64, a: f64, b: f64) -> Carried
     ensures { result ≡ width_by carry origin before a b }
 {
-    let carries = carry == 1;
-    if carries {
-        return carried_at(origin, before, b);
-    }
-    let plain = width(a, b);
-    Carried {
-        width: plain,
-        remainder: 0,
-        bound: before,
+    if carry == 1 {
+        carried_at(origin, before, b)
+    } else {
+        Carried {
+            width: width(a, b),
+            remainder: 0,
+            bound: before,
+        }
     }
 }

@@ -6,16 +6,16 @@ use Rattle.shared.specs.Core.{whole_out}
 use Rattle.shared.specs.declared.Settings.{Settings}
 use Rattle.fsk.specs.Core.{whole_frame}
 use Rattle.presence.specs.Presence.{presence_of}
-use Rattle.presence.specs.declared.Present.{Present}
+use Rattle.presence.specs.Types.{Present}
 use Rattle.envelope.specs.declared.At.{At}
 use Rattle.envelope.specs.declared.Seen.{Seen}
 use Rattle.burst.specs.Makers.{burst_of, body_in, with_body}
 use Rattle.burst.specs.Sample.{inputs_of}
 use Rattle.burst.specs.Lead.{onward, staying}
-use Rattle.burst.specs.declared.Burst.{Burst}
-use Rattle.burst.specs.declared.BurstCore.{BurstCore}
-use Rattle.burst.specs.declared.Sampled.{Sampled}
-use Rattle.burst.specs.declared.SampledCore.{SampledCore}
+use Rattle.burst.specs.Types.{Burst}
+use Rattle.burst.specs.Types.{BurstCore}
+use Rattle.burst.specs.Types.{Sampled}
+use Rattle.burst.specs.Types.{SampledCore}
 
 -- the burst of a caller's lane, from that of the core and the candidates
 abbrev pub whole_burst : List Float → BurstCore → Burst

@@ -17,9 +17,9 @@ use Rattle.presence.specs.declared.Pres.{Pres}
 use Rattle.envelope.specs.declared.At.{At}
 use Rattle.burst.specs.Makers.{burst_of}
 use Rattle.burst.specs.Sample.{sample_of}
-use Rattle.burst.specs.declared.Burst.{Burst}
+use Rattle.burst.specs.Types.{Burst}
 use Rattle.burst.specs.declared.Lead.{Lead}
-use Rattle.burst.specs.declared.Sampled.{Sampled}
+use Rattle.burst.specs.Types.{Sampled}
 
 -- a sample goes into the lead-in: lead_x[0] is the sample before the first, so that it has one place more
 unfoldable pub lead_add_of : Lead → Float → C32 → Lead

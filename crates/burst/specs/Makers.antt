@@ -5,15 +5,15 @@ use Rattle.shared.specs.Core.{numbered}
 use Rattle.ook.specs.declared.Env.{Env}
 use Rattle.ook.specs.declared.Train.{Train}
 use Rattle.shared.specs.declared.Out.{Out}
-use Rattle.ook.specs.declared.Done.{Done}
-use Rattle.fsk.specs.declared.Frame.{Frame}
-use Rattle.frame_end.specs.declared.Body.{Body}
+use Rattle.ook.specs.Types.{Done}
+use Rattle.fsk.specs.Types.{Frame}
+use Rattle.frame_end.specs.Types.{Body}
 use Rattle.presence.specs.declared.Pres.{Pres}
-use Rattle.presence.specs.declared.Snapped.{Snapped}
+use Rattle.presence.specs.Types.{Snapped}
 use Rattle.envelope.specs.declared.Seen.{Seen}
-use Rattle.envelope.specs.declared.Acted.{Acted}
-use Rattle.burst.specs.declared.Burst.{Burst}
-use Rattle.burst.specs.declared.Sampled.{Sampled}
+use Rattle.envelope.specs.Types.{Acted}
+use Rattle.burst.specs.Types.{Burst}
+use Rattle.burst.specs.Types.{Sampled}
 
 abbrev pub burst_of : Float → Float → Env → C32 → Train → Out → ℕ → Pres → Frame → Out → Burst
 burst_of high e_prev env pac train out_ook frames pres frame out_fsk =

@@ -2,23 +2,23 @@
 use Rattle.std.specs.Prelude.{ℕ, Bool, cond, List, ◌==◌, Float}
 use Rattle.shared.specs.Answers.{is_stay_of}
 use Rattle.shared.specs.declared.Settings.{Settings}
-use Rattle.ook.specs.declared.Done.{Done}
-use Rattle.fsk.specs.declared.Frame.{Frame}
+use Rattle.ook.specs.Types.{Done}
+use Rattle.fsk.specs.Types.{Frame}
 use Rattle.presence.specs.Presence.{snap_of, presence_of}
 use Rattle.presence.specs.declared.Pres.{Pres}
 use Rattle.presence.specs.declared.Inputs.{Inputs}
-use Rattle.presence.specs.declared.Snapped.{Snapped}
-use Rattle.presence.specs.declared.Present.{Present}
+use Rattle.presence.specs.Types.{Snapped}
+use Rattle.presence.specs.Types.{Present}
 use Rattle.envelope.specs.See.{see_of}
 use Rattle.envelope.specs.Act.{act_of}
 use Rattle.envelope.specs.Tail.{tail_of}
 use Rattle.envelope.specs.declared.At.{At}
 use Rattle.envelope.specs.declared.Seen.{Seen}
-use Rattle.envelope.specs.declared.Acted.{Acted}
+use Rattle.envelope.specs.Types.{Acted}
 use Rattle.envelope.specs.declared.Absence.{Absence}
 use Rattle.burst.specs.Makers.{with_acted, body_in, with_body, with_train}
-use Rattle.burst.specs.declared.Burst.{Burst}
-use Rattle.burst.specs.declared.Sampled.{Sampled}
+use Rattle.burst.specs.Types.{Burst}
+use Rattle.burst.specs.Types.{Sampled}
 
 -- begin_run of the envelope at a rise: its edge may be the better start of presence and frame
 unfoldable pub snap_if_of : Bool → Bool → Float → Pres → Frame → Snapped

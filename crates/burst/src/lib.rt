@@ -15,40 +15,30 @@ ghost use Rattle.presence.specs.Core.{whole_snapped};
 use arith::C32;
 use envelope::{Absence, ActedCore, At, Seen};
 use frame_end::BodyCore;
-use fsk::{Frame, FrameCore};
+use fsk::{Cand, CandCore, FrameCore, FrameOf};
 use ook::{DoneCore, Env, Train};
 use presence::{Inputs, Pres, SnappedCore};
+use run::Run;
 use shared::{Next, Out, OutCore, Settings};
 
 // The burst under way; what an earlier burst left stands in it too.
 #[derive(Clone, Copy)]
-pub struct Burst {
+pub struct BurstOf<C, O> {
     pub high: f32,
     pub e_prev: f32,
     pub env: Env,
     pub pac: C32,
     pub train: Train,
-    pub out_ook: Out,
+    pub out_ook: O,
     pub frames: u32,
     pub pres: Pres,
-    pub frame: Frame,
-    pub out_fsk: Out,
+    pub frame: FrameOf<C>,
+    pub out_fsk: O,
 }
 
-// The same in the core.
-#[derive(Clone, Copy)]
-pub struct BurstCore {
-    pub high: f32,
-    pub e_prev: f32,
-    pub env: Env,
-    pub pac: C32,
-    pub train: Train,
-    pub out_ook: OutCore,
-    pub frames: u32,
-    pub pres: Pres,
-    pub frame: FrameCore,
-    pub out_fsk: OutCore,
-}
+pub type Burst = BurstOf<Cand, Out>;
+
+pub type BurstCore = BurstOf<CandCore, OutCore>;
 
 // The lead-in: its samples wait until there are lead_len of them; lead_x[0] is the sample before.
 #[derive(Clone, Copy)]
@@ -61,19 +51,17 @@ pub struct Lead {
 
 // What the sample asks for, and the burst after it.
 #[derive(Clone, Copy)]
-pub struct Sampled {
+pub struct SampledOf<C, O> {
     pub next: Next,
-    pub burst: Burst,
+    pub burst: BurstOf<C, O>,
 }
 
-// The same in the core.
-#[derive(Clone, Copy)]
-pub struct SampledCore {
-    pub next: Next,
-    pub burst: BurstCore,
-}
+pub type Sampled = SampledOf<Cand, Out>;
+
+pub type SampledCore = SampledOf<CandCore, OutCore>;
 
 // A run of the envelope that began at tc, with a rise, may give presence and frame their start.
+#[tactic(auto, unfolding(crate::specs::Sample::snap_if_of))]
 fn snap_if(began: bool, on: bool, tc: f64, pres: Pres, frame: FrameCore) -> SnappedCore
     ensures { (cs : List Float) → whole_snapped cs result ≡ snap_if_of began on tc pres (whole_frame cs frame) }
 {
@@ -219,7 +207,7 @@ fn rest(
     let w = present(p, a, ep, s, b, cs, ook, fsk);
     let next = w.next;
     let n = w.burst;
-    let stay = shared::is_stay(next);
+    let stay = next.is_stay();
     if stay {
         let run = n.env.run;
         let absence = Absence {
@@ -257,17 +245,11 @@ pub fn sample(
     let d = envelope::act(p, s, t, o, ook);
     let next = d.next;
     let c = with_acted(a.e, s, n, d, b);
-    let stay = shared::is_stay(next);
+    let stay = next.is_stay();
     if stay {
         return rest(p, a, b.e_prev, s, c, cs, ook, fsk);
     }
     SampledCore { next, burst: c }
-}
-
-fn pick(more: bool, v: f32, m: f32) -> f32
-    ensures { result ≡ (if more then v else m) }
-{
-    if more { v } else { m }
 }
 
 // The largest of the first len envelopes, at least +0.
@@ -276,16 +258,17 @@ pub fn largest(es: &[f32; 16], len: usize) -> f32
     ensures { result ≡ largest_of es.now len }
 {
     let mut m: f32 = 0.0;
-    let mut i: usize = 0;
-    while i < len {
+    for i in 0..len {
         let v = es[i];
-        m = pick(v > m, v, m);
-        i = i + 1;
+        if v > m {
+            m = v;
+        }
     }
     m
 }
 
 // A burst starts at t; it has no pulse yet.
+#[tactic(auto, unfolding(crate::specs::Lead::begin_burst_of))]
 pub fn begin_burst(high: f32, t: f64, e: f32, b: BurstCore) -> BurstCore
     ensures { (cs : List Float) → whole_burst cs result ≡ begin_burst_of high t e (whole_burst cs b) }
 {
@@ -294,7 +277,7 @@ pub fn begin_burst(high: f32, t: f64, e: f32, b: BurstCore) -> BurstCore
     let t0 = b.train;
     let train = ook::empty_train(t0);
     let pac = C32 { re: 0.0, im: 0.0 };
-    let absent = run::start_run(t);
+    let absent = Run::start_run(t);
     let pres = Pres {
         run: absent,
         p_factor: b.pres.p_factor,
@@ -311,12 +294,13 @@ pub fn begin_burst(high: f32, t: f64, e: f32, b: BurstCore) -> BurstCore
 }
 
 // What the i-th sample reads: of the lead-in where it is replayed, and else the one of the call.
+#[tactic(auto, unfolding(crate::specs::Core::at_in_of))]
 fn at_in(replays: bool, q: At, i: usize, es: &[f32; 16], re: &[f32; 17], im: &[f32; 17]) -> At
     requires { i < 16 }
     ensures { result ≡ at_in_of replays q es.now re.now im.now i }
 {
     if replays {
-        let idx = std::num::wrapping_add_u64(q.lead_at, i as u64);
+        let idx = q.lead_at.wrapping_add(i as u64);
         return At {
             idx,
             lead_at: q.lead_at,
@@ -335,7 +319,8 @@ fn at_in(replays: bool, q: At, i: usize, es: &[f32; 16], re: &[f32; 17], im: &[f
     q
 }
 
-// The n samples of a call, up to the first whose answer is not stay.
+// The n samples of a call, up to the first whose answer is not stay. Arrays and buffers are parameters of their own: a struct that holds
+// them stays in memory and is copied whole (docs/SPEED.md).
 pub fn samples(
     p: Settings,
     replays: bool,
@@ -355,17 +340,15 @@ pub fn samples(
 {
     let mut next = Next::Stay;
     let mut cur = b;
-    let mut i: usize = 0;
-    while i < n {
+    for i in 0..n {
         let a = at_in(replays, q, i, es, re, im);
         let r = sample(p, a, ring, cur, cs, ook, fsk);
         next = r.next;
         cur = r.burst;
-        let stay = shared::is_stay(next);
+        let stay = next.is_stay();
         if !stay {
             break;
         }
-        i += 1;
     }
     SampledCore { next, burst: cur }
 }

@@ -12,7 +12,7 @@ use Rattle.domain.specs.Limits.{max_serial}
 use Rattle.refusals.proofs.Domain.{settings_tell}
 use Rattle.step.specs.declared.Core.{Core}
 use Rattle.lane.specs.declared.Lane.{Lane}
-use Rattle.lane.specs.declared.Reply.{Reply}
+use Rattle.lane.specs.Answers.{Reply}
 use Rattle.step.specs.Core.{zip_of, reals_of, imaginaries_of, joined_of}
 use Rattle.step.proofs.Zips.{zip_parts}
 use Rattle.lane.proofs.Refusals.{lane_passes}

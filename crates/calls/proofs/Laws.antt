@@ -1,5 +1,5 @@
 -- What a call prints has room where `most_of` says so: no part that is printed is longer than its buffer, nor than two slots for each pulse.
-use Prim.Native.Nat.{ℕ, ◌+◌, ◌*◌, ◌-◌, ◌<◌, ◌≤◌}
+use Prim.Native.Nat.{ℕ, ◌+◌, ◌*◌, ◌-◌, ◌<◌, ◌≤◌, max}
 use mathlib.Core.Bool.{Bool, true, false, cond}
 use mathlib.Core.Path.{◌≡◌, refl, ◌∙◌, ap}
 use mathlib.Core.List.{List, ◌++◌}
@@ -8,22 +8,24 @@ use lib.ListN.{length, take, length-take}
 use lib.Seq.{sets}
 use lib.Dec.{eqb, ltb, leb}
 use borrow.Author.Tests.{ltb-false, leb-false, le-ltb, le-leb}
+use Rattle.std.specs.Prelude.{Result, Ok, Err, is_ok, IsErrAnd, MatchResult}
+use Rattle.shared.specs.declared.Next.TheVariants.{Stay, Idle, IdleAt}
+use Rattle.shared.specs.declared.Next.{Next}
 use Rattle.shared.specs.declared.Out.{Out}
 use Rattle.shared.proofs.Tests.{clash}
+use Rattle.refusals.specs.Order.{number_of}
 use Rattle.lane.specs.declared.Lane.{Lane}
-use Rattle.lane.specs.declared.Reply.{Reply}
-use Rattle.lane.specs.declared.Reply.TheVariants.{Refused, Stay, Idle, IdleAt}
-use Rattle.lane.specs.Answers.{reply_number_of}
+use Rattle.lane.specs.Answers.{Reply, reply_number_of}
 use Rattle.lane.specs.declared.StepArgs.{StepArgs}
 use Rattle.lane.specs.Step.{stepped, closed}
 use Rattle.lane.specs.Part.{front, named_of, part_refusal, part_of}
 use Rattle.commands.specs.declared.Command.{Command}
 use Rattle.commands.specs.declared.Command.TheVariants.{End, Open, Begin, Step, Unknown, Short, Close}
-use Rattle.lines.specs.declared.Written.{Written}
+use Rattle.std.specs.Prelude.{Option, unwrap_or}
 use Rattle.lines.specs.Line.{max_slots, call_room, larger_of, has_room, record_line, call_text, written_call, put}
-use Rattle.lines.proofs.Room.{room_there, length_call, larger_left, larger_right}
+use Rattle.lines.proofs.Room.{room_there, length_call}
 use Rattle.reached.proofs.Records.{PartsFit, parts_fit_step, parts_fit_close, parts_fit_begin, parts_fit_open, slots_step, slots_close, answered_step, answered_close, answered_begin, answered_open}
-use Rattle.calls.specs.Turn.{State, Called, called, shown_of, answer_text, called_text, text_of, place_of, waits, smaller_of, slots_of, most_of, Shown}
+use Rattle.calls.specs.Turn.{State, Called, called, shown_of, by_number, answer_text, called_text, text_of, waits, slots_of, most_of, Shown}
 
 -- ---- room
 
@@ -38,7 +40,7 @@ front_short n most s h = go (leb n (length s))
 
 part_short : (l : Lane) (r : Out) (ook fsk : List ℕ) (most : ℕ) → length ook ≤ most → length fsk ≤ most → length (part_of l r ook fsk) ≤ most
 unfolding part_of named_of
-part_short l r ook fsk most h g = go (eqb (part_refusal l r) 0) (eqb r.state 1) (eqb r.fsk 1)
+part_short l r ook fsk most h g = go (is_ok (part_refusal l r)) (eqb r.state 1) (eqb r.fsk 1)
   where
     go : (a b d : Bool) → length (cond a (cond b (cond d (front (2 * r.pairs) fsk) (front (2 * r.pairs) ook)) (take 0 ook)) (take 0 ook)) ≤ most
     go true true true = front_short (2 * r.pairs) most fsk g
@@ -47,11 +49,7 @@ part_short l r ook fsk most h g = go (eqb (part_refusal l r) 0) (eqb r.state 1) 
     go false b d = omega arith
 
 larger_short : (n m most : ℕ) → n ≤ most → m ≤ most → larger_of n m ≤ most
-larger_short n m most h g = go (ltb n m)
-  where
-    go : (b : Bool) → cond b m n ≤ most
-    go true = g
-    go false = h
+larger_short n m most h g = omega arith
 
 -- room for longer parts is room for shorter ones
 room_less : (n most len at : ℕ) → n ≤ most → has_room most len at ≡ true → has_room n len at ≡ true
@@ -66,21 +64,10 @@ room_less n most len at h e =
 
 -- ---- the parts that a call prints
 
-smaller_most : (k n m : ℕ) → k ≤ n → k ≤ m → k ≤ smaller_of n m
-smaller_most k n m h g = go (ltb m n)
-  where
-    go : (b : Bool) → k ≤ cond b m n
-    go true = g
-    go false = h
-
 -- and more of them never count
-slots_most : (max ook fsk : ℕ) → slots_of max ook fsk ≤ max_slots
+slots_most : (pulses ook fsk : ℕ) → slots_of pulses ook fsk ≤ max_slots
 unfolding slots_of
-slots_most max ook fsk = go (ltb max_slots (smaller_of (2 * max) (larger_of ook fsk))) refl
-  where
-    go : (b : Bool) → ltb max_slots (smaller_of (2 * max) (larger_of ook fsk)) ≡ b → cond b max_slots (smaller_of (2 * max) (larger_of ook fsk)) ≤ max_slots
-    go true q = omega arith
-    go false q = ltb-false _ _ q
+slots_most pulses ook fsk = omega arith
 
 -- so a text has no room for a call only where too few of its bytes are left
 pub too_few_left : (p : State) (len at : ℕ) → at ≤ len → has_room (most_of p) len at ≡ false → len < at + call_room (most_of p)
@@ -92,10 +79,10 @@ too_few_left p len at h e =
 
 -- a record's part, where the call is not refused
 shown_by : (r : Reply) (l : Lane) (o : Out) (ook fsk : List ℕ) (most : ℕ) → ((reply_number_of r ≡ 3 → ⊥) → length (part_of l o ook fsk) ≤ most) → length (shown_of r l o ook fsk) ≤ most
-shown_by (Refused n) l o ook fsk most h = omega arith
-shown_by Stay l o ook fsk most h = h (λ e. omega (arith, e))
-shown_by Idle l o ook fsk most h = h (λ e. omega (arith, e))
-shown_by (IdleAt x) l o ook fsk most h = h (λ e. omega (arith, e))
+shown_by (Err n) l o ook fsk most h = omega arith
+shown_by (Ok Stay) l o ook fsk most h = h (λ e. omega (arith, e))
+shown_by (Ok Idle) l o ook fsk most h = h (λ e. omega (arith, e))
+shown_by (Ok (IdleAt x)) l o ook fsk most h = h (λ e. omega (arith, e))
 
 shown_fits : (c : Called) (most : ℕ) → ((reply_number_of c.0.reply ≡ 3 → ⊥) → PartsFit most c.0.lane c.1 c.2) → Shown c most
 shown_fits c most h =
@@ -109,13 +96,11 @@ parts_held : (p : State) (c : Called) → length c.1 ≡ length p.1 → length c
     → PartsFit (2 * p.0.settings.max_pulses) c.0.lane c.1 c.2 → PartsFit (most_of p) c.0.lane c.1 c.2
 unfolding slots_of
 parts_held p c h g d f =
-    let larger = larger_of (length p.1) (length p.2) in
-    let left = larger_left (length p.1) (length p.2) in
-    let right = larger_right (length p.1) (length p.2) in
+    let longer : ℕ = max (length p.1) (length p.2) in
     let l = c.0.lane in
-    let short : (o : Out) → length (part_of l o c.1 c.2) ≤ larger = λ o. part_short l o c.1 c.2 larger (omega (arith, h, left)) (omega (arith, g, right)) in
+    let short : (o : Out) → length (part_of l o c.1 c.2) ≤ longer = λ o. part_short l o c.1 c.2 longer (omega (arith, h)) (omega (arith, g)) in
     let within : (o : Out) → length (part_of l o c.1 c.2) ≤ 2 * p.0.settings.max_pulses → length (part_of l o c.1 c.2) ≤ most_of p =
-    λ o k. smaller_most _ _ max_slots (smaller_most _ (2 * p.0.settings.max_pulses) larger k (short o)) (omega (arith, k, d)) in
+    λ o k. omega (arith, k, d, short o) in
     record { ook_part = within l.burst.out_ook f.ook_part; fsk_part = within l.burst.out_fsk f.fsk_part }
 
 -- so have a step and a close that are accepted
@@ -148,21 +133,27 @@ shown_most p Close w h g = close_shown p h g
 
 -- a refused call prints no record, so that its lines are those without the parts
 shown_text : (r : Reply) (l : Lane) (ook fsk : List ℕ)
-    → call_text r (record_line l.burst.out_fsk (shown_of r l l.burst.out_fsk ook fsk) ++ record_line l.burst.out_ook (shown_of r l l.burst.out_ook ook fsk)) l.last ≡ answer_text r l ook fsk
+    → call_text (by_number r) (record_line l.burst.out_fsk (shown_of r l l.burst.out_fsk ook fsk) ++ record_line l.burst.out_ook (shown_of r l l.burst.out_ook ook fsk)) l.last ≡ answer_text r l ook fsk
 unfolding answer_text call_text
-shown_text (Refused n) l ook fsk = refl
-shown_text Stay l ook fsk = refl
-shown_text Idle l ook fsk = refl
-shown_text (IdleAt e) l ook fsk = refl
+shown_text (Err n) l ook fsk = refl
+shown_text (Ok Stay) l ook fsk = refl
+shown_text (Ok Idle) l ook fsk = refl
+shown_text (Ok (IdleAt e)) l ook fsk = refl
 
-pub answered : (r : Reply) (l : Lane) (ook fsk fs os x y : List ℕ) (at e : ℕ) (w : Written)
+-- std's map_err by the number of a refusal
+pub in_number : (r : Reply) (z : Result Next ℕ) → MatchResult r (λ n. z ≡ Ok n) (λ k. IsErrAnd z (λ m. m ≡ number_of k)) → z ≡ by_number r
+in_number (Ok n) z h = h
+in_number (Err k) (Ok n) h = absurd h
+in_number (Err k) (Err m) h = ap (λ (j : ℕ). Err j) h
+
+pub answered : (r : Reply) (l : Lane) (ook fsk fs os x y : List ℕ) (at e : ℕ) (w : Option ℕ) (z : Result Next ℕ)
     → has_room (larger_of (length (shown_of r l l.burst.out_fsk ook fsk)) (length (shown_of r l l.burst.out_ook ook fsk))) (length x) at ≡ true
-    → fs ≡ shown_of r l l.burst.out_fsk ook fsk → os ≡ shown_of r l l.burst.out_ook ook fsk
-    → ◌≡◌ {A = Written × List ℕ} (w, y) (written_call r l.burst.out_fsk fs l.burst.out_ook os l.last at x) → e ≡ place_of w at
+    → z ≡ by_number r → fs ≡ shown_of r l l.burst.out_fsk ook fsk → os ≡ shown_of r l l.burst.out_ook ook fsk
+    → ◌≡◌ {A = Option ℕ × List ℕ} (w, y) (written_call z l.burst.out_fsk fs l.burst.out_ook os l.last at x) → e ≡ unwrap_or w at
     → ◌≡◌ {A = ℕ × List ℕ} (e, y) (put (answer_text r l ook fsk) (at, x))
 unfolding written_call put
-answered r l ook fsk fs os x y at e w room df dg q de =
-    ap (λ (n : ℕ). (n, y)) de ∙ ap (λ (z : Written × List ℕ). (place_of z.0 at, z.1)) q ∙ rw (df, dg) (rw room (ap (λ (v : List ℕ). (at + length v, sets x at v)) (shown_text r l ook fsk)))
+answered r l ook fsk fs os x y at e w z room dz df dg q de =
+    ap (λ (n : ℕ). (n, y)) de ∙ ap (λ (p : Option ℕ × List ℕ). (unwrap_or p.0 at, p.1)) q ∙ rw (dz, df, dg) (rw room (ap (λ (v : List ℕ). (at + length v, sets x at v)) (shown_text r l ook fsk)))
 
 -- the room that a turn has is room for the parts of its call
 pub room_shown : (c : Called) (most len at : ℕ) → Shown c most → has_room most len at ≡ true
@@ -178,7 +169,7 @@ called_short c most h =
     omega (
       arith,
       ap length (shown_text r l c.1 c.2),
-      length_call r f (shown_of r l f c.1 c.2) o (shown_of r l o c.1 c.2) l.last,
+      length_call (by_number r) f (shown_of r l f c.1 c.2) o (shown_of r l o c.1 c.2) l.last,
       h.fsk_shown,
       h.ook_shown,
     )

@@ -8,18 +8,19 @@ use native.Mathlib.Omega.{arith}
 use lib.ListN.{length}
 use lib.Dec.{eqb, ltb}
 use lib.Ieee.{Float}
+use Rattle.std.specs.Prelude.{⊤, Result, Ok, Err}
+use Rattle.refusals.specs.declared.Refusal.{Refusal}
 use Rattle.arith.specs.Leaves.{lead_len_of}
 use Rattle.burst.specs.declared.Lead.{Lead}
 use Rattle.burst.specs.Lead.{lead_add_of}
 use Rattle.lane.specs.declared.Lane.{Lane}
-use Rattle.lane.specs.declared.Reply.{Reply}
 use Rattle.lane.specs.declared.StepArgs.{StepArgs}
-use Rattle.lane.specs.Answers.{answer_of}
+use Rattle.lane.specs.Answers.{Reply, answer_of}
 use Rattle.lane.specs.Refusals.{step_refusal_by, step_refusal}
 use Rattle.lane.specs.Begin.{ring_of}
 use Rattle.lane.specs.Advance.{settle_of, fill_of, replay_step, lead_step, burst_step, advance_of}
 use Rattle.lane.specs.Serial.{stamp_of, stamped_with}
-use Rattle.lane.specs.Step.{refuse, stepped_by, stepped}
+use Rattle.lane.specs.Step.{refuse, unless_refused, stepped_by, stepped}
 use Rattle.reached.specs.Reached.{Sound}
 use Rattle.reached.proofs.Reached.{sound_ok, open_sound, begin_sound, step_sound, close_sound}
 use Rattle.commands.specs.declared.Command.{Command}
@@ -85,7 +86,7 @@ core_steps q a h = ap (λ (b : Bool). stepped_by (step_refusal_by b q.0.settings
 
 step_settings : (l : Lane) (a : StepArgs) (ook fsk : List ℕ) → (stepped l a ook fsk).0.lane.settings ≡ l.settings
 unfolding stepped stamp_of advance_of lead_step fill_of replay_step burst_step settle_of
-step_settings l a ook fsk = go (eqb (step_refusal l a (length ook) (length fsk)) 0) (eqb l.phase 1) (ltb ld.lead_n (lead_len_of l.settings.min_steps))
+step_settings l a ook fsk = go (step_refusal l a (length ook) (length fsk)) (eqb l.phase 1) (ltb ld.lead_n (lead_len_of l.settings.min_steps))
   where
     ring : List Float
     ring = ring_of l.ring a.index a.envelope
@@ -93,11 +94,11 @@ step_settings l a ook fsk = go (eqb (step_refusal l a (length ook) (length fsk))
     ld : Lead
     ld = lead_add_of l.lead a.envelope a.x
 
-    go : (b d e : Bool) → (cond b (stamped_with l (cond d (cond e (fill_of l a ld ring, ook, fsk) (replay_step l a ld ring ook fsk)) (burst_step l a ring ook fsk))) (refuse (step_refusal l a (length ook) (length fsk)) l, ook, fsk)).0.lane.settings ≡ l.settings
-    go true true true = refl
-    go true true false = refl
-    go true false e = refl
-    go false d e = refl
+    go : (k : Result ⊤ Refusal) (d e : Bool) → (unless_refused k (stamped_with l (cond d (cond e (fill_of l a ld ring, ook, fsk) (replay_step l a ld ring ook fsk)) (burst_step l a ring ook fsk))) (λ n. (refuse n l, ook, fsk))).0.lane.settings ≡ l.settings
+    go (Ok u) true true = refl
+    go (Ok u) true false = refl
+    go (Ok u) false e = refl
+    go (Err n) d e = refl
 
 -- ---- one step more
 module _ {G : ℕ → Reply → State → Type 0} {p : State} {from used : ℕ} {r : Reply} {q : State} (a : StepArgs) (end : ℕ) (z : Reply) (n : State)

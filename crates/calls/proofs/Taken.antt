@@ -6,13 +6,13 @@ use mathlib.Core.List.{List, []}
 use native.Mathlib.Omega.{arith}
 use lib.ListN.{length, take, drop, length-drop}
 use lib.Dec.{eqb}
+use Rattle.std.specs.Prelude.{Ok, Err}
 use borrow.Author.Tests.{not-true}
 use Rattle.shared.proofs.Tests.{both_true, clash}
 use Rattle.lane.specs.declared.Lane.{Lane}
-use Rattle.lane.specs.declared.Reply.{Reply}
-use Rattle.lane.specs.declared.Reply.TheVariants as reply
+use Rattle.shared.specs.declared.Next.TheVariants.{Stay, Idle, IdleAt}
 use Rattle.lane.specs.declared.StepArgs.{StepArgs}
-use Rattle.lane.specs.Answers.{answer_of}
+use Rattle.lane.specs.Answers.{Reply, answer_of}
 use Rattle.lane.specs.Step.{stepped}
 use Rattle.reached.specs.Reached.{Sound}
 use Rattle.commands.specs.declared.Command.{Command}
@@ -25,7 +25,7 @@ use Rattle.stream.specs.Blocks.{Passed}
 use Rattle.stream.proofs.Taken.{stored, passed_one, passed_then}
 use Rattle.calls.specs.declared.Turned.{Turned}
 use Rattle.calls.specs.Turn.{State, Called, called, next, answer_text, called_text, text_of, waits, most_of, Shown}
-use Rattle.calls.specs.Steps.{args_of, quiet_of, Took, Turn}
+use Rattle.calls.specs.Steps.{quiet_of, Took, Turn}
 use Rattle.calls.specs.Stream.{machine}
 use Rattle.calls.proofs.Laws.{there, shown_most, called_short}
 use Rattle.calls.proofs.Orderly.{orderly, step_settled}
@@ -33,11 +33,9 @@ use Rattle.calls.proofs.Silent.{call_sound, kept_room, Steps, none, some, steps_
 
 -- ---- a step among the commands
 
-pub called_step : (p : State) (k : Command) (a : StepArgs) → is_step_of k ≡ true → a ≡ args_of k → stepped p.0 a p.1 p.2 ≡ called p k
+pub called_step : (p : State) (k : Command) (a : StepArgs) → k ≡ Step a → stepped p.0 a p.1 p.2 ≡ called p k
 unfolding called
-called_step p k a steps is_a =
-    let e = (a_step k steps).is in
-    ap (called p) (ap Step is_a ∙ ap (λ (d : Command). Step (args_of d)) e ∙ sym e)
+called_step p k a e = ap (called p) (sym e)
 
 -- the bytes of a step are there
 pub step_room : (s : List ℕ) (used : ℕ) (a : StepArgs) → Step a ≡ decoded (drop used s) → used + 25 ≤ length s
@@ -60,14 +58,14 @@ took_one p s from k used r q size inside sound is_k ready is_size is_used is_c i
 
 silent : (r : Reply) (l : Lane) (ook fsk : List ℕ) → quiet_of r l.burst.out_fsk.state l.burst.out_ook.state ≡ true → answer_text r l ook fsk ≡ []
 unfolding answer_text call_text record_line
-silent (reply.Refused k) l ook fsk h = clash (sym h)
-silent reply.Stay l ook fsk h =
+silent (Err k) l ook fsk h = clash (sym h)
+silent (Ok Stay) l ook fsk h =
     let f = l.burst.out_fsk in
     let o = l.burst.out_ook in
     let b = both_true (not (eqb f.state 1)) (not (eqb o.state 1)) h in
     simp (not-true (eqb f.state 1) b.0, not-true (eqb o.state 1) b.1)
-silent reply.Idle l ook fsk h = clash (sym h)
-silent (reply.IdleAt e) l ook fsk h = clash (sym h)
+silent (Ok Idle) l ook fsk h = clash (sym h)
+silent (Ok (IdleAt e)) l ook fsk h = clash (sym h)
 
 -- the steps so far, from p on
 abbrev pub StepsTaken : State → List ℕ → ℕ → ℕ → Reply → State → Type 0

@@ -1,38 +1,20 @@
 -- What `calls::steps`, `calls::pass` and `calls::turn` say: commands of a stream, taken one after another, up to the first that prints.
-use Rattle.std.specs.Prelude.{ℕ, ◌≤◌, Bool, false, not, ◌&&◌, ◌≡◌, List, ◌++◌, length, take, eqb}
-use Rattle.ieee.specs.Constants.{zero32}
-use Rattle.shared.specs.Counts.{zero_c32}
-use Rattle.lane.specs.declared.Reply.{Reply}
-use Rattle.lane.specs.declared.Reply.TheVariants as reply
-use Rattle.lane.specs.declared.StepArgs.{StepArgs}
-use Rattle.lane.specs.Answers.{answer_of}
+use Rattle.std.specs.Prelude.{ℕ, ◌≤◌, Bool, false, not, ◌&&◌, ◌≡◌, List, ◌++◌, length, take, eqb, Result, Ok, Err}
+use Rattle.shared.specs.declared.Next.{Next}
+use Rattle.shared.specs.declared.Next.TheVariants as next
+use Rattle.lane.specs.Answers.{Reply, answer_of}
 use Rattle.reached.specs.Reached.{Sound}
-use Rattle.commands.specs.declared.Command.{Command}
-use Rattle.commands.specs.declared.Command.TheVariants.{End, Open, Begin, Step, Unknown, Short, Close}
 use Rattle.stream.specs.Blocks.{Passed}
 use Rattle.calls.specs.declared.Turned.{Turned}
 use Rattle.calls.specs.Turn.{State, called_text, most_of, Shown}
 use Rattle.calls.specs.Stream.{machine}
 
-abbrev pub no_args : StepArgs
-no_args = record { index = 0; noise = zero32; envelope = zero32; x = zero_c32 }
-
--- the operands of a step, and zeros for another command
-abbrev pub args_of : Command → StepArgs
-args_of End = no_args
-args_of (Open s carries) = no_args
-args_of (Begin b) = no_args
-args_of (Step s) = s
-args_of Unknown = no_args
-args_of Short = no_args
-args_of Close = no_args
-
 -- a call that prints nothing: it stays, and decides no record
-abbrev pub quiet_of : Reply → ℕ → ℕ → Bool
-quiet_of (reply.Refused k) f o = false
-quiet_of reply.Stay f o = not (eqb f 1) && not (eqb o 1)
-quiet_of reply.Idle f o = false
-quiet_of (reply.IdleAt e) f o = false
+abbrev pub quiet_of : {E : Type 0} → Result Next E → ℕ → ℕ → Bool
+quiet_of (Err k) f o = false
+quiet_of (Ok next.Stay) f o = not (eqb f 1) && not (eqb o 1)
+quiet_of (Ok next.Idle) f o = false
+quiet_of (Ok (next.IdleAt e)) f o = false
 
 -- ---- what is said of commands that were taken
 

@@ -5,8 +5,6 @@ use Rattle.lane.specs.Step.{new_lane}
 use Rattle.commands.specs.Command.{decoded, size_of}
 use Rattle.lines.specs.Line.{call_room}
 use Rattle.stream.specs.Machine.{Machine, printed_of}
-use Rattle.stream.specs.Blocks.{Left}
-use Rattle.calls.specs.declared.Ran.{Ran}
 use Rattle.calls.specs.Turn.{State, called, next, text_of, waits, most_of}
 
 -- the program over a stream: the command at the front of the bytes is decoded, and its call made
@@ -30,7 +28,3 @@ at_first = (new_lane, replicate 4096 0, replicate 4096 0)
 
 unfoldable pub listing_of : List ℕ → List ℕ
 listing_of s = listing at_first s
-
--- how a block was left, without the lane
-abbrev pub left_by : Ran → Left
-left_by r = record { used = r.used; at = r.at; ended = r.ended; full = r.full }

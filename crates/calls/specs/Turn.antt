@@ -1,17 +1,18 @@
 -- What a command does, and the lines that it prints (document 01, "Commands").
-use Rattle.std.specs.Prelude.{ℕ, ◌*◌, ◌≤◌, Bool, true, false, cond, not, List, [], ◌++◌, length, take, ltb}
+use Rattle.std.specs.Prelude.{ℕ, ◌*◌, ◌≤◌, Bool, true, false, cond, not, List, [], ◌++◌, length, take, min, max, Result, Ok, Err, is_err}
+use Rattle.shared.specs.declared.Next.{Next}
+use Rattle.shared.specs.declared.Next.TheVariants.{Stay}
 use Rattle.shared.specs.declared.Out.{Out}
+use Rattle.refusals.specs.declared.Refusal.TheVariants as refusal
+use Rattle.refusals.specs.Order.{number_of}
 use Rattle.lane.specs.declared.Lane.{Lane}
 use Rattle.lane.specs.declared.Answer.{Answer}
-use Rattle.lane.specs.declared.Reply.{Reply}
-use Rattle.lane.specs.declared.Reply.TheVariants.{Refused, Stay, Idle, IdleAt}
+use Rattle.lane.specs.Answers.{Reply}
 use Rattle.lane.specs.Step.{opened, begun, stepped, closed}
 use Rattle.lane.specs.Part.{part_of}
 use Rattle.commands.specs.declared.Command.{Command}
 use Rattle.commands.specs.declared.Command.TheVariants.{End, Open, Begin, Step, Unknown, Short, Close}
-use Rattle.lines.specs.declared.Written.{Written}
-use Rattle.lines.specs.declared.Written.TheVariants.{At, NoRoom}
-use Rattle.lines.specs.Line.{record_line, call_text, max_slots, larger_of}
+use Rattle.lines.specs.Line.{record_line, call_text, max_slots}
 
 -- a lane with its OOK and its FSK buffer
 abbrev pub State : Type 0
@@ -27,36 +28,35 @@ unchanged r p = (record { reply = r; lane = p.0 }, p.1, p.2)
 
 -- the answer to a command; bytes that are none meet refusal 1 or 2
 unfoldable pub called : State → Command → Called
-called p End = unchanged Stay p
+called p End = unchanged (Ok Stay) p
 called p (Open s carries) = (opened p.0 s, p.1, p.2)
 called p (Begin b) = (begun p.0 b p.1 p.2, p.1, p.2)
 called p (Step s) = stepped p.0 s p.1 p.2
-called p Unknown = unchanged (Refused 1) p
-called p Short = unchanged (Refused 2) p
+called p Unknown = unchanged (Err refusal.Unknown) p
+called p Short = unchanged (Err refusal.Short) p
 called p Close = closed p.0 p.1 p.2
 
 -- the lane and the buffers after a call
 abbrev pub next : Called → State
 next c = (c.0.lane, c.1, c.2)
 
-abbrev pub refused_of : Reply → Bool
-refused_of (Refused n) = true
-refused_of Stay = false
-refused_of Idle = false
-refused_of (IdleAt e) = false
-
 -- the part of a record that a call prints, fetched by the lane that it returned: none where it is refused, whatever the lane still holds
-abbrev pub shown_of : Reply → Lane → Out → List ℕ → List ℕ → List ℕ
-shown_of r l o ook fsk = cond (refused_of r) (take 0 ook) (part_of l o ook fsk)
+abbrev pub shown_of : {E : Type 0} → Result Next E → Lane → Out → List ℕ → List ℕ → List ℕ
+shown_of r l o ook fsk = cond (is_err r) (take 0 ook) (part_of l o ook fsk)
 
 -- the line of a record of the lane, with its part of the buffers
 abbrev pub record_text : Lane → Out → List ℕ → List ℕ → List ℕ
 record_text l o ook fsk = record_line o (part_of l o ook fsk)
 
+-- a reply, a refusal by its number
+abbrev pub by_number : Reply → Result Next ℕ
+by_number (Ok n) = Ok n
+by_number (Err k) = Err (number_of k)
+
 -- the lines of a reply with the two records of the lane. A phase line has the lane's last index: that of the step which ends a burst, and
 -- of the last begin or step where a close does (R-13)
 unfoldable pub answer_text : Reply → Lane → List ℕ → List ℕ → List ℕ
-answer_text r l ook fsk = call_text r (record_text l l.burst.out_fsk ook fsk ++ record_text l l.burst.out_ook ook fsk) l.last
+answer_text r l ook fsk = call_text (by_number r) (record_text l l.burst.out_fsk ook fsk ++ record_text l l.burst.out_ook ook fsk) l.last
 
 -- the lines of a call
 abbrev pub called_text : Called → List ℕ
@@ -72,11 +72,6 @@ text_of Unknown c = called_text c
 text_of Short c = called_text c
 text_of Close c = called_text c
 
--- the place after lines that were written
-abbrev pub place_of : Written → ℕ → ℕ
-place_of (At e) at = e
-place_of NoRoom at = at
-
 -- ---- when a command is made
 
 -- a command is waited for where nothing is left, and where only its beginning is there and more may come: where `last` is false
@@ -89,13 +84,10 @@ waits last Unknown = false
 waits last Short = not last
 waits last Close = false
 
-abbrev pub smaller_of : ℕ → ℕ → ℕ
-smaller_of n m = cond (ltb m n) m n
-
 -- the most slots of a part that a call prints: two for each pulse of the settings, and no more than the larger buffer has. Settings above
 -- document 01's 65,536 pulses are refused, and a refused call prints no record
 unfoldable pub slots_of : ℕ → ℕ → ℕ → ℕ
-slots_of max ook fsk = smaller_of (smaller_of (2 * max) (larger_of ook fsk)) max_slots
+slots_of pulses ook fsk = min (min (2 * pulses) (max ook fsk)) max_slots
 
 abbrev pub most_of : State → ℕ
 most_of p = slots_of p.0.settings.max_pulses (length p.1) (length p.2)

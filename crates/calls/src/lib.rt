@@ -6,108 +6,49 @@ ghost use Rattle.std.specs.Prelude.{◌≡◌, true, false, List, ℕ, ◌≤◌
 ghost use Rattle.commands.specs.Command.{decoded, is_step_of};
 ghost use Rattle.reached.specs.Reached.{Sound};
 ghost use Rattle.lines.specs.Line.{larger_of, has_room, put};
-ghost use Rattle.calls.specs.Turn.{Called, called, refused_of, shown_of, answer_text, place_of, waits as Turn·waits, smaller_of, slots_of, most_of};
-ghost use Rattle.calls.specs.Steps.{no_args, args_of, quiet_of, Took, Turn};
-ghost use Rattle.calls.specs.Stream.{machine, left_by};
+ghost use Rattle.calls.specs.Turn.{Called, called, shown_of, answer_text, waits as Turn·waits, slots_of, most_of};
+ghost use Rattle.calls.specs.Steps.{quiet_of, Took, Turn};
+ghost use Rattle.calls.specs.Stream.{machine};
 ghost use Rattle.stream.specs.Blocks.{Streamed};
 
-use arith::C32;
 use commands::Command;
-use lane::{Answer, Lane, Reply, StepArgs};
-use lines::Written;
-use shared::Out;
+use lane::{Answer, Lane, Reply};
+use refusals::Refusal;
+use shared::{Next, Out};
+use stream::Ran;
 
 // ---- one command
 
 pub fn is_step(k: Command) -> bool
     ensures { result ≡ is_step_of k }
 {
-    match k {
-        Command::End => false,
-        Command::Open(_, _) => false,
-        Command::Begin(_) => false,
-        Command::Step(_) => true,
-        Command::Unknown => false,
-        Command::Short => false,
-        Command::Close => false,
-    }
-}
-
-fn no_args() -> StepArgs
-    ensures { result ≡ no_args }
-{
-    StepArgs {
-        index: 0,
-        noise: 0.0,
-        envelope: 0.0,
-        x: C32 { re: 0.0, im: 0.0 },
-    }
-}
-
-// The operands of a step, and zeros for another command.
-fn args_of(k: Command) -> StepArgs
-    ensures { result ≡ args_of k }
-{
-    match k {
-        Command::End => no_args(),
-        Command::Open(_, _) => no_args(),
-        Command::Begin(_) => no_args(),
-        Command::Step(s) => s,
-        Command::Unknown => no_args(),
-        Command::Short => no_args(),
-        Command::Close => no_args(),
-    }
-}
-
-// The same lane, made anew field by field. Begin and close are made on such a copy: where both are handed
-// the lane itself, the compiled loop over the steps takes 515 instructions for a call of an OOK stream
-// in place of 466 (counted over 200,000 calls).
-fn anew(l: Lane) -> Lane
-    ensures { result ≡ l }
-{
-    let settings = l.settings;
-    let x_prev = l.x_prev;
-    let lead = l.lead;
-    let ring = l.ring;
-    let burst = l.burst;
-    Lane {
-        opened: l.opened,
-        settings,
-        phase: l.phase,
-        last: l.last,
-        x_prev,
-        lead,
-        ring,
-        burst,
-        serial: l.serial,
-    }
+    matches!(k, Command::Step(_))
 }
 
 // The lane's answer to a command that is no step, or refusal 1 or 2. The FSK buffer is not written.
 pub fn call_other(l: Lane, k: Command, ook: &mut [u32], fsk: &[u32]) -> Answer
     ensures { is_step_of k ≡ false → ◌≡◌ {A = Called} (result, ook.new, fsk.now) (called (l, ook.old, fsk.now) k) }
 {
-    let m = anew(l);
     match k {
         Command::End => Answer {
-            reply: Reply::Stay,
+            reply: Ok(Next::Stay),
             lane: l,
         },
         Command::Open(p, _) => lane::open(l, p),
-        Command::Begin(b) => lane::begin(m, b, ook, fsk),
+        Command::Begin(b) => lane::begin(l, b, ook, fsk),
         Command::Step(_) => Answer {
-            reply: Reply::Stay,
+            reply: Ok(Next::Stay),
             lane: l,
         },
         Command::Unknown => Answer {
-            reply: Reply::Refused(1),
+            reply: Err(Refusal::Unknown),
             lane: l,
         },
         Command::Short => Answer {
-            reply: Reply::Refused(2),
+            reply: Err(Refusal::Short),
             lane: l,
         },
-        Command::Close => lane::close(m, ook, fsk),
+        Command::Close => lane::close(l, ook, fsk),
     }
 }
 
@@ -115,40 +56,23 @@ pub fn call_other(l: Lane, k: Command, ook: &mut [u32], fsk: &[u32]) -> Answer
 pub fn call(l: Lane, k: Command, ook: &mut [u32], fsk: &mut [u32]) -> Answer
     ensures { ◌≡◌ {A = Called} (result, ook.new, fsk.new) (called (l, ook.old, fsk.old) k) }
 {
-    let is = is_step(k);
-    if is {
-        let s = args_of(k);
-        return step::step(l, s, ook, fsk);
-    }
-    call_other(l, k, ook, fsk)
-}
-
-fn place_of(w: Written, at: usize) -> usize
-    ensures { result ≡ place_of w at }
-{
-    match w {
-        Written::At(e) => e,
-        Written::NoRoom => at,
-    }
-}
-
-fn is_refused(r: Reply) -> bool
-    ensures { result ≡ refused_of r }
-{
-    match r {
-        Reply::Refused(_) => true,
-        Reply::Stay => false,
-        Reply::Idle => false,
-        Reply::IdleAt(_) => false,
+    match k {
+        Command::Step(s) => step::step(l, s, ook, fsk),
+        _ => call_other(l, k, ook, fsk),
     }
 }
 
 // The part of a record that a call prints: none where it is refused, whatever the lane still holds.
-pub fn shown<'a>(r: Reply, l: Lane, o: Out, ook: &'a [u32], fsk: &'a [u32]) -> &'a [u32]
+pub fn shown<'a, E: Copy>(
+    r: Result<Next, E>,
+    l: Lane,
+    o: Out,
+    ook: &'a [u32],
+    fsk: &'a [u32],
+) -> &'a [u32]
     ensures { result.now ≡ shown_of r l o ook.now fsk.now }
 {
-    let refused = is_refused(r);
-    if refused {
+    if r.is_err() {
         return &ook[..0];
     }
     lane::part(l, o, ook, fsk)
@@ -170,34 +94,32 @@ fn put_answer<'a>(
     let o = l.burst.out_ook;
     let fs = shown(r, l, f, ook, fsk);
     let os = shown(r, l, o, ook, fsk);
-    let w = lines::call_lines(r, f, fs, o, os, l.last, text, at);
-    place_of(w, at)
+    lines::call_lines(r.map_err(u32::from), f, fs, o, os, l.last, text, at).unwrap_or(at)
 }
 
 // ---- commands of a stream
 
 // Where some commands lead: the place after them, and what the last of them answers.
 #[derive(Clone, Copy)]
-struct Past {
-    lane: Lane,
-    used: usize,
-    reply: Reply,
+pub struct Past {
+    pub lane: Lane,
+    pub used: usize,
+    pub reply: Reply,
 }
 
 // Whether a call prints nothing: it stays, and decides no record.
-pub fn is_quiet(r: Reply, f: u32, o: u32) -> bool
+pub fn is_quiet<E: Copy>(r: Result<Next, E>, f: u32, o: u32) -> bool
     ensures { result ≡ quiet_of r f o }
 {
     match r {
-        Reply::Refused(_) => false,
-        Reply::Stay => (f != 1) & (o != 1),
-        Reply::Idle => false,
-        Reply::IdleAt(_) => false,
+        Ok(Next::Stay) => (f != 1) & (o != 1),
+        Ok(Next::Idle | Next::IdleAt(_)) | Err(_) => false,
     }
 }
 
 // The steps from a place of the bytes on, where one is, up to the first that prints: core and arrays
-// are changed in place. A sound lane never meets refusal 4, so it is not asked for.
+// are changed in place. A sound lane never meets refusal 4, so it is not asked for. Where the steps end is known only at each
+// place, by its byte and by what the step before it answered, so there are no parts for a `for` to go through.
 fn steps(lane: Lane, s: &[u8], from: usize, ook: &mut [u32], fsk: &mut [u32]) -> Past
     requires { (from < length s.now) × (is_step_of (decoded (drop from s.now)) ≡ true) × Sound lane }
     ensures { Took (lane, ook.old, fsk.old) s.now from result.used result.reply (result.lane, ook.new, fsk.new) }
@@ -209,7 +131,7 @@ fn steps(lane: Lane, s: &[u8], from: usize, ook: &mut [u32], fsk: &mut [u32]) ->
     let mut ring = lane.ring;
     let mut cs = lane.burst.frame.cand.cand_f;
     let mut used = from;
-    let mut reply = Reply::Stay;
+    let mut reply = Ok(Next::Stay);
     while used < s.len() {
         let is = commands::is_step_at(s, used);
         if !is {
@@ -248,7 +170,6 @@ fn pass(l: Lane, k: Command, s: &[u8], from: usize, ook: &mut [u32], fsk: &mut [
     let a = call_other(l, k, ook, fsk);
     let lane = a.lane;
     let reply = a.reply;
-    // Asked for before the call, it makes the loop over the steps slower too: 495.
     let size = commands::size_of(k);
     Past {
         lane,
@@ -293,19 +214,6 @@ fn turn(
 
 // ---- a block of bytes
 
-#[derive(Clone, Copy)]
-pub struct Ran {
-    pub lane: Lane,
-    // The bytes that the block's commands took.
-    pub used: usize,
-    // The place after the lines.
-    pub at: usize,
-    // Whether the stream has ended, by refusal 1 or 2.
-    pub ended: bool,
-    // Whether the text has no room for another call.
-    pub full: bool,
-}
-
 // The most slots of a record's part that a call prints: two for each pulse of the settings, and no
 // more than the larger buffer has. Settings outside the domain print no record: each call that would
 // is refused.
@@ -313,22 +221,11 @@ pub fn most_of(pulses: u32, ook: usize, fsk: usize) -> usize
     ensures { result ≡ slots_of pulses ook fsk }
 {
     let slots = 2 * (pulses as usize);
-    let held = smaller(slots, lines::larger(ook, fsk));
-    smaller(held, domain::MAX_SLOTS)
-}
-
-// The smaller of two lengths.
-pub fn smaller(n: usize, m: usize) -> usize
-    ensures { result ≡ smaller_of n m }
-{
-    if m < n {
-        return m;
-    }
-    n
+    slots.min(ook.max(fsk)).min(domain::MAX_SLOTS)
 }
 
 // Whether a command is not made yet: nothing is left, or only the beginning of a command and more
-// may come.
+// may come. Each command has its own line, as in its definition, so that none waits by falling under another.
 pub fn waits(last: bool, k: Command) -> bool
     ensures { result ≡ Turn·waits last k }
 {
@@ -345,7 +242,9 @@ pub fn waits(last: bool, k: Command) -> bool
 
 // The turns of a block of bytes: each command's as soon as its own last byte is there, until the
 // next waits for more, the text has no room, or the stream ends. `last` says that no byte will come
-// after the block.
+// after the block. A turn goes on by as many bytes as its commands take, and has three reasons to be the last, so no index is
+// counted. The lane comes and goes by value: lent, it costs a call of an OOK stream 506
+// instructions in place of 487.
 pub fn block(
     lane: Lane,
     s: &[u8],
@@ -353,9 +252,10 @@ pub fn block(
     ook: &mut [u32],
     fsk: &mut [u32],
     text: &mut [u8],
-) -> Ran
+) -> (Lane, Ran)
     requires { Sound lane }
-    ensures { Streamed machine (lane, ook.old, fsk.old) s.now last (left_by result) (result.lane, ook.new, fsk.new) text.new × Sound result.lane }
+    ensures streamed { Streamed machine (lane, ook.old, fsk.old) s.now last result.1 (result.0, ook.new, fsk.new) text.new }
+    ensures sound { Sound result.0 }
 {
     let mut l = lane;
     let mut used = 0;
@@ -383,11 +283,11 @@ pub fn block(
         }
         used = t.used;
     }
-    Ran {
-        lane: l,
+    let ran = Ran {
         used,
         at,
         ended,
         full,
-    }
+    };
+    (l, ran)
 }

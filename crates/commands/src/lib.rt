@@ -3,13 +3,15 @@
 #![tactic(auto)]
 
 ghost use Rattle.std.specs.Prelude.{◌≡◌, ◌∷◌, ◌+◌, ◌≤◌, ◌<◌, length, drop, true};
-ghost use Rattle.commands.specs.Command.{pair_at, history_of, settings_of, opening_of, begin_args_of, step_args_of, decoded, open_size, size_of, is_step_of};
+ghost use Rattle.commands.specs.Command.{pair_at, history_of, settings_of, opening_of, begin_args_of, step_args_of, decoded, size_of, is_step_of};
 ghost use Rattle.commands.specs.declared.Command.TheVariants.{Step};
 
 use arith::C32;
 use lane::{BeginArgs, History, StepArgs};
 use shared::Settings;
 
+// What stands at a place of a stream. It is no `Result`: every reader takes a stream as a list of these,
+// where `End` and `Short` may wait for more bytes, and `Unknown` and `Short` are answered as calls are.
 #[derive(Clone, Copy)]
 pub enum Command {
     // Nothing is left.
@@ -27,12 +29,6 @@ pub enum Command {
 }
 
 // ---- operands
-
-fn wide(b: u8) -> u32
-    ensures { (result ≡ b) × (result < 256) }
-{
-    b as u32
-}
 
 fn pair_at(o: &[u8], i: usize) -> C32
     requires { i + 8 ≤ length o.now }
@@ -52,7 +48,7 @@ fn settings_of(o: &[u8]) -> Settings
     let fsk_delta = words::f32_at(o, 29);
     let fsk_split = words::f32_at(o, 33);
     Settings {
-        mode: wide(o[0]),
+        mode: u32::from(o[0]),
         min_steps: words::u32_at(o, 1),
         gap_steps: words::u32_at(o, 5),
         pre_timeout: words::u32_at(o, 9),
@@ -109,7 +105,8 @@ pub fn step_args(o: &[u8]) -> StepArgs
 
 // ---- commands
 
-// The bytes from a place on, none where there are not so many.
+// The bytes from a place on, none where there are not so many. As `s.get(a..).unwrap_or(&[])` it makes
+// the loop over the steps slower: 512 instructions for a call of an OOK stream in place of 498.
 pub fn after(s: &[u8], a: usize) -> &[u8]
     ensures { result.now ≡ drop a s.now }
 {
@@ -131,15 +128,14 @@ fn decode_open(o: &[u8], carries: bool) -> Command
         if o.len() < 38 {
             return Command::Short;
         }
-        let carry = wide(o[37]);
-        let mut n = p;
-        n.carry = carry;
-        return Command::Open(n, true);
+        let carry = u32::from(o[37]);
+        return Command::Open(Settings { carry, ..p }, true);
     }
     Command::Open(p, false)
 }
 
-// A command by its command byte and the bytes after that one.
+// A command by its command byte and the bytes after that one. As a `match` on the byte it makes the loop
+// over the steps slower: 528 instructions for a call of an OOK stream in place of 498.
 pub fn decode_by(b: u8, o: &[u8]) -> Command
     ensures { result ≡ decoded (b ∷ o.now) }
 {
@@ -197,10 +193,7 @@ pub fn is_step_at(s: &[u8], at: usize) -> bool
     ensures { result ≡ is_step_of (decoded (drop at s.now)) }
 {
     let u = after(s, at);
-    if u.len() < 25 {
-        return false;
-    }
-    u[0] == 3
+    u.len() >= 25 && u[0] == 3
 }
 
 // The operands of the step at a place of the bytes.
@@ -213,26 +206,16 @@ pub fn step_at(s: &[u8], at: usize) -> StepArgs
     step_args(o)
 }
 
-fn open_size(carries: bool) -> usize
-    ensures { result ≡ open_size carries }
-{
-    if carries {
-        return 39;
-    }
-    38
-}
-
 // How many bytes a command takes.
 pub fn size_of(k: Command) -> usize
     ensures { result ≡ size_of k }
 {
     match k {
-        Command::End => 0,
-        Command::Open(_, carries) => open_size(carries),
+        Command::End | Command::Unknown | Command::Short => 0,
+        Command::Open(_, true) => 39,
+        Command::Open(_, false) => 38,
         Command::Begin(_) => 61,
         Command::Step(_) => 25,
-        Command::Unknown => 0,
-        Command::Short => 0,
         Command::Close => 1,
     }
 }

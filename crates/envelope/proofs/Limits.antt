@@ -13,7 +13,7 @@ use Rattle.run.proofs.Limits.{sure_within}
 use Rattle.ook.specs.declared.Env.{Env}
 use Rattle.ook.specs.declared.Train.{Train}
 use Rattle.shared.specs.declared.Out.{Out}
-use Rattle.ook.specs.declared.Done.{Done}
+use Rattle.ook.specs.Types.{Done}
 use Rattle.shared.specs.declared.Settings.{Settings}
 use Rattle.shared.specs.declared.Next.TheVariants.{Idle, IdleAt}
 use Rattle.shared.specs.Params.{refine_at_of}
@@ -23,7 +23,7 @@ use Rattle.shared.proofs.Cases.{either}
 use Rattle.ook.proofs.Limits.{advance_within, close_gap_within, pulse_done_within, stay_within, end_within}
 use Rattle.envelope.specs.declared.At.{At}
 use Rattle.envelope.specs.declared.Seen.{Seen}
-use Rattle.envelope.specs.declared.Acted.{Acted}
+use Rattle.envelope.specs.Types.{Acted}
 use Rattle.envelope.specs.declared.Absence.{Absence}
 use Rattle.envelope.specs.See.{refine_due_of, see_of}
 use Rattle.envelope.specs.Act.{taken_of, confirm_if, rise_of, fall_of, confirm_of, act_of}

@@ -8,12 +8,12 @@ use Rattle.ook.specs.declared.Env.{Env}
 use Rattle.ook.specs.declared.Train.{Train}
 use Rattle.shared.specs.declared.Out.{Out}
 use Rattle.shared.specs.declared.Settings.{Settings}
-use Rattle.ook.specs.declared.Done.{Done}
+use Rattle.ook.specs.Types.{Done}
 use Rattle.run.specs.Run.{with_confirmed, due_of}
 use Rattle.ook.specs.Run.{with_run}
 use Rattle.ook.specs.Train.{with_first, with_bound, close_gap_of, pulse_done_of, stay_by}
 use Rattle.envelope.specs.declared.Seen.{Seen}
-use Rattle.envelope.specs.declared.Acted.{Acted}
+use Rattle.envelope.specs.Types.{Acted}
 
 -- `confirmed = 1`
 unfoldable pub confirm_if : Bool → Env → Env

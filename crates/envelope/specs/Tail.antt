@@ -4,7 +4,7 @@ use Rattle.run.specs.declared.Run.{Run}
 use Rattle.ook.specs.declared.Train.{Train}
 use Rattle.shared.specs.declared.Out.{Out}
 use Rattle.shared.specs.declared.Settings.{Settings}
-use Rattle.ook.specs.declared.Done.{Done}
+use Rattle.ook.specs.Types.{Done}
 use Rattle.shared.specs.declared.Next.TheVariants.{Idle, IdleAt}
 use Rattle.ook.specs.Train.{with_started, end_train_of, gap_ratio_exceeded_of, stay_by, end_by}
 use Rattle.envelope.specs.declared.Absence.{Absence}

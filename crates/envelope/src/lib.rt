@@ -41,21 +41,16 @@ pub struct Seen {
 }
 
 #[derive(Clone, Copy)]
-pub struct Acted {
+pub struct ActedOf<O> {
     pub next: Next,
     pub env: Env,
     pub train: Train,
-    pub out: Out,
+    pub out: O,
 }
 
-// The same in the core.
-#[derive(Clone, Copy)]
-pub struct ActedCore {
-    pub next: Next,
-    pub env: Env,
-    pub train: Train,
-    pub out: OutCore,
-}
+pub type Acted = ActedOf<Out>;
+
+pub type ActedCore = ActedOf<OutCore>;
 
 // What the end of a burst reads of presence.
 #[derive(Clone, Copy)]
@@ -74,6 +69,7 @@ const HYSTERESIS: f32 = 0.125;
 const HIGH_RATIO: f32 = 0.015625;
 
 // A level is left later than it is reached, so that noise at the threshold makes no runs.
+#[tactic(auto, unfolding(crate::specs::See::threshold_of))]
 fn threshold(level: u32, t: f32, h: f32) -> f32
     ensures { result ≡ threshold_of level t h }
 {
@@ -84,49 +80,33 @@ fn threshold(level: u32, t: f32, h: f32) -> f32
     t + h
 }
 
-fn on_of(level: u32, e: f32, thr: f32) -> bool
-    ensures { result ≡ on_of level e thr }
-{
-    let up = level == 1;
-    if up {
-        return e >= thr;
-    }
-    e > thr
-}
-
 // The edge of a run is refined once, when the run is long enough: a glitch is not refined.
+#[tactic(auto, unfolding(crate::specs::See::refine_due_of))]
 fn refine_due(min_steps: u32, a: At, ring: &[f32; 32], high: f32, on: bool, s: Env) -> Env
     ensures { result ≡ refine_due_of min_steps a ring.now high on s }
 {
-    let waits = s.ref_pending == 1;
-    if waits {
-        let long = s.run.run_len >= shared::refine_at(min_steps);
-        if long {
-            let t = ook::refine(ring, min_steps, high, a.noise, on, a.lead_at, a.idx, s);
-            let mut n = s;
-            n.ref_pending = 0;
-            n.run.t_run = t;
-            return n;
-        }
-        return s;
+    if s.ref_pending == 1 && s.run.run_len >= shared::refine_at(min_steps) {
+        let t = ook::refine(ring, min_steps, high, a.noise, on, a.lead_at, a.idx, s);
+        let mut n = s;
+        n.ref_pending = 0;
+        n.run.t_run = t;
+        return n;
     }
     s
 }
 
 // Only samples over the upper threshold move the signal level: those of an edge would pull it down.
+#[tactic(auto, unfolding(crate::specs::See::high_of))]
 fn high_of(on: bool, e: f32, upper: f32, high: f32) -> f32
     ensures { result ≡ high_of on e upper high }
 {
-    if on {
-        let above = e > upper;
-        if above {
-            return arith::flush_denormal(high + HIGH_RATIO * (e - high));
-        }
-        return high;
+    if on && e > upper {
+        return arith::flush_denormal(high + HIGH_RATIO * (e - high));
     }
     high
 }
 
+#[tactic(auto, unfolding(crate::specs::See::pac_of))]
 fn pac_of(on: bool, pac: C32, d: C32) -> C32
     ensures { result ≡ pac_of on pac d }
 {
@@ -140,6 +120,7 @@ fn pac_of(on: bool, pac: C32, d: C32) -> C32
 }
 
 // The level, the run, its refinement, the signal level and the pulse's sum, in the Rust's order.
+#[tactic(auto, unfolding(run::specs::Run::edge_at, run::specs::Run::is_high_of, crate::specs::See::on_of, crate::specs::See::see_of))]
 pub fn see(p: Settings, a: At, ring: &[f32; 32], high: f32, e_prev: f32, s: Env, pac: C32) -> Seen
     ensures { result ≡ see_of p a ring.now high e_prev s pac }
 {
@@ -147,9 +128,9 @@ pub fn see(p: Settings, a: At, ring: &[f32; 32], high: f32, e_prev: f32, s: Env,
     let h = t * HYSTERESIS;
     let level = s.run.level;
     let thr = threshold(level, t, h);
-    let on = on_of(level, a.e, thr);
+    let on = run::is_high(level == 1, a.e, thr);
     let r = s.run;
-    let same = shared::bit(on) == r.level;
+    let same = u32::from(on) == r.level;
     let short = r.confirmed == 0;
     let began = run::begins(same, short);
     let c = Crossing {
@@ -177,6 +158,7 @@ pub fn see(p: Settings, a: At, ring: &[f32; 32], high: f32, e_prev: f32, s: Env,
 
 // ---- act
 
+#[tactic(auto, unfolding(crate::specs::Act::confirm_if))]
 fn confirm_if(due: bool, s: Env) -> Env
     ensures { result ≡ confirm_if due s }
 {
@@ -189,6 +171,7 @@ fn confirm_if(due: bool, s: Env) -> Env
 }
 
 // The width of the run before, in the mode that carry gives; the train takes its boundary on.
+#[tactic(auto, unfolding(crate::specs::Act::rise_of))]
 fn rise(carry: u32, env: Env, t: Train, ook: &mut [u32]) -> Train
     ensures { (result, ook.new) ≡ rise_of carry env t ook.old }
 {
@@ -211,6 +194,7 @@ fn rise(carry: u32, env: Env, t: Train, ook: &mut [u32]) -> Train
     n
 }
 
+#[tactic(auto, unfolding(crate::specs::Act::fall_of))]
 fn fall(
     p: Settings,
     env: Env,
@@ -237,6 +221,7 @@ fn fall(
     }
 }
 
+#[tactic(auto, unfolding(crate::specs::Act::confirm_of))]
 fn confirm(
     due: bool,
     p: Settings,
@@ -269,12 +254,13 @@ fn confirm(
 }
 
 // A run that has lasted min_steps counts from this sample on.
+#[tactic(auto, unfolding(crate::specs::Act::act_of))]
 pub fn act(p: Settings, s: Seen, t: Train, out: OutCore, ook: &mut [u32]) -> ActedCore
     ensures { (whole_acted result, ook.new) ≡ act_of p s t (whole_out out) ook.old }
 {
     let v = s.env;
     let r = v.run;
-    let due = run::due(r, p.min_steps);
+    let due = r.due(p.min_steps);
     let env = confirm_if(due, v);
     let pac = s.pac;
     let d = confirm(due, p, s.on, v, t, pac, s.high, out, ook);
@@ -291,51 +277,25 @@ pub fn act(p: Settings, s: Seen, t: Train, out: OutCore, ook: &mut [u32]) -> Act
 
 // ---- tail
 
-fn carrier_of(on: bool, run_len: u32, long_steps: u32) -> bool
-    ensures { result ≡ carrier_of on run_len long_steps }
-{
-    if on {
-        return run_len > long_steps;
-    }
-    false
-}
-
+#[tactic(auto, unfolding(crate::specs::Tail::gone_of))]
 fn gone_of(on: bool, confirmed: u32, p_level: u32, p_confirmed: u32) -> bool
     ensures { result ≡ gone_of on confirmed p_level p_confirmed }
 {
-    if on {
-        return false;
-    }
-    let sure = confirmed == 1;
-    if sure {
-        let off = p_level == 0;
-        if off {
-            return p_confirmed == 1;
-        }
-        return false;
-    }
-    false
+    !on && confirmed == 1 && p_level == 0 && p_confirmed == 1
 }
 
+#[tactic(auto, unfolding(crate::specs::Tail::has_pulses_of))]
 fn has_pulses(t: Train) -> bool
     ensures { result ≡ has_pulses_of t }
 {
-    let started = t.started == 1;
-    if started {
-        return (t.ook_n as u64) + (t.open as u64) > 0;
-    }
-    false
+    t.started == 1 && u64::from(t.ook_n) + u64::from(t.open) > 0
 }
 
+#[tactic(auto, unfolding(crate::specs::Tail::gap_over_of))]
 fn gap_over(p: Settings, t: Train, n: u32) -> bool
     ensures { result ≡ gap_over_of p t n }
 {
-    let long = n > p.gap_steps;
-    if long {
-        return true;
-    }
-    let longest = t.longest;
-    ook::gap_ratio_exceeded(p.gap_ratio, longest, n)
+    n > p.gap_steps || ook::gap_ratio_exceeded(p.gap_ratio, t.longest, n)
 }
 
 fn limit(p: Settings, frames: u32) -> u32
@@ -348,6 +308,7 @@ fn limit(p: Settings, frames: u32) -> u32
     p.pre_timeout
 }
 
+#[tactic(auto, unfolding(crate::specs::Tail::wait_of))]
 fn wait(
     p: Settings,
     n: u32,
@@ -395,6 +356,7 @@ fn wait(
     }
 }
 
+#[tactic(auto, unfolding(crate::specs::Tail::tail_of, crate::specs::Tail::carrier_of))]
 pub fn tail(
     p: Settings,
     on: bool,
@@ -408,8 +370,7 @@ pub fn tail(
 ) -> DoneCore
     ensures { (whole_done result, ook.new) ≡ tail_of p on e r a high t (whole_out out) ook.old }
 {
-    let long = carrier_of(on, r.run_len, p.long_steps);
-    if long {
+    if on && r.run_len > p.long_steps {
         let d = ook::end_train(t, high, out, ook);
         let et = d.train;
         let eo = d.out;

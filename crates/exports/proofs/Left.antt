@@ -10,8 +10,9 @@ use Rattle.commands.specs.declared.Command.{Command}
 use Rattle.commands.specs.Command.{decoded, size_of}
 use Rattle.commands.specs.declared.Command.TheVariants.{End, Open, Begin, Step, Unknown, Short, Close}
 use Rattle.calls.specs.Turn.{State, Called, called, next, waits}
+use Rattle.stream.specs.declared.Ran.{Ran}
 use Rattle.stream.specs.Machine.{Turns, more}
-use Rattle.stream.specs.Blocks.{Left, Streamed, Stopped, ends, waiting, no_room as full}
+use Rattle.stream.specs.Blocks.{Streamed, Stopped, ends, waiting, no_room as full}
 use Rattle.calls.specs.Stream.{machine, listing}
 use Rattle.exports.specs.Left.{EndsAt, LeftWhole, Stops, ended, no_room, LeftWithin}
 
@@ -26,7 +27,7 @@ waits_none Unknown w = refl
 waits_none Short w = refl
 waits_none Close w = let z : ◌≡◌ {A = Bool} false true = w in cc
 
-module _ (s ook fsk x y text : List ℕ) (m : Lane) (r : Left) where
+module _ (s ook fsk x y text : List ℕ) (m : Lane) (r : Ran) where
   abbrev p : State
   p = (new_lane, ook, fsk)
 

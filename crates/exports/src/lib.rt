@@ -14,7 +14,9 @@ use lane::{Answer, Lane};
 
 // ---- the leaves
 
-// The lower half of x: a u32, or the pattern of an f32.
+// The leaves stay numbers: `leaf` is called from C and Rust by the number, and any other number has the answer 0.
+
+// The lower half of x: a u32, or the pattern of an f32. Here `as` is proved to lose no bits, so the half is taken before it.
 fn low(x: u64) -> u32
     ensures { result ≡ x % 2 ^ 32 }
 {
@@ -112,7 +114,7 @@ pub extern "C" fn lane_buffers(
     ensures { LeftWithin commands.now result ook.old fsk.old ook.new fsk.new text.new }
 {
     let l = lane::new_lane();
-    let r = calls::block(l, commands, true, ook, fsk, text);
+    let (_, r) = calls::block(l, commands, true, ook, fsk, text);
     r.used
 }
 
@@ -126,7 +128,8 @@ fn call(l: Lane, k: Command, ook: &mut [u32], fsk: &mut [u32]) -> Answer
     }
 }
 
-// As `lane_buffers`, with no lines, and each step by the entry that is lent the lane.
+// As `lane_buffers`, with no lines, and each step by the entry that is lent the lane. Each command goes on by its own length and
+// some end the loop, so there is no index or part of one size for a `for` to go through.
 #[unsafe(no_mangle)]
 pub extern "C" fn lane_buffers_lent(commands: &[u8], ook: &mut [u32], fsk: &mut [u32]) -> usize
     ensures { LeftWhole commands.now result ook.old fsk.old ook.new fsk.new }

@@ -1,3 +1,3 @@
--- The laws that proofs cite, here and in the crate above.
+-- The laws that the proofs of several functions cite.
 pub mod Passes
 pub mod Cases

@@ -1,91 +1,131 @@
--- A loop over the slots below `last` is a fold over the transitions: its start, a turn and its end.
+-- The loop of `transitions` over the slots: its start, a turn and its end; and what a call of it gives; `try_transitions` likewise.
 use Prim.Native.Nat.{ℕ, zero, suc, ◌+◌, ◌-◌, ◌<◌, ◌≤◌}
-use mathlib.Core.Bool.{Bool, true, false}
+use mathlib.Core.Bool.{Bool, true, false, cond}
 use mathlib.Core.List.{List, [], ◌∷◌}
-use mathlib.Core.Path.{◌≡◌, refl, sym, ap, ◌∙◌}
+use mathlib.Core.Path.{◌≡◌, refl, sym, ap, ◌∙◌, subst}
 use native.Mathlib.Omega.{arith}
 use native.Mathlib.Numerals.{add-one}
-use native.Mathlib.Nat.{sub-zero}
-use lib.ListN.{length, take, drop, get_or}
+use lib.ListN.{length, drop, get_or, drop_of_length-le}
 use lib.Seq.{drop-cons}
 use lib.Dec.{ltb}
+use borrow.Author.Tests.{lt-ltb, le-ltb}
 use lib.Ieee.{Float}
-use Rattle.fit.specs.Slots.{time_of, fix, slot_before, last_rise_below, also, times, up_to, fold, pick, turned}
-use Rattle.fit.specs.Fit.{check_step, no_check, answer_of, check_of}
-use Rattle.fit.specs.declared.Check.{Check}
-use Rattle.fit.specs.declared.Grid.TheVariants.{NoGrid, On}
+use Rattle.std.specs.List.{FoldsTo}
+use Rattle.std.specs.Prelude.{Option, Some, None, option_and_then}
+use Rattle.fit.specs.Slots.{time_of, fix, last_rise_below, also, times, fold, CallableInFold, IsSomeOf, TryFoldsTo}
 
--- what is left of the fold at the slot i, with the slot before it
-unfoldable pub rest : {S : Type 0} → (S → Float → S) → ℕ → List ℕ → ℕ → ℕ → S → S
-unfolding fold times
-rest f last slots i before s = fold f s (times before (take (last - i) (drop i slots)))
+-- ---- the transitions from the slot i on
+module _ (ends : List ℕ) (i before : ℕ) (h : i < length ends) where
+  next_slot : times before (drop i ends) ≡ also (ltb before (get_or ends i 0)) (time_of (fix (get_or ends i 0))) (times (get_or ends i 0) (drop (i + 1) ends))
+  unfolding times
+  next_slot = rw (drop-cons ends i 0 h, add-one i) refl
 
-module _ {S : Type 0} (f : S → Float → S) where
-  fold_also : (b : Bool) (x : Float) (xs : List Float) (s : S) → fold f s (also b x xs) ≡ fold f (pick b (f s x) s) xs
+  next_rise : ltb before (get_or ends i 0) ≡ true → times before (drop i ends) ≡ time_of (fix (get_or ends i 0)) ∷ times (get_or ends i 0) (drop (i + 1) ends)
+  next_rise e = next_slot ∙ ap (λ (b : Bool). also b (time_of (fix (get_or ends i 0))) (times (get_or ends i 0) (drop (i + 1) ends))) e
+
+  next_flat : ltb before (get_or ends i 0) ≡ false → times before (drop i ends) ≡ times (get_or ends i 0) (drop (i + 1) ends)
+  next_flat e = next_slot ∙ ap (λ (b : Bool). also b (time_of (fix (get_or ends i 0))) (times (get_or ends i 0) (drop (i + 1) ends))) e
+
+-- the invariant, where C says that the calls may be made and E what they give: each call that is left may be made, and what the calls
+-- that are left give the whole gives
+pub record Left {S R : Type 0} (C : S → List Float → Type 0) (E : S → List Float → R → Type 0) (first : S) (ends : List ℕ) (i before : ℕ) (s : S) : Type 0 where
+  pub callable : C s (times before (drop i ends))
+  pub same : (r : R) → E s (times before (drop i ends)) r → E first (times 0 ends) r
+
+pub left_start : {S R : Type 0} (C : S → List Float → Type 0) (E : S → List Float → R → Type 0) (first : S) (ends : List ℕ) → C first (times 0 ends) → Left C E first ends 0 0 first
+left_start C E first ends h = record { callable = h; same = λ r g. g }
+
+module _ {S R : Type 0} {C : S → List Float → Type 0} {E : S → List Float → R → Type 0} {first : S} {ends : List ℕ} {i before : ℕ} {s : S} (g : Left C E first ends i before s) where
+  calls : i < length ends → before < get_or ends i 0 → C s (time_of (fix (get_or ends i 0)) ∷ times (get_or ends i 0) (drop (i + 1) ends))
+  calls h l = subst (C s) (next_rise ends i before h (lt-ltb _ _ l)) g.callable
+
+  gives : i < length ends → before < get_or ends i 0 → (r : R) → E s (time_of (fix (get_or ends i 0)) ∷ times (get_or ends i 0) (drop (i + 1) ends)) r → E first (times 0 ends) r
+  gives h l r f = g.same r (subst (λ (xs : List Float). E s xs r) (sym (next_rise ends i before h (lt-ltb _ _ l))) f)
+
+  pub left_flat : i < length ends → get_or ends i 0 ≤ before → Left C E first ends (i + 1) (get_or ends i 0) s
+  left_flat h l =
+      let e : times before (drop i ends) ≡ times (get_or ends i 0) (drop (i + 1) ends) = next_flat ends i before h (le-ltb _ _ l) in
+      record { callable = subst (C s) e g.callable; same = λ r f. g.same r (subst (λ (xs : List Float). E s xs r) (sym e) f) }
+
+  pub left_end : (r : R) → length ends ≤ i → E s [] r → E first (times 0 ends) r
+  unfolding times
+  left_end r h f = g.same r (subst (λ (xs : List ℕ). E s (times before xs) r) (sym (drop_of_length-le ends h)) f)
+
+module _ {S R : Type 0} {pre : S → Float → Type 0} {some : S → Float → S → Type 0} {E : S → List Float → R → Type 0} {first : S} {ends : List ℕ} {i before : ℕ} {s : S} (g : Left (CallableInFold pre some) E first ends i before s) {x : Float} (h : i < length ends) (l : before < get_or ends i 0) (e : x ≡ time_of (fix (get_or ends i 0))) where
+  pub left_call : pre s x
+  left_call = rw e (calls g h l).0
+
+module _ {S : Type 0} {pre : S → Float → Type 0} {post : S → Float → S → Type 0} {first : S} {ends : List ℕ} {i before : ℕ} {s : S} (g : Left (CallableInFold pre post) (FoldsTo post) first ends i before s) {x : Float} (h : i < length ends) (l : before < get_or ends i 0) (e : x ≡ time_of (fix (get_or ends i 0))) where
+  pub left_rise : {r : S} → post s x r → Left (CallableInFold pre post) (FoldsTo post) first ends (i + 1) (get_or ends i 0) r
+  left_rise {r} p =
+      let q : post s (time_of (fix (get_or ends i 0))) r = subst (λ (z : Float). post s z r) e p in
+      record { callable = (calls g h l).1 r q; same = λ last f. gives g h l last (r, q, f) }
+
+module _ {S : Type 0} {pre : S → Float → Type 0} {post : S → Float → Option S → Type 0} {first : S} {ends : List ℕ} {i before : ℕ} {s : S} (g : Left (CallableInFold pre (IsSomeOf post)) (TryFoldsTo post) first ends i before s) {x : Float} (h : i < length ends) (l : before < get_or ends i 0) (e : x ≡ time_of (fix (get_or ends i 0))) where
+  at_slot : (o : Option S) → post s x o → post s (time_of (fix (get_or ends i 0))) o
+  at_slot o p = subst (λ (z : Float). post s z o) e p
+
+  pub left_try : (r : S) → post s x (Some r) → Left (CallableInFold pre (IsSomeOf post)) (TryFoldsTo post) first ends (i + 1) (get_or ends i 0) r
+  left_try r p = record { callable = (calls g h l).1 r (at_slot (Some r) p); same = λ last f. gives g h l last (Some r, at_slot (Some r) p, f) }
+
+  pub left_stop : post s x None → TryFoldsTo post first (times 0 ends) None
+  left_stop p = gives g h l None (None, at_slot None p, refl)
+
+-- ---- a call of `transitions` or `try_transitions` whose step is a function
+pub callable : {S : Type 0} (pre : S → Float → Type 0) (post : S → Float → S → Type 0) → ((s : S) (x : Float) → pre s x) → (s : S) (xs : List Float) → CallableInFold pre post s xs
+callable pre post h s [] = tt
+callable pre post h s (x ∷ xs) = (h s x, λ r p. callable pre post h r xs)
+
+pub folded : {S : Type 0} (post : S → Float → S → Type 0) (f : S → Float → S) → ((s : S) (x : Float) (r : S) → post s x r → r ≡ f s x)
+    → (s : S) (xs : List Float) (r : S) → FoldsTo post s xs r → r ≡ fold f s xs
+unfolding fold
+folded post f h s [] r e = sym e
+folded post f h s (x ∷ xs) r (q, p, e) = folded post f h q xs r e ∙ ap (λ z. fold f z xs) (h s x q p)
+
+module _ {S : Type 0} (f : S → Float → Option S) where
+  abbrev on : Option S → Float → Option S
+  on o x = option_and_then (λ s. f s x) o
+
+  none_on : (xs : List Float) → fold on None xs ≡ None
   unfolding fold
-  fold_also true x xs s = refl
-  fold_also false x xs s = refl
+  none_on [] = refl
+  none_on (x ∷ xs) = none_on xs
 
-  rest_end : (last : ℕ) (slots : List ℕ) (i before : ℕ) (s : S) → last ≤ i → rest f last slots i before s ≡ s
-  unfolding rest times fold
-  rest_end last slots i before s h = let e : last - i ≡ 0 = omega arith in rw e
-
-  rest_turn : (last : ℕ) (slots : List ℕ) (i before : ℕ) (s : S) → i < last → last ≤ length slots
-      → rest f last slots i before s ≡ rest f last slots (i + 1) (get_or slots i 0) (turned f before (get_or slots i 0) s)
-  unfolding rest times turned
-  rest_turn last slots i before s h k =
-      let e : last - i ≡ suc (last - (i + 1)) = omega arith in
-      let l : i < length slots = omega arith in
-      rw (e, drop-cons slots i 0 l, ← add-one i) (fold_also (ltb before (get_or slots i 0)) (time_of (fix (get_or slots i 0))) (times (get_or slots i 0) (take (last - (i + 1)) (drop (i + 1) slots))) s)
-
--- the invariant of a loop from the state s₀: what is left of the fold is the whole fold
-pub record Left {S : Type 0} (f : S → Float → S) (s₀ : S) (last : ℕ) (slots : List ℕ) (i before : ℕ) (s : S) : Type 0 where
-  pub same : rest f last slots i before s ≡ fold f s₀ (up_to last slots)
-  pub within : i ≤ last
-
-pub left_start : {S : Type 0} (f : S → Float → S) (s₀ : S) (last : ℕ) (slots : List ℕ) → Left f s₀ last slots 0 0 s₀
-unfolding rest up_to
-left_start f s₀ last slots = record { same = simp sub-zero; within = omega arith }
-
-module _ {S : Type 0} {f : S → Float → S} {s₀ : S} {last : ℕ} {slots : List ℕ} {i before : ℕ} {s : S} (g : Left f s₀ last slots i before s) where
-  pub left_turn : {r : S} → i < last → last ≤ length slots → r ≡ turned f before (get_or slots i 0) s → Left f s₀ last slots (i + 1) (get_or slots i 0) r
-  left_turn h k e = record { same = rw e (sym (rest_turn f last slots i before s h k) ∙ g.same); within = omega arith }
-
-  pub left_end : last ≤ i → s ≡ fold f s₀ (up_to last slots)
-  left_end h = sym (rest_end f last slots i before s h) ∙ g.same
+  pub tried : (post : S → Float → Option S → Type 0) → ((s : S) (x : Float) (r : Option S) → post s x r → r ≡ f s x)
+      → (s : S) (xs : List Float) (r : Option S) → TryFoldsTo post s xs r → r ≡ fold on (Some s) xs
+  unfolding fold
+  tried post h s [] r e = e
+  tried post h s (x ∷ xs) r (None, p, e) = e ∙ sym (none_on xs) ∙ ap (λ (o : Option S). fold on o xs) (h s x None p)
+  tried post h s (x ∷ xs) r (Some q, p, e) = tried post h q xs r e ∙ ap (λ (o : Option S). fold on o xs) (h s x (Some q) p)
 
 -- ---- the last rise, from the end
-pub slot_at : (slots : List ℕ) (i : ℕ) → (i ≡ 0 → ⊥) → get_or slots (i - 1) 0 ≡ slot_before 0 slots i
-slot_at slots zero h = absurd (h refl)
-slot_at slots (suc j) h = let e : suc j - 1 ≡ j = omega arith in rw e
+module _ (slots : List ℕ) where
+  pub last_here : (n i k : ℕ) → i ≡ n - 1 → k ≡ i - 1 → 1 < n → get_or slots k 0 < get_or slots i 0 → i ≡ last_rise_below slots n
+  unfolding last_rise_below
+  last_here zero i k p q h l = omega arith
+  last_here (suc zero) i k p q h l = omega arith
+  last_here (suc (suc j)) i k p q h l =
+      let u : i ≡ suc j = omega arith in
+      let v : k ≡ j = omega arith in
+      let e : ltb (get_or slots j 0) (get_or slots (suc j) 0) ≡ true = subst (λ (z : ℕ). ltb (get_or slots j 0) (get_or slots z 0) ≡ true) u (subst (λ (z : ℕ). ltb (get_or slots z 0) (get_or slots i 0) ≡ true) v (lt-ltb _ _ l)) in
+      u ∙ sym (rw e refl)
 
-pub last_here : (slots : List ℕ) (n i : ℕ) → i ≡ n - 1 → 0 < n → ltb (slot_before 0 slots i) (get_or slots i 0) ≡ true → i ≡ last_rise_below slots n
-unfolding last_rise_below
-last_here slots zero i e h t = omega arith
-last_here slots (suc n) i e h t = let q : i ≡ n = omega arith in sym (rw (← q, t))
+  pub last_lower : (n i k : ℕ) → i ≡ n - 1 → k ≡ i - 1 → 1 < n → get_or slots i 0 ≤ get_or slots k 0 → last_rise_below slots i ≡ last_rise_below slots n
+  unfolding last_rise_below
+  last_lower zero i k p q h l = omega arith
+  last_lower (suc zero) i k p q h l = omega arith
+  last_lower (suc (suc j)) i k p q h l =
+      let u : i ≡ suc j = omega arith in
+      let v : k ≡ j = omega arith in
+      let e : ltb (get_or slots j 0) (get_or slots (suc j) 0) ≡ false = subst (λ (z : ℕ). ltb (get_or slots j 0) (get_or slots z 0) ≡ false) u (subst (λ (z : ℕ). ltb (get_or slots z 0) (get_or slots i 0) ≡ false) v (le-ltb _ _ l)) in
+      ap (last_rise_below slots) u ∙ sym (rw e refl)
 
-pub last_lower : (slots : List ℕ) (n i : ℕ) → i ≡ n - 1 → 0 < n → ltb (slot_before 0 slots i) (get_or slots i 0) ≡ false → last_rise_below slots i ≡ last_rise_below slots n
-unfolding last_rise_below
-last_lower slots zero i e h t = omega arith
-last_lower slots (suc n) i e h t = let q : i ≡ n = omega arith in sym (rw (← q, t))
-
-pub last_none : (slots : List ℕ) (n : ℕ) → n ≤ 0 → last_rise_below slots n ≡ 0
-unfolding last_rise_below
-last_none slots zero h = refl
-last_none slots (suc n) h = omega arith
-
--- ---- a check that failed stays failed
-fails_on : (a t : Float) (c : Check) (ts : List Float) → c.ok ≡ false → (fold (check_step a t) c ts).ok ≡ false
-unfolding fold check_step
-fails_on a t c [] h = h
-fails_on a t c (x ∷ xs) h = fails_on a t (check_step a t c x) xs (simp h)
-
-module _ (a t : Float) {last : ℕ} {slots : List ℕ} {i before : ℕ} {c : Check} (g : Left (check_step a t) no_check last slots i before c) where
-  pub check_fails : {d : Check} → i < last → last ≤ length slots → d ≡ turned (check_step a t) before (get_or slots i 0) c → d.ok ≡ false → NoGrid ≡ check_of (up_to last slots) a t
-  unfolding rest check_of answer_of
-  check_fails {d} h k e f =
-      sym (simp (ap (λ (z : Check). z.ok) (sym (left_turn g h k e).same) ∙ fails_on a t d (times (get_or slots i 0) (take (last - (i + 1)) (drop (i + 1) slots))) f))
-
-  pub check_passes : last ≤ i → c.ok ≡ true → On a t c.cost ≡ check_of (up_to last slots) a t
-  unfolding check_of answer_of
-  check_passes h f = rw (← left_end g h, f)
+  pub last_none : (n : ℕ) → n ≤ 1 → 0 ≡ last_rise_below slots n
+  unfolding last_rise_below
+  last_none zero h = refl
+  last_none (suc zero) h = go (ltb 0 (get_or slots 0 0))
+    where
+      go : (b : Bool) → ◌≡◌ {A = ℕ} 0 (cond b 0 0)
+      go true = refl
+      go false = refl
+  last_none (suc (suc j)) h = omega arith

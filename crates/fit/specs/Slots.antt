@@ -1,5 +1,5 @@
 -- The slots of a frame and its transitions (document 01, "Grid"; `transitions` of the Rust). A slot holds the end of a run, in 64ths of a step after the frame's start.
-use Rattle.std.specs.Prelude.{ℕ, zero, suc, Bool, true, false, cond, List, [], ◌∷◌, length, take, get_or, ltb, pos, Float}
+use Rattle.std.specs.Prelude.{ℕ, zero, suc, Bool, true, false, cond, List, [], ◌∷◌, length, take, get_or, ltb, pos, Float, Option, Some, None, MatchOption, ◌≡◌, ⊤}
 use Rattle.std.specs.Float.{binary64}
 use Rattle.std.specs.Float.Ieee.{div, of_int}
 use Rattle.arith.specs.Leaves.{run_fix}
@@ -50,10 +50,16 @@ unfoldable pub fold : {S : Type 0} → (S → Float → S) → S → List Float 
 fold f s [] = s
 fold f s (x ∷ xs) = fold f (f s x) xs
 
-abbrev pub pick : {S : Type 0} → Bool → S → S → S
-pick true a b = a
-pick false a b = b
+-- what each call asks, at each transition and whatever the calls before it returned
+abbrev pub CallableInFold : {S : Type 0} → (S → Float → Type 0) → (S → Float → S → Type 0) → S → List Float → Type 0
+CallableInFold pre post s [] = ⊤
+CallableInFold {S} pre post s (x ∷ xs) = pre s x × ((r : S) → post s x r → CallableInFold pre post r xs)
 
--- what a slot does to the fold: one turn of a loop over the slots
-unfoldable pub turned : {S : Type 0} → (S → Float → S) → ℕ → ℕ → S → S
-turned f before v s = pick (ltb before v) (f s (time_of (fix v))) s
+-- a call that gives a state to go on from
+abbrev pub IsSomeOf : {S : Type 0} → (S → Float → Option S → Type 0) → S → Float → S → Type 0
+IsSomeOf post s x r = post s x (Some r)
+
+-- calls over the transitions up to the first that gives none, which is then the result
+abbrev pub TryFoldsTo : {S : Type 0} → (S → Float → Option S → Type 0) → S → List Float → Option S → Type 0
+TryFoldsTo post s [] r = r ≡ Some s
+TryFoldsTo {S} post s (x ∷ xs) r = (o : Option S) × post s x o × MatchOption o (r ≡ None) (λ q. TryFoldsTo post q xs r)

@@ -3,10 +3,10 @@ use Rattle.std.specs.Prelude.{List, Float}
 use Rattle.shared.specs.Core.{whole_out}
 use Rattle.fsk.specs.Core.{whole_frame}
 use Rattle.frame_end.specs.Done.{body_of}
-use Rattle.frame_end.specs.declared.Framed.{Framed}
-use Rattle.frame_end.specs.declared.FramedCore.{FramedCore}
-use Rattle.frame_end.specs.declared.Body.{Body}
-use Rattle.frame_end.specs.declared.BodyCore.{BodyCore}
+use Rattle.frame_end.specs.Types.{Framed}
+use Rattle.frame_end.specs.Types.{FramedCore}
+use Rattle.frame_end.specs.Types.{Body}
+use Rattle.frame_end.specs.Types.{BodyCore}
 
 abbrev pub whole_framed : List Float → FramedCore → Framed
 whole_framed cs f = record { is_fsk = f.is_fsk; frame = whole_frame cs f.frame; out = whole_out f.out }

@@ -6,7 +6,7 @@ use Rattle.arith.specs.Leaves.{step_of}
 use Rattle.ook.specs.Train.{with_pairs, with_end, empty_train_of, end_train_of}
 use Rattle.ook.specs.declared.Train.{Train}
 use Rattle.shared.specs.declared.Out.{Out}
-use Rattle.ook.specs.declared.Ended.{Ended}
+use Rattle.ook.specs.Types.{Ended}
 use Rattle.frame_end.specs.declared.Kept.{Kept}
 
 abbrev pub f64_of : ℕ → Float

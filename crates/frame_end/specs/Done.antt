@@ -4,13 +4,13 @@ use Rattle.arith.specs.declared.C32.{C32}
 use Rattle.shared.specs.Counts.{sat_add_of}
 use Rattle.ook.specs.declared.Train.{Train}
 use Rattle.shared.specs.declared.Out.{Out}
-use Rattle.ook.specs.declared.Ended.{Ended}
+use Rattle.ook.specs.Types.{Ended}
 use Rattle.shared.specs.declared.Settings.{Settings}
-use Rattle.fsk.specs.declared.Frame.{Frame}
+use Rattle.fsk.specs.Types.{Frame}
 use Rattle.frame_end.specs.End.{end_frame_of}
 use Rattle.frame_end.specs.Cut.{cut_train_of}
-use Rattle.frame_end.specs.declared.Framed.{Framed}
-use Rattle.frame_end.specs.declared.Body.{Body}
+use Rattle.frame_end.specs.Types.{Framed}
+use Rattle.frame_end.specs.Types.{Body}
 
 abbrev pub body_of : Frame → Train → ℕ → Out → Out → Body
 body_of frame train frames out_ook out_fsk = record { frame = frame; train = train; frames = frames; out_ook = out_ook; out_fsk = out_fsk }
@@ -29,7 +29,7 @@ cut_body b f fsk q = (body_of f.frame q.0.train (sat_add_of b.frames 1) q.0.out 
 
 abbrev pub frame_done_by : Settings → Body → Float → Float → List ℕ → Framed × List ℕ → Body × List ℕ × List ℕ
 frame_done_by p b high start ook q =
-    cond (q.0.is_fsk == 1)
+    cond q.0.is_fsk
     (cond (p.mode == 2)
     (cut_body b q.0 q.1 (cut_train_of b.train high b.out_ook start ook))
     (with_framed q.0 (sat_add_of b.frames 1) b, ook, q.1))

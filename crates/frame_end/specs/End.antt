@@ -14,8 +14,8 @@ use Rattle.fsk.specs.Makers.{with_pairs, with_done}
 use Rattle.fsk.specs.Commit.{put_end_of, fsk_commit_of}
 use Rattle.fsk.specs.declared.Committed.{Committed}
 use Rattle.fsk.specs.declared.Runs.{Runs}
-use Rattle.fsk.specs.declared.Frame.{Frame}
-use Rattle.frame_end.specs.declared.Framed.{Framed}
+use Rattle.fsk.specs.Types.{Frame}
+use Rattle.frame_end.specs.Types.{Framed}
 
 -- split: the two levels are known, and far enough from each other
 unfoldable pub is_split_of : ℕ → Float → Float → Float → Bool
@@ -71,7 +71,7 @@ out_of start end c high carrier =
 abbrev pub framed_by : Frame → Float → C32 → Float → Float → Committed × List ℕ → Framed × List ℕ
 framed_by fr high pac start end q = (
   record {
-    is_fsk = 1;
+    is_fsk = true;
     frame = with_done q.0 fr;
     out = out_of start end q.0 high (carrier_of fr.fsk_phase fr.levels.f_hi fr.levels.f_lo pac);
   },
@@ -85,4 +85,4 @@ unfoldable pub end_frame_of : Settings → Frame → Float → C32 → Float →
 end_frame_of p fr high pac start end out fsk =
     cond (is_frame_of p.mode (is_split_of fr.fsk_phase fr.levels.f_hi fr.levels.f_lo p.fsk_split) (enough_runs_of fr.done.fsk_runs fr.runs.fsk_has_prev))
     (framed_by fr high pac start end (close_by (last_run_of p.max_pulses fr.fsk_phase fr.runs fr.done end fsk)))
-    (record { is_fsk = 0; frame = fr; out = out }, fsk)
+    (record { is_fsk = false; frame = fr; out = out }, fsk)

@@ -1,4 +1,5 @@
 -- The definitions that the contracts of a frame's end cite.
+pub mod Types
 pub mod End
 pub mod Cut
 pub mod Done

@@ -11,17 +11,21 @@ ghost use Rattle.fsk.specs.Core.{whole_frame};
 ghost use Rattle.frame_end.specs.Core.{whole_framed, whole_body};
 
 use arith::C32;
-use fsk::{Committed, Frame, FrameCore, Runs};
+use fsk::{Cand, CandCore, Committed, FrameCore, FrameOf, Runs};
 use ook::{EndedCore, Train};
 use shared::{Flat, Out, OutCore, Settings};
 
 // Whether a presence was a frame, the frame, and the record of frames.
 #[derive(Clone, Copy)]
-pub struct Framed {
-    pub is_fsk: u32,
-    pub frame: Frame,
-    pub out: Out,
+pub struct FramedOf<C, O> {
+    pub is_fsk: bool,
+    pub frame: FrameOf<C>,
+    pub out: O,
 }
+
+pub type Framed = FramedOf<Cand, Out>;
+
+pub type FramedCore = FramedOf<CandCore, OutCore>;
 
 // Where the pulses before a frame end: the time after the last kept one and its gap, how many, and one past the last.
 #[derive(Clone, Copy)]
@@ -33,66 +37,41 @@ pub struct Kept {
 
 // What the end of a frame may change.
 #[derive(Clone, Copy)]
-pub struct Body {
-    pub frame: Frame,
+pub struct BodyOf<C, O> {
+    pub frame: FrameOf<C>,
     pub train: Train,
     pub frames: u32,
-    pub out_ook: Out,
-    pub out_fsk: Out,
+    pub out_ook: O,
+    pub out_fsk: O,
 }
 
-// The two in the core.
-#[derive(Clone, Copy)]
-pub struct FramedCore {
-    pub is_fsk: u32,
-    pub frame: FrameCore,
-    pub out: OutCore,
-}
+pub type Body = BodyOf<Cand, Out>;
 
-#[derive(Clone, Copy)]
-pub struct BodyCore {
-    pub frame: FrameCore,
-    pub train: Train,
-    pub frames: u32,
-    pub out_ook: OutCore,
-    pub out_fsk: OutCore,
-}
+pub type BodyCore = BodyOf<CandCore, OutCore>;
 
+#[tactic(auto, unfolding(crate::specs::End::is_split_of))]
 fn is_split(phase: u32, hi: f32, lo: f32, least: f32) -> bool
     ensures { result ≡ is_split_of phase hi lo least }
 {
-    let after = phase == 1;
-    if after {
-        return hi - lo >= least;
-    }
-    false
+    phase == 1 && hi - lo >= least
 }
 
+#[tactic(auto, unfolding(crate::specs::End::enough_runs_of, shared::specs::Counts::inc))]
 fn enough_runs(runs: u32, has: u32) -> bool
     ensures { result ≡ enough_runs_of runs has }
 {
-    let n = std::num::wrapping_add_u32(shared::inc(runs), has);
-    n >= 4
+    runs.wrapping_add(1).wrapping_add(has) >= 4
 }
 
+#[tactic(auto, unfolding(crate::specs::End::is_frame_of))]
 fn is_frame(mode: u32, split: bool, enough: bool) -> bool
     ensures { result ≡ is_frame_of mode split enough }
 {
-    let never = mode == 0;
-    if never {
-        return false;
-    }
-    let always = mode == 1;
-    if always {
-        return true;
-    }
-    if split {
-        return enough;
-    }
-    false
+    mode != 0 && (mode == 1 || split && enough)
 }
 
 // The last run of the frame is committed, up to end.
+#[tactic(auto, unfolding(crate::specs::End::last_run_of))]
 fn last_run(max: u32, phase: u32, r: Runs, c: Committed, end: f64, fsk: &mut [u32]) -> Committed
     ensures { (result, fsk.new) ≡ last_run_of max phase r c end fsk.old }
 {
@@ -108,13 +87,14 @@ fn last_run(max: u32, phase: u32, r: Runs, c: Committed, end: f64, fsk: &mut [u3
     fsk::fsk_commit(max, c, upper, r.run.t_run, end, fsk)
 }
 
+#[tactic(auto, unfolding(crate::specs::End::close_pair_of, shared::specs::Counts::inc))]
 fn close_pair(c: Committed, fsk: &mut [u32]) -> Committed
     ensures { (result, fsk.new) ≡ close_pair_of c fsk.old }
 {
     let waits = c.fsk_open == 1;
     if waits {
         fsk::put_end(fsk, 2 * (c.fsk_n as usize) + 1, c.f_origin, c.f_last);
-        let n = shared::inc(c.fsk_n);
+        let n = c.fsk_n.wrapping_add(1);
         let mut d = c;
         d.fsk_n = n;
         d.fsk_open = 0;
@@ -123,7 +103,7 @@ fn close_pair(c: Committed, fsk: &mut [u32]) -> Committed
     c
 }
 
-// The first n slots become widths; none where there are not so many.
+// The first n slots become widths; none where there are not so many. A test of the length, as in shared::put.
 fn widths_in(fsk: &mut [u32], n: usize)
     ensures { fsk.new ≡ widths_in_of n fsk.old }
 {
@@ -132,23 +112,25 @@ fn widths_in(fsk: &mut [u32], n: usize)
     }
 }
 
+#[tactic(auto, unfolding(crate::specs::End::carrier_of))]
 fn carrier_of(phase: u32, hi: f32, lo: f32, pac: C32) -> Flat
     ensures { carrier_in result ≡ carrier_of phase hi lo pac }
 {
     let after = phase == 1;
     if after {
         let m = arith::midpoint(hi, lo);
-        return shared::angle(m);
+        return Flat::angle(m);
     }
-    shared::vector(pac.re, pac.im)
+    Flat::vector(pac.re, pac.im)
 }
 
+#[tactic(auto, unfolding(crate::specs::End::out_of))]
 fn out_of(start: f64, end: f64, c: Committed, high: f32, carrier: Flat) -> OutCore
     ensures { whole_out result ≡ out_of start end c high (carrier_in carrier) }
 {
     let i = arith::step_of(start);
     let e = arith::step_of(end);
-    let cut = shared::bit(c.fsk_full == 1);
+    let cut = u32::from(c.fsk_full == 1);
     OutCore {
         index: i,
         end: e,
@@ -161,6 +143,7 @@ fn out_of(start: f64, end: f64, c: Committed, high: f32, carrier: Flat) -> OutCo
     }
 }
 
+#[tactic(auto, unfolding(crate::specs::End::end_frame_of))]
 pub fn end_frame(
     p: Settings,
     fr: FrameCore,
@@ -187,13 +170,13 @@ pub fn end_frame(
         let mut n = fr;
         n.done = c2;
         return FramedCore {
-            is_fsk: 1,
+            is_fsk: true,
             frame: n,
             out: o,
         };
     }
     FramedCore {
-        is_fsk: 0,
+        is_fsk: false,
         frame: fr,
         out,
     }
@@ -202,12 +185,10 @@ pub fn end_frame(
 fn get(s: &[u32], i: usize) -> u32
     ensures { result ≡ slice_index s.now i }
 {
-    if i < s.len() {
-        return s[i];
-    }
-    0
+    s.get(i).copied().unwrap_or(0)
 }
 
+#[tactic(auto, unfolding(crate::specs::Cut::gap_at_of))]
 fn gap_at(ook: &[u32], n: u32, k: u32) -> u32
     ensures { result ≡ gap_at_of ook.now n k }
 {
@@ -218,12 +199,13 @@ fn gap_at(ook: &[u32], n: u32, k: u32) -> u32
     0
 }
 
+#[tactic(auto, unfolding(crate::specs::Cut::keep_next_of))]
 fn keep_next(s: Kept, k: u32, pulse: u32, gap: u32) -> Kept
     requires { k < 4294967295 }
     ensures { result ≡ keep_next_of s k pulse gap }
 {
-    let w = arith::u64_to_f64(pulse as u64);
-    let g = arith::u64_to_f64(gap as u64);
+    let w = arith::u64_to_f64(u64::from(pulse));
+    let g = arith::u64_to_f64(u64::from(gap));
     let e = arith::step_of(s.t + w);
     Kept {
         t: s.t + (w + g),
@@ -232,6 +214,7 @@ fn keep_next(s: Kept, k: u32, pulse: u32, gap: u32) -> Kept
     }
 }
 
+#[tactic(auto, unfolding(crate::specs::Cut::start_kept_of))]
 fn start_kept(from: u64) -> Kept
     ensures { result ≡ start_kept_of from }
 {
@@ -248,31 +231,29 @@ fn keep_before(ook: &[u32], n: u32, total: u32, from: u64, limit: f64) -> Kept
     ensures { result ≡ keep_before_of ook.now n total from limit }
 {
     let mut s = start_kept(from);
-    let mut k: u32 = 0;
-    while k < total {
-        let over = s.t >= limit;
-        if over {
-            return s;
+    for k in 0..total {
+        if s.t >= limit {
+            break;
         }
         let pulse = get(ook, 2 * (k as usize));
         let gap = gap_at(ook, n, k);
         s = keep_next(s, k, pulse, gap);
-        k = k + 1;
     }
     s
 }
 
+#[tactic(auto, unfolding(crate::specs::Cut::cut_train_of))]
 pub fn cut_train(t: Train, high: f32, out: OutCore, start: f64, ook: &mut [u32]) -> EndedCore
     ensures { (whole_ended result, ook.new) ≡ cut_train_of t high (whole_out out) start ook.old }
 {
-    let total = std::num::wrapping_add_u32(t.ook_n, t.open);
+    let total = t.ook_n.wrapping_add(t.open);
     let k = keep_before(ook, t.ook_n, total, t.start, start - 2.0);
     let none = k.keep == 0;
     if none {
         let z = ook::empty_train(t);
         return EndedCore { train: z, out };
     }
-    let m = fsk::sat_sub32(k.keep, 1);
+    let m = k.keep.saturating_sub(1);
     let mut n = t;
     n.ook_n = m;
     n.open = 1;
@@ -280,6 +261,7 @@ pub fn cut_train(t: Train, high: f32, out: OutCore, start: f64, ook: &mut [u32])
     ook::end_train(n, high, out, ook)
 }
 
+#[tactic(auto, unfolding(crate::specs::Done::frame_done_of, shared::specs::Counts::sat_add_of))]
 pub fn frame_done(
     p: Settings,
     b: BodyCore,
@@ -300,9 +282,8 @@ pub fn frame_done(
     let mut n = b;
     n.frame = ff;
     n.out_fsk = fo;
-    let yes = f.is_fsk == 1;
-    if yes {
-        let k = shared::sat_add(b.frames, 1);
+    if f.is_fsk {
+        let k = b.frames.saturating_add(1);
         n.frames = k;
         let auto = p.mode == 2;
         if auto {

@@ -3,8 +3,8 @@ use Rattle.std.specs.Prelude.{List, Float}
 use Rattle.fsk.specs.Makers.{cand_of, frame_of}
 use Rattle.fsk.specs.declared.Cand.{Cand}
 use Rattle.fsk.specs.declared.CandCore.{CandCore}
-use Rattle.fsk.specs.declared.Frame.{Frame}
-use Rattle.fsk.specs.declared.FrameCore.{FrameCore}
+use Rattle.fsk.specs.Types.{Frame}
+use Rattle.fsk.specs.Types.{FrameCore}
 
 abbrev pub whole_cand : List Float → CandCore → Cand
 whole_cand cs c = cand_of cs c.cand_before c.fsk_cand

@@ -9,7 +9,7 @@ use Rattle.fsk.specs.declared.Mean.{Mean}
 use Rattle.fsk.specs.declared.Cand.{Cand}
 use Rattle.fsk.specs.declared.Early.{Early}
 use Rattle.fsk.specs.declared.Tone.{Tone}
-use Rattle.fsk.specs.declared.Frame.{Frame}
+use Rattle.fsk.specs.Types.{Frame}
 
 abbrev pub committed_of : Float → Float → ℕ → ℕ → ℕ → ℕ → Committed
 committed_of f_origin f_last fsk_open fsk_n fsk_runs fsk_full =

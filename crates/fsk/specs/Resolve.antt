@@ -15,7 +15,7 @@ use Rattle.fsk.specs.declared.Levels.{Levels}
 use Rattle.fsk.specs.declared.Cand.{Cand}
 use Rattle.fsk.specs.declared.Early.{Early}
 use Rattle.fsk.specs.declared.Tone.{Tone}
-use Rattle.fsk.specs.declared.Frame.{Frame}
+use Rattle.fsk.specs.Types.{Frame}
 use Rattle.fsk.specs.declared.Turn.{Turn}
 use Rattle.fsk.specs.declared.Opening.{Opening}
 

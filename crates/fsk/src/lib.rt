@@ -35,12 +35,15 @@ pub struct Cand {
     pub fsk_cand: u32,
 }
 
-// The same in the core: the candidates are an array of their own there, which is lent where one is stored or read.
+// The same in the core: the candidates are an array of their own there, which is lent where one is stored or read. A field less, so no
+// type parameter joins the two.
 #[derive(Clone, Copy)]
 pub struct CandCore {
     pub cand_before: f32,
     pub fsk_cand: u32,
 }
+
+// Flags in the structs below are numbers, as in shared::Settings.
 
 // The mean before the last restart of the first level, its time, and whether there was one.
 #[derive(Clone, Copy)]
@@ -75,31 +78,22 @@ pub struct Committed {
     pub fsk_full: u32,
 }
 
-// The frame under way; fsk_phase is 0 before its first transition, and 1 after.
+// The frame under way, a caller's or the core's (ook::EndedOf); fsk_phase is 0 before its first transition, and 1 after.
 #[derive(Clone, Copy)]
-pub struct Frame {
+pub struct FrameOf<C> {
     pub tone: Tone,
     pub fsk_phase: u32,
     pub mean: Mean,
-    pub cand: Cand,
+    pub cand: C,
     pub early: Early,
     pub levels: Levels,
     pub runs: Runs,
     pub done: Committed,
 }
 
-// The same in the core.
-#[derive(Clone, Copy)]
-pub struct FrameCore {
-    pub tone: Tone,
-    pub fsk_phase: u32,
-    pub mean: Mean,
-    pub cand: CandCore,
-    pub early: Early,
-    pub levels: Levels,
-    pub runs: Runs,
-    pub done: Committed,
-}
+pub type Frame = FrameOf<Cand>;
+
+pub type FrameCore = FrameOf<CandCore>;
 
 // The runs after a step, and what is committed.
 #[derive(Clone, Copy)]
@@ -122,6 +116,7 @@ pub struct Opening {
     pub done: Committed,
 }
 
+#[tactic(auto, unfolding(crate::specs::Commit::origin_of))]
 fn origin_of(runs: u32, a: f64, origin: f64) -> f64
     ensures { result ≡ origin_of runs a origin }
 {
@@ -132,11 +127,12 @@ fn origin_of(runs: u32, a: f64, origin: f64) -> f64
     origin
 }
 
+#[tactic(auto, unfolding(crate::specs::Commit::count_run_of, shared::specs::Counts::inc))]
 fn count_run(c: Committed, a: f64) -> Committed
     ensures { result ≡ count_run_of c a }
 {
     let o = origin_of(c.fsk_runs, a, c.f_origin);
-    let n = shared::inc(c.fsk_runs);
+    let n = c.fsk_runs.wrapping_add(1);
     let mut d = c;
     d.f_origin = o;
     d.fsk_runs = n;
@@ -144,6 +140,7 @@ fn count_run(c: Committed, a: f64) -> Committed
 }
 
 // The end t of a run goes into a slot, in 64ths of a step after the origin.
+#[tactic(auto, unfolding(crate::specs::Commit::put_end_of))]
 pub fn put_end(fsk: &mut [u32], i: usize, origin: f64, t: f64)
     ensures { fsk.new ≡ put_end_of fsk.old i origin t }
 {
@@ -151,6 +148,7 @@ pub fn put_end(fsk: &mut [u32], i: usize, origin: f64, t: f64)
     shared::put(fsk, i, v.0);
 }
 
+#[tactic(auto, unfolding(crate::specs::Commit::upper_run_of))]
 fn upper_run(max: u32, c: Committed, b: f64, fsk: &mut [u32]) -> Committed
     ensures { (result, fsk.new) ≡ upper_run_of max c b fsk.old }
 {
@@ -168,11 +166,12 @@ fn upper_run(max: u32, c: Committed, b: f64, fsk: &mut [u32]) -> Committed
 }
 
 // The second slot of the pair, which is whole then.
+#[tactic(auto, unfolding(shared::specs::Counts::inc))]
 fn close_pair(c: Committed, b: f64, fsk: &mut [u32]) -> Committed
     ensures { (result, fsk.new) ≡ close_pair_of c b fsk.old }
 {
     put_end(fsk, 2 * (c.fsk_n as usize) + 1, c.f_origin, b);
-    let n = shared::inc(c.fsk_n);
+    let n = c.fsk_n.wrapping_add(1);
     let mut d = c;
     d.fsk_n = n;
     d.fsk_open = 0;
@@ -180,6 +179,7 @@ fn close_pair(c: Committed, b: f64, fsk: &mut [u32]) -> Committed
     d
 }
 
+#[tactic(auto, unfolding(crate::specs::Commit::lower_run_of))]
 fn lower_run(max: u32, c: Committed, a: f64, b: f64, fsk: &mut [u32]) -> Committed
     ensures { (result, fsk.new) ≡ lower_run_of max c a b fsk.old }
 {
@@ -197,6 +197,7 @@ fn lower_run(max: u32, c: Committed, a: f64, b: f64, fsk: &mut [u32]) -> Committ
     close_pair(c, b, fsk)
 }
 
+#[tactic(auto, unfolding(crate::specs::Commit::fsk_commit_of))]
 pub fn fsk_commit(max: u32, c: Committed, upper: bool, a: f64, b: f64, fsk: &mut [u32]) -> Committed
     ensures { (result, fsk.new) ≡ fsk_commit_of max c upper a b fsk.old }
 {
@@ -217,6 +218,7 @@ pub fn fsk_commit(max: u32, c: Committed, upper: bool, a: f64, b: f64, fsk: &mut
 }
 
 // The run has lasted long enough: the one before it is final.
+#[tactic(auto, unfolding(crate::specs::RunStep::confirm_of))]
 fn confirm(max: u32, r: Runs, c: Committed, upper: bool, fsk: &mut [u32]) -> Ran
     ensures { (result, fsk.new) ≡ confirm_of max r c upper fsk.old }
 {
@@ -231,11 +233,11 @@ fn confirm(max: u32, r: Runs, c: Committed, upper: bool, fsk: &mut [u32]) -> Ran
     Ran { runs: q, done: c }
 }
 
+#[tactic(auto, unfolding(crate::specs::RunStep::confirm_due_of))]
 fn confirm_due(max: u32, fsk_min: u32, r: Runs, c: Committed, upper: bool, fsk: &mut [u32]) -> Ran
     ensures { (result, fsk.new) ≡ confirm_due_of max fsk_min r c upper fsk.old }
 {
-    let q = r.run;
-    let due = run::due(q, fsk_min);
+    let due = r.run.due(fsk_min);
     if due {
         return confirm(max, r, c, upper, fsk);
     }
@@ -243,38 +245,35 @@ fn confirm_due(max: u32, fsk_min: u32, r: Runs, c: Committed, upper: bool, fsk: 
 }
 
 // One sample more.
+#[tactic(auto, unfolding(crate::specs::RunStep::lengthen_of))]
 pub fn lengthen(r: Runs) -> Runs
     ensures { result ≡ lengthen_of r }
 {
-    let q = r.run;
-    let n = run::lengthen(q);
-    let mut k = r;
-    k.run = n;
-    k
+    Runs {
+        run: r.run.lengthen(),
+        ..r
+    }
 }
 
 // No run yet: the first will start at t.
 fn no_run(t: f64) -> Runs
     ensures { result ≡ runs_of (start_run_of t) 0 }
 {
-    let run = run::start_run(t);
     Runs {
-        run,
+        run: Run::start_run(t),
         fsk_has_prev: 0,
     }
 }
 
 // A run that is over before it counts is a glitch only where the run before it still waits: one that is committed does not go on.
+#[tactic(auto, unfolding(crate::specs::RunStep::is_glitch_of))]
 fn is_glitch(confirmed: u32, has_prev: u32) -> bool
     ensures { result ≡ is_glitch_of confirmed has_prev }
 {
-    let open = confirmed == 0;
-    if open {
-        return has_prev == 1;
-    }
-    false
+    confirmed == 0 && has_prev == 1
 }
 
+#[tactic(auto, unfolding(crate::specs::RunStep::confirm_due_of, run::specs::Run::due_of, crate::specs::RunStep::fsk_run_step_of, crate::specs::RunStep::lengthen_of, run::specs::Run::moved_of, run::specs::Run::rejoin_of))]
 pub fn fsk_run_step(
     max: u32,
     fsk_min: u32,
@@ -286,30 +285,28 @@ pub fn fsk_run_step(
 ) -> Ran
     ensures { (result, fsk.new) ≡ fsk_run_step_of max fsk_min r done upper (edge_at c) fsk.old }
 {
-    let level = shared::bit(upper);
+    let level = u32::from(upper);
     let same = level == r.run.level;
     if same {
         let q = lengthen(r);
         return confirm_due(max, fsk_min, q, done, upper, fsk);
     }
     let short = is_glitch(r.run.confirmed, r.fsk_has_prev);
-    let old = r.run;
     if short {
-        let n = run::rejoin(old, level);
         let q = Runs {
-            run: n,
+            run: r.run.rejoin(level),
             fsk_has_prev: 0,
         };
         return Ran { runs: q, done };
     }
-    let n = run::begin_run(old, level, run::edge_at(c));
     let q = Runs {
-        run: n,
+        run: r.run.begin_run(level, c.edge_at()),
         fsk_has_prev: 1,
     };
     confirm_due(max, fsk_min, q, done, upper, fsk)
 }
 
+#[tactic(auto, unfolding(crate::specs::Resolve::begin_frame_of))]
 pub fn begin_frame(fr: FrameCore, t: f64) -> FrameCore
     ensures { (cs : List Float) → whole_frame cs result ≡ begin_frame_of (whole_frame cs fr) t }
 {
@@ -347,19 +344,11 @@ pub fn begin_frame(fr: FrameCore, t: f64) -> FrameCore
     }
 }
 
-pub fn sat_sub32(x: u32, y: u32) -> u32
-    ensures { result ≡ x - y }
-{
-    if y <= x {
-        return x - y;
-    }
-    0
-}
-
 // Half the width of the slicer's hysteresis, as a part of the distance of the levels: as much of the swing as the envelope's.
 const FSK_HYSTERESIS: f32 = 0.0625;
 
 // The threshold between two levels, for a run at the upper or at the lower one.
+#[tactic(auto, unfolding(crate::specs::Resolve::slice_thr_of))]
 pub fn slice_thr(upper: bool, hi: f32, lo: f32) -> f32
     ensures { result ≡ slice_thr_of upper hi lo }
 {
@@ -370,6 +359,7 @@ pub fn slice_thr(upper: bool, hi: f32, lo: f32) -> f32
     mid + (hi - lo) * FSK_HYSTERESIS
 }
 
+#[tactic(auto, unfolding(crate::specs::Resolve::past_of))]
 fn past(first_upper: bool, f: f32, thr: f32) -> bool
     ensures { result ≡ past_of first_upper f thr }
 {
@@ -384,38 +374,23 @@ fn first_past(first_upper: bool, thr: f32, cs: &[f32; 8], n: u32, other: u32) ->
     requires { n ≤ 8 }
     ensures { result ≡ first_past_of first_upper thr cs.now other n 0 }
 {
-    let mut j: u32 = 0;
-    while j < n {
-        let i = j as usize;
-        let over = past(first_upper, cs[i], thr);
-        if over {
+    for j in 0..n {
+        if past(first_upper, cs[j as usize], thr) {
             return j;
         }
-        j = j + 1;
     }
     other
 }
 
-fn at_most_8(n: u32) -> u32
-    ensures { (result ≤ 8) × (result ≡ min n 8) }
-{
-    if n < 8 {
-        return n;
-    }
-    8
-}
-
+#[tactic(auto, unfolding(crate::specs::Resolve::cand_at_of))]
 fn cand_at(cs: &[f32; 8], j: u32, other: f32) -> f32
     ensures { result ≡ cand_at_of cs.now j other }
 {
-    let i = j as usize;
-    if i < 8 {
-        return cs[i];
-    }
-    other
+    cs.get(j as usize).copied().unwrap_or(other)
 }
 
 // The frequency before candidate j.
+#[tactic(auto, unfolding(crate::specs::Resolve::before_of))]
 fn before_of(cs: &[f32; 8], before: f32, j: u32) -> f32
     ensures { result ≡ before_of cs.now before j }
 {
@@ -423,24 +398,26 @@ fn before_of(cs: &[f32; 8], before: f32, j: u32) -> f32
     if none {
         return before;
     }
-    cand_at(cs, sat_sub32(j, 1), before)
+    cand_at(cs, j.saturating_sub(1), before)
 }
 
 // The time of the transition, of which `second` samples are over at idx.
+#[tactic(auto, unfolding(crate::specs::Resolve::turn_at_of))]
 fn turn_at(first_upper: bool, thr: f32, c: CandCore, f: f32, idx: u64, cs: &[f32; 8]) -> Turn
     ensures { result ≡ turn_at_of first_upper thr (whole_cand cs.now c) f idx }
 {
-    let n = at_most_8(c.fsk_cand);
-    let last = sat_sub32(c.fsk_cand, 1);
+    let n = c.fsk_cand.min(8);
+    let last = c.fsk_cand.saturating_sub(1);
     let j = first_past(first_upper, thr, cs, n, last);
-    let second = sat_sub32(c.fsk_cand, j);
+    let second = c.fsk_cand.saturating_sub(j);
     let before = before_of(cs, c.cand_before, j);
     let at = cand_at(cs, j, f);
-    let sample = shared::sat_sub(std::num::wrapping_add_u64(idx, 1), second as u64);
+    let sample = idx.wrapping_add(1).saturating_sub(u64::from(second));
     let tc = arith::edge(sample, arith::cross(before, at, thr));
     Turn { tc, second }
 }
 
+#[tactic(auto, unfolding(crate::specs::Resolve::hi_lo_of))]
 fn hi_lo(first_upper: bool, f_ref: f32, f: f32) -> Levels
     ensures { result ≡ hi_lo_of first_upper f_ref f }
 {
@@ -456,6 +433,7 @@ fn hi_lo(first_upper: bool, f_ref: f32, f: f32) -> Levels
     }
 }
 
+#[tactic(auto, unfolding(crate::specs::Resolve::other_level_of))]
 fn other_level(first_upper: bool, f_early: f32, hi: f32, lo: f32) -> f32
     ensures { result ≡ other_level_of first_upper f_early hi lo }
 {
@@ -471,21 +449,16 @@ const EARLY_TOL: f32 = 0.3;
 const EARLY_MIN: f64 = 2.0;
 
 // Whether a short first run before the last restart is the first run of the frame.
+#[tactic(auto, unfolding(crate::specs::Resolve::is_early_of))]
 fn is_early(e: Early, first_upper: bool, hi: f32, lo: f32, from: f64) -> bool
     ensures { result ≡ is_early_of e first_upper hi lo from }
 {
-    let some = e.early == 1;
-    if some {
-        let other = arith::abs(other_level(first_upper, e.f_early, hi, lo));
-        let near = other <= EARLY_TOL;
-        if near {
-            return e.t_early - from >= EARLY_MIN;
-        }
-        return false;
-    }
-    false
+    e.early == 1
+        && arith::abs(other_level(first_upper, e.f_early, hi, lo)) <= EARLY_TOL
+        && e.t_early - from >= EARLY_MIN
 }
 
+#[tactic(auto, unfolding(crate::specs::Resolve::open_runs_of))]
 fn open_runs(
     max: u32,
     early: bool,
@@ -518,8 +491,8 @@ fn second_run(
 ) -> Runs
     ensures { result ≡ second_run_of first_upper run t from confirmed has_prev }
 {
-    let level = shared::bit(!first_upper);
-    let prev = sat_sub32(run, t.second);
+    let level = u32::from(!first_upper);
+    let prev = run.saturating_sub(t.second);
     Runs {
         run: Run {
             level,
@@ -534,6 +507,7 @@ fn second_run(
 }
 
 // The runs after the first transition: the second is confirmed at once where it is long enough.
+#[tactic(auto, unfolding(crate::specs::Resolve::settle_of))]
 fn settle(
     max: u32,
     fsk_min: u32,
@@ -556,6 +530,7 @@ fn settle(
     Ran { runs: q, done: c }
 }
 
+#[tactic(auto, unfolding(crate::specs::Resolve::fsk_resolve_of))]
 pub fn fsk_resolve(
     max: u32,
     fsk_min: u32,

@@ -13,7 +13,7 @@ use Rattle.fsk.specs.declared.Early.{Early}
 use Rattle.fsk.specs.declared.Tone.{Tone}
 use Rattle.fsk.specs.declared.Levels.{Levels}
 use Rattle.fsk.specs.declared.Ran.{Ran}
-use Rattle.fsk.specs.declared.Frame.{Frame}
+use Rattle.fsk.specs.Types.{Frame}
 use Rattle.fsk_sample.specs.Tone.{tone_of, upper_of, follow_of}
 use Rattle.fsk_sample.specs.Seek.{seed_of, average_of, push_cand_of, restart_early_of, clear_of, far_from_of}
 

@@ -18,12 +18,14 @@ const AGC_FLOOR: f32 = 0.25;
 // The step of a level towards its samples.
 const FSK_RATIO: f32 = 0.0625;
 
+#[tactic(auto, unfolding(crate::specs::Tone::low_pass_of))]
 fn low_pass(m: f32, a: f32, g: f32, d: f32) -> f32
     ensures { result ≡ low_pass_of m a g d }
 {
     arith::flush_denormal(m + a * (g * d - m))
 }
 
+#[tactic(auto, unfolding(crate::specs::Tone::tone_of))]
 fn tone_of(a: f32, high: f32, d: C32, e: f32, t: Tone) -> Tone
     ensures { result ≡ tone_of a high d e t }
 {
@@ -35,15 +37,7 @@ fn tone_of(a: f32, high: f32, d: C32, e: f32, t: Tone) -> Tone
     Tone { fm: m, f_prev: f }
 }
 
-pub fn upper_of(up: bool, f: f32, thr: f32) -> bool
-    ensures { result ≡ upper_of up f thr }
-{
-    if up {
-        return f >= thr;
-    }
-    f > thr
-}
-
+#[tactic(auto, unfolding(crate::specs::Tone::follow_of))]
 fn follow(upper: bool, l: Levels, f: f32) -> Levels
     ensures { result ≡ follow_of upper l f }
 {
@@ -60,37 +54,22 @@ fn follow(upper: bool, l: Levels, f: f32) -> Levels
 }
 
 // The first sample sets the mean.
+#[tactic(auto, unfolding(crate::specs::Seek::seed_of))]
 fn seed(m: Mean, cand: u32, f: f32) -> Mean
     ensures { result ≡ seed_of m cand f }
 {
-    let first = m.fsk_cnt == 0;
-    if first {
-        let alone = cand == 0;
-        if alone {
-            return Mean {
-                f_ref: f,
-                fsk_cnt: m.fsk_cnt,
-            };
-        }
-        return m;
+    if m.fsk_cnt == 0 && cand == 0 {
+        return Mean { f_ref: f, ..m };
     }
     m
 }
 
-fn at_most_16(n: u32) -> u32
-    ensures { result ≡ min n 16 }
-{
-    if n < 16 {
-        return n;
-    }
-    16
-}
-
+#[tactic(auto, unfolding(crate::specs::Seek::average_of, shared::specs::Counts::inc))]
 fn average(m: Mean, f: f32) -> Mean
     ensures { result ≡ average_of m f }
 {
-    let k = shared::inc(m.fsk_cnt);
-    let n = arith::u32_to_f32(at_most_16(k));
+    let k = m.fsk_cnt.wrapping_add(1);
+    let n = arith::u32_to_f32(k.min(16));
     Mean {
         f_ref: m.f_ref + (f - m.f_ref) / n,
         fsk_cnt: k,
@@ -98,25 +77,14 @@ fn average(m: Mean, f: f32) -> Mean
 }
 
 // The candidates so far, none where the last ones lay on the other side.
+#[tactic(auto, unfolding(crate::specs::Seek::start_of))]
 fn start_of(n: u32, side: bool, last: bool) -> u32
     ensures { result ≡ start_of n side last }
 {
-    let some = n > 0;
-    if some {
-        if side {
-            if last {
-                return n;
-            }
-            return 0;
-        }
-        if last {
-            return 0;
-        }
-        return n;
-    }
-    n
+    if side == last { n } else { 0 }
 }
 
+#[tactic(auto, unfolding(crate::specs::Seek::before_if_of))]
 fn before_if(n: u32, fp: f32, before: f32) -> f32
     ensures { result ≡ before_if_of n fp before }
 {
@@ -128,6 +96,7 @@ fn before_if(n: u32, fp: f32, before: f32) -> f32
 }
 
 // A place past the end is not written.
+#[tactic(auto, unfolding(crate::specs::Seek::store_of))]
 fn store(cs: &mut [f32; 8], i: usize, f: f32)
     ensures { cs.new ≡ store_of cs.old i f }
 {
@@ -136,6 +105,7 @@ fn store(cs: &mut [f32; 8], i: usize, f: f32)
     }
 }
 
+#[tactic(auto, unfolding(crate::specs::Seek::push_cand_of, shared::specs::Counts::inc))]
 fn push_cand(c: CandCore, f_ref: f32, f: f32, fp: f32, cs: &mut [f32; 8]) -> CandCore
     ensures { whole_cand cs.new result ≡ push_cand_of (whole_cand cs.old c) f_ref f fp }
 {
@@ -144,21 +114,23 @@ fn push_cand(c: CandCore, f_ref: f32, f: f32, fp: f32, cs: &mut [f32; 8]) -> Can
     let n = start_of(c.fsk_cand, side, last);
     let before = before_if(n, fp, c.cand_before);
     store(cs, n as usize, f);
-    let k = shared::inc(n);
+    let k = n.wrapping_add(1);
     CandCore {
         cand_before: before,
         fsk_cand: k,
     }
 }
 
+#[tactic(auto, unfolding(crate::specs::Seek::restart_at_of))]
 fn restart_at(before: f32, at: f32, thr: f32, cand: u32, idx: u64) -> f64
     ensures { result ≡ restart_at_of before at thr cand idx }
 {
-    let first = shared::sat_sub(std::num::wrapping_add_u64(idx, 1), cand as u64);
+    let first = idx.wrapping_add(1).saturating_sub(u64::from(cand));
     arith::edge(first, arith::cross(before, at, thr))
 }
 
 // The samples before a restart may be a short first run.
+#[tactic(auto, unfolding(crate::specs::Seek::restart_early_of))]
 fn restart_early(e: Early, m: Mean, c: CandCore, f: f32, idx: u64, cs: &[f32; 8]) -> Early
     ensures { result ≡ restart_early_of e m (whole_cand cs.now c) f idx }
 {
@@ -175,6 +147,7 @@ fn restart_early(e: Early, m: Mean, c: CandCore, f: f32, idx: u64, cs: &[f32; 8]
     e
 }
 
+#[tactic(auto, unfolding(crate::specs::Seek::clear_of))]
 fn clear(c: CandCore) -> CandCore
     ensures { (cs : List Float) → whole_cand cs result ≡ clear_of (whole_cand cs c) }
 {
@@ -183,6 +156,7 @@ fn clear(c: CandCore) -> CandCore
     d
 }
 
+#[tactic(auto, unfolding(crate::specs::Seek::far_from_of))]
 fn far_from(f: f32, f_ref: f32, delta: f32) -> bool
     ensures { result ≡ far_from_of f f_ref delta }
 {
@@ -190,6 +164,7 @@ fn far_from(f: f32, f_ref: f32, delta: f32) -> bool
 }
 
 // The frame before its first transition: the levels and the committed runs stay.
+#[tactic(auto, unfolding(crate::specs::Sample::seek_frame_of))]
 fn seek_frame(fr: FrameCore, t: Tone, mean: Mean, c: CandCore, e: Early) -> FrameCore
     ensures { (old cs : List Float) → whole_frame cs result ≡ seek_frame_of (whole_frame old fr) t mean (whole_cand cs c) e }
 {
@@ -205,6 +180,7 @@ fn seek_frame(fr: FrameCore, t: Tone, mean: Mean, c: CandCore, e: Early) -> Fram
 }
 
 // The mean had too few samples to stand for a level: it begins anew with the candidates.
+#[tactic(auto, unfolding(crate::specs::Sample::restart_of))]
 fn restart(fr: FrameCore, t: Tone, mean: Mean, c: CandCore, idx: u64, cs: &[f32; 8]) -> FrameCore
     ensures { (old : List Float) → whole_frame cs.now result ≡ restart_of (whole_frame old fr) t mean (whole_cand cs.now c) idx }
 {
@@ -219,6 +195,7 @@ fn restart(fr: FrameCore, t: Tone, mean: Mean, c: CandCore, idx: u64, cs: &[f32;
 }
 
 // A sample away from the first level, which is the last candidate of c.
+#[tactic(auto, unfolding(crate::specs::Sample::away_of))]
 fn away(
     max: u32,
     m: u32,
@@ -247,6 +224,7 @@ fn away(
 }
 
 // Before the first transition: the mean of the first level, and the candidates.
+#[tactic(auto, unfolding(crate::specs::Sample::seek_of))]
 fn seek(
     p: Settings,
     m: u32,
@@ -273,6 +251,7 @@ fn seek(
 }
 
 // After it: the two levels are followed, and the run machine goes on.
+#[tactic(auto, unfolding(run::specs::Run::edge_at, crate::specs::Sample::track_of, crate::specs::Tone::upper_of, run::specs::Run::is_high_of))]
 fn track(p: Settings, m: u32, fr: FrameCore, t: Tone, idx: u64, fsk: &mut [u32]) -> FrameCore
     ensures { (cs : List Float) → (whole_frame cs result, fsk.new) ≡ track_of p m (whole_frame cs fr) t idx fsk.old }
 {
@@ -282,7 +261,7 @@ fn track(p: Settings, m: u32, fr: FrameCore, t: Tone, idx: u64, fsk: &mut [u32])
     let d0 = fr.done;
     let up = r0.run.level == 1;
     let thr = fsk::slice_thr(up, l0.f_hi, l0.f_lo);
-    let upper = upper_of(up, f, thr);
+    let upper = run::is_high(up, f, thr);
     let l = follow(upper, l0, f);
     let c = Crossing {
         idx,
@@ -301,6 +280,7 @@ fn track(p: Settings, m: u32, fr: FrameCore, t: Tone, idx: u64, fsk: &mut [u32])
     n
 }
 
+#[tactic(auto, unfolding(crate::specs::Sample::fsk_sample_of))]
 pub fn fsk_sample(
     p: Settings,
     fr: FrameCore,

@@ -1,67 +1,91 @@
 -- The definitions by cases, at the arms of the code's matches.
-use Prim.Native.Nat.{ℕ, ◌+◌, ◌≤◌}
-use mathlib.Core.Bool.{Bool, true, false, cond}
-use mathlib.Core.List.{List}
-use mathlib.Core.Path.{◌≡◌, sym, ap, ◌∙◌}
+use Prim.Native.Nat.{ℕ, ◌+◌, ◌<◌, ◌≤◌, ◌^◌}
+use mathlib.Core.Bool.{Bool, true, false}
+use mathlib.Core.List.{List, [], ◌∷◌}
+use mathlib.Core.Path.{◌≡◌, refl, sym, ap, ◌∙◌}
 use native.Mathlib.Omega.{arith}
 use lib.Dec.{ltb}
-use lib.Ieee.{Float, binary64, div, lt}
-use Rattle.ieee.specs.Constants.{zero64}
-use Rattle.fit.specs.Slots.{time_of, fix, pick, turned, last_rise, up_to, transitions_of, fold}
+use lib.ListN.{length, take}
+use lib.Ieee.{Float, binary64, div}
+use Rattle.std.specs.Prelude.{Option, Some, None, option_map}
+use Rattle.fit.specs.Slots.{time_of, fix, last_rise, also, times, up_to, transitions_of, fold, CallableInFold}
 use Rattle.fit.specs.Fit.{fit_of, second_of, grid_fit_of}
-use Rattle.grid.specs.Guess.{runs_step, runs_of, better_of, try_step, first_try, search_of, grid_of}
-use Rattle.grid.specs.Widths.{measured_of, end_of, clock_of, on_grid_of, at_start, widths_on, fsk_widths_of}
+use Rattle.grid.specs.Guess.{no_runs, runs_step, runs_of, grid_of, try_step, first_try, search_of}
+use Rattle.ieee.specs.Constants.{zero64}
+use Rattle.grid.specs.Widths.{measured_of, end_of, clock_of, on_grid_of, at_start, widths_on, frame_clock, fsk_widths_of}
 use Rattle.fit.specs.declared.Line.{Line}
 use Rattle.fit.specs.declared.Grid.{Grid}
-use Rattle.fit.specs.declared.Grid.TheVariants.{NoGrid, On}
 use Rattle.grid.specs.declared.guess.Mean.{Mean}
 use Rattle.grid.specs.declared.guess.Runs.{Runs}
 use Rattle.grid.specs.declared.Clock.{Clock}
 
--- ---- the count of the transitions
-pub count_kept : (before v i : ℕ) (s : Runs) → s.count ≤ i → (turned runs_step before v s).count ≤ i + 1
-unfolding turned runs_step
-count_kept before v i s h = go (ltb before v)
-  where
-    go : (b : Bool) → (pick b (runs_step s (time_of (fix v))) s).count ≤ i + 1
-    go true = omega arith
-    go false = omega arith
+-- ---- the count of the transitions is at most that of the slots
+also_length : (b : Bool) (x : Float) (xs : List Float) (n : ℕ) → length xs ≤ n → length (also b x xs) ≤ n + 1
+also_length true x xs n h = omega arith
+also_length false x xs n h = omega arith
+
+times_length : (before : ℕ) (ends : List ℕ) → length (times before ends) ≤ length ends
+unfolding times
+times_length before [] = omega arith
+times_length before (v ∷ vs) = let h : length (times v vs) ≤ length vs = times_length v vs in let g : length (also (ltb before v) (time_of (fix v)) (times v vs)) ≤ length vs + 1 = also_length (ltb before v) (time_of (fix v)) (times v vs) (length vs) h in omega arith
+
+count_step : (s : Runs) (x : Float) → (runs_step s x).count ≡ s.count + 1
+unfolding runs_step
+count_step s x = refl
+
+module _ (pre : Runs → Float → Type 0) (post : Runs → Float → Runs → Type 0) (h : (s : Runs) (x : Float) → s.count < 0xffff_ffff_ffff_ffff → pre s x)
+    (k : (s : Runs) (x : Float) (r : Runs) → post s x r → r ≡ runs_step s x) where
+  counts : (s : Runs) (xs : List Float) → s.count + length xs < 2 ^ 63 → CallableInFold pre post s xs
+  counts s [] l = tt
+  counts s (x ∷ xs) l = (h s x (omega arith), λ r p. let e : r.count ≡ s.count + 1 = ap (λ (z : Runs). z.count) (k s x r p) ∙ count_step s x in counts r xs (omega arith))
+
+  pub countable : (before : ℕ) (ends : List ℕ) → length ends < 2 ^ 63 → CallableInFold pre post no_runs (times before ends)
+  countable before ends l = let t : length (times before ends) ≤ length ends = times_length before ends in counts no_runs (times before ends) (omega arith)
 
 -- ---- the grid of the smallest cost
-module _ (grid g : Grid) where
-  pub better_none : g ≡ NoGrid → grid ≡ better_of grid g
-  unfolding better_of
-  better_none e = rw e
-
-  pub better_first : (a t c : Float) → grid ≡ NoGrid → g ≡ On a t c → On a t c ≡ better_of grid g
-  unfolding better_of
-  better_first a t c e e' = rw (e, e')
-
-  pub better_on : (r : Grid) (a t c a' t' c' : Float) → grid ≡ On a t c → g ≡ On a' t' c' → r ≡ cond (lt c' c) (On a' t' c') (On a t c) → r ≡ better_of grid g
-  unfolding better_of
-  better_on r a t c a' t' c' e e' er = rw (e, e') er
-
-pub searched : (ts : List Float) (shortest : Float) (m : Mean) (line : Line) (g r : Grid) → line ≡ fit_of ts (div binary64 m.sum m.n) → g ≡ second_of ts line
+pub searched : (ts : List Float) (shortest : Float) (m : Mean) (line : Option Line) (g r : Option Grid) → line ≡ fit_of ts (div binary64 m.sum m.n) → g ≡ second_of ts line
     → r ≡ (fold (try_step ts shortest) (first_try g) ts).grid → r ≡ search_of ts shortest m
 unfolding search_of grid_fit_of
 searched ts shortest m line g r el eg er =
-    er ∙ ap (λ (z : Grid). (fold (try_step ts shortest) (first_try z) ts).grid) (eg ∙ ap (second_of ts) el)
+    er ∙ ap (λ (z : Option Grid). (fold (try_step ts shortest) (first_try z) ts).grid) (eg ∙ ap (second_of ts) el)
 
 -- ---- the whole
-module _ (slots out : List ℕ) (last : ℕ) (runs : Runs) (grid : Grid) (el : last ≡ last_rise slots) (er : runs ≡ runs_of (up_to last slots)) (eg : grid ≡ grid_of (up_to last slots) runs) where
-  its : (ts : List Float) → ts ≡ up_to last slots → widths_on (grid_of ts (runs_of ts)) (runs_of ts).count slots ≡ widths_on grid runs.count slots
-  its ts e = rw (e, ← er, ← eg)
+clock_at : List Float → ℕ → Float → Grid → Clock
+clock_at ts count end g = clock_of g.a g.t count ts end
 
-  whole : fsk_widths_of slots ≡ widths_on grid runs.count slots
-  unfolding fsk_widths_of transitions_of
-  whole = its (up_to (last_rise slots) slots) (ap (λ (n : ℕ). up_to n slots) (sym el))
+module _ (slots : List ℕ) (last : ℕ) (runs : Runs) (g : Option Grid) (el : last ≡ last_rise slots) (er : runs ≡ runs_of (times 0 (take last slots))) (eg : g ≡ grid_of (times 0 (take last slots)) runs) where
+  its : (ts : List Float) → ts ≡ times 0 (take last slots) → option_map (clock_at ts (runs_of ts).count (end_of slots)) (grid_of ts (runs_of ts)) ≡ option_map (clock_at (times 0 (take last slots)) runs.count (end_of slots)) g
+  its ts e = rw (e, ← er, ← eg) refl
 
-  pub widths_measured : grid ≡ NoGrid → out ≡ measured_of zero64 slots → out ≡ fsk_widths_of slots
-  unfolding widths_on
-  widths_measured e eo = eo ∙ sym (whole ∙ ap (λ (g : Grid). widths_on g runs.count slots) e)
+  clock_known : frame_clock slots ≡ option_map (clock_at (times 0 (take last slots)) runs.count (end_of slots)) g
+  unfolding frame_clock transitions_of up_to clock_at
+  clock_known = its (times 0 (take (last_rise slots) slots)) (ap (λ (n : ℕ). times 0 (take n slots)) (sym el))
 
-  pub widths_on_grid : (a t cost : Float) (c : Clock) → grid ≡ On a t cost → c ≡ clock_of a t runs.count (up_to last slots) (end_of slots) → out ≡ on_grid_of c at_start slots → out ≡ fsk_widths_of slots
-  unfolding widths_on transitions_of
-  widths_on_grid a t cost c e ec eo =
-      eo ∙ ap (λ (z : Clock). on_grid_of z at_start slots) (ec ∙ ap (λ (n : ℕ). clock_of a t runs.count (up_to n slots) (end_of slots)) el)
-      ∙ sym (whole ∙ ap (λ (g : Grid). widths_on g runs.count slots) e)
+  pub no_clock : g ≡ None → None ≡ frame_clock slots
+  no_clock e = sym (clock_known ∙ ap (option_map (clock_at (times 0 (take last slots)) runs.count (end_of slots))) e)
+
+  pub clock_there : (h : Grid) (c : Clock) → g ≡ Some h → c ≡ clock_of h.a h.t runs.count (times 0 (take last slots)) (end_of slots) → Some c ≡ frame_clock slots
+  unfolding clock_at
+  clock_there h c e ec = ap Some ec ∙ sym (clock_known ∙ ap (option_map (clock_at (times 0 (take last slots)) runs.count (end_of slots))) e)
+
+-- the widths by the clock
+widths_at : Option Clock → List ℕ → List ℕ
+widths_at None slots = measured_of zero64 slots
+widths_at (Some c) slots = on_grid_of c at_start slots
+
+by_clock : (slots : List ℕ) → fsk_widths_of slots ≡ widths_at (frame_clock slots) slots
+unfolding fsk_widths_of frame_clock widths_on widths_at
+by_clock slots = go (grid_of (transitions_of slots) (runs_of (transitions_of slots)))
+  where
+    go : (g : Option Grid) → widths_on g (runs_of (transitions_of slots)).count slots ≡ widths_at (option_map (λ g. clock_of g.a g.t (runs_of (transitions_of slots)).count (transitions_of slots) (end_of slots)) g) slots
+    go None = refl
+    go (Some g) = refl
+
+module _ (slots out : List ℕ) where
+  pub widths_measured : None ≡ frame_clock slots → out ≡ measured_of zero64 slots → out ≡ fsk_widths_of slots
+  unfolding widths_at
+  widths_measured e eo = eo ∙ sym (by_clock slots ∙ ap (λ (c : Option Clock). widths_at c slots) (sym e))
+
+  pub widths_on_grid : (c : Clock) → Some c ≡ frame_clock slots → out ≡ on_grid_of c at_start slots → out ≡ fsk_widths_of slots
+  unfolding widths_at
+  widths_on_grid c e eo = eo ∙ sym (by_clock slots ∙ ap (λ (c : Option Clock). widths_at c slots) (sym e))

@@ -25,7 +25,7 @@ use Rattle.grid.specs.Widths.{measured_of, place_of, on_grid_of, at_start, width
 use Rattle.grid.specs.declared.Clock.{Clock}
 use Rattle.grid.specs.declared.Place.{Place}
 use Rattle.fit.specs.declared.Grid.{Grid}
-use Rattle.fit.specs.declared.Grid.TheVariants.{NoGrid, On}
+use Rattle.std.specs.Prelude.{Option, Some, None}
 
 -- the rounded time of a slot
 abbrev boundary : ℕ → Float
@@ -159,6 +159,6 @@ pub empty : (slots : List ℕ) (i : ℕ) → Slots slots → get_or slots i 0 �
 unfolding fsk_widths_of widths_on
 empty slots i s e = go (grid_of (transitions_of slots) (runs_of (transitions_of slots))) (runs_of (transitions_of slots)).count
   where
-    go : (g : Grid) (count : ℕ) → get_or (widths_on g count slots) i 0 ≡ 0
-    go NoGrid count = subst (λ (z : Float). get_or (measured_of z slots) i 0 ≡ 0) start (empty_in_measured 0 slots i (omega arith) s e)
-    go (On a t cost) count = empty_in_grid _ at_start slots i e
+    go : (g : Option Grid) (count : ℕ) → get_or (widths_on g count slots) i 0 ≡ 0
+    go None count = subst (λ (z : Float). get_or (measured_of z slots) i 0 ≡ 0) start (empty_in_measured 0 slots i (omega arith) s e)
+    go (Some g) count = empty_in_grid _ at_start slots i e

@@ -1,11 +1,11 @@
 // The guesses of a frame's symbol and the grid of the smallest cost (document 01, "Grid"). The guesses are the runs of one symbol and
 // their mean.
-ghost use Rattle.std.specs.Prelude.{◌≡◌, cond, ◌&&◌, ◌<◌, ◌≤◌, length, ltb};
-ghost use Rattle.fit.specs.Slots.{up_to, turned};
+ghost use Rattle.std.specs.Prelude.{◌≡◌, ◌<◌};
+ghost use Rattle.fit.specs.Slots.{times};
 ghost use Rattle.fit.specs.Fit.{Known};
-ghost use Rattle.grid.specs.Guess.{grid_cand, shorter_of, runs_step, runs_of, run_to, added_of, mean_step, mean_of, better_of, tried_of, try_step, search_of, grid_of};
+ghost use Rattle.grid.specs.Guess.{runs_step, runs_of, run_to, mean_step, mean_of, better_of, try_step, search_of, grid_of};
 
-use fit::{Fitted, Grid, Prev};
+use fit::{Fitted, Grid};
 
 // A grid is looked for from this many transitions on: a few can lie on a grid by chance.
 const GRID_MIN: usize = 5;
@@ -15,271 +15,141 @@ const GRID_CAND: usize = 8;
 
 // ---- how many transitions there are, and the shortest run between two
 
-// The shortest run, that to the transition x included.
-fn shorter_of(prev: Prev, shortest: f64, x: f64) -> f64
-    ensures { result ≡ shorter_of prev shortest x }
-{
-    match prev {
-        Prev::At(tp) => arith::min64(shortest, x - tp),
-        Prev::Unset => shortest,
-    }
-}
-
-// How many transitions there are, the shortest run between two, and the last transition.
+// How many transitions there are, the shortest run between two, and the last transition, where there is one.
 #[derive(Clone, Copy)]
 pub struct Runs {
     pub count: usize,
     pub shortest: f64,
-    pub prev: Prev,
+    pub prev: Option<f64>,
 }
 
-// A slot that is above the one before it ends a run: its time is a transition.
-fn runs_turn(s: Runs, before: u32, v: u32) -> Runs
+// The transition x is one more, and the run before it may be the shortest.
+fn runs_step(s: Runs, x: f64) -> Runs
     requires { s.count < 0xffff_ffff_ffff_ffff }
-    ensures { result ≡ turned runs_step before v s }
+    ensures { result ≡ runs_step s x }
 {
-    let up = before < v;
-    if up {
-        let x = fit::time_of(arith::Fix64(v));
-        let prev = s.prev;
-        let shortest = shorter_of(prev, s.shortest, x);
-        let here = Prev::At(x);
-        return Runs {
-            count: s.count + 1,
-            shortest,
-            prev: here,
-        };
+    Runs {
+        count: s.count + 1,
+        shortest: s
+            .prev
+            .map_or(s.shortest, |tp| arith::min(s.shortest, x - tp)),
+        prev: Some(x),
     }
-    s
 }
 
-// The count and the shortest run of the transitions, those of the slots before `last`.
-pub fn runs_of(slots: &[u32], last: usize) -> Runs
-    requires { last ≤ length slots.now }
-    ensures { result ≡ runs_of (up_to last slots.now) }
+// The count and the shortest run of the transitions.
+pub fn runs_of(ends: &[u32]) -> Runs
+    ensures { result ≡ runs_of (times 0 ends.now) }
 {
-    let unset = Prev::Unset;
-    let infinity = f64::from_bits(0x7ff0_0000_0000_0000);
-    let mut s = Runs {
+    let none = Runs {
         count: 0,
-        shortest: infinity,
-        prev: unset,
+        shortest: f64::INFINITY,
+        prev: None,
     };
-    let mut before: u32 = 0;
-    for i in 0..last {
-        let v = slots[i];
-        s = runs_turn(s, before, v);
-        before = v;
-    }
-    s
+    fit::transitions(ends, none, runs_step)
 }
 
 // ---- the mean of the runs of one symbol
 
-// The run that ends at a transition: whether it is one symbol long, its length in steps, and where it ends. At the first transition
-// no run ends.
-#[derive(Clone, Copy)]
-pub struct Run {
-    pub one: bool,
-    pub steps: f64,
-    pub at: f64,
-}
-
 // A run shorter than this times the shortest is one symbol long.
 const ONE_SYMBOL: f64 = 1.5;
 
-// The run from the transition before to the transition x.
-fn run_to(shortest: f64, prev: Prev, x: f64) -> Run
+// The length of the run from the transition before to the transition x, where it is one symbol long. At the first transition no run
+// ends.
+fn run_to(shortest: f64, prev: Option<f64>, x: f64) -> Option<f64>
     ensures { result ≡ run_to shortest prev x }
 {
-    match prev {
-        Prev::At(tp) => Run {
-            one: x - tp < ONE_SYMBOL * shortest,
-            steps: x - tp,
-            at: x,
-        },
-        Prev::Unset => Run {
-            one: false,
-            steps: 0.0,
-            at: x,
-        },
-    }
+    let d = x - prev?;
+    (d < ONE_SYMBOL * shortest).then_some(d)
 }
 
-// The runs of one symbol: their sum and how many; and the last transition.
-#[derive(Clone, Copy)]
+// The runs of one symbol: their sum and how many; and the last transition, where there is one.
+#[derive(Clone, Copy, Default)]
 pub struct Mean {
     pub sum: f64,
     pub n: f64,
-    pub prev: Prev,
+    pub prev: Option<f64>,
 }
 
-// A run of one symbol is added, any other is passed over.
-fn added(s: Mean, run: Run) -> Mean
-    ensures { result ≡ added_of run.one s run }
+// The run to the transition x is added where it is one symbol long.
+fn mean_step(s: Mean, x: f64, shortest: f64) -> Mean
+    ensures { result ≡ mean_step shortest s x }
 {
-    let here = Prev::At(run.at);
-    let one = run.one;
-    if one {
-        return Mean {
-            sum: s.sum + run.steps,
+    match run_to(shortest, s.prev, x) {
+        Some(d) => Mean {
+            sum: s.sum + d,
             n: s.n + 1.0,
-            prev: here,
-        };
+            prev: Some(x),
+        },
+        None => Mean { prev: Some(x), ..s },
     }
-    Mean {
-        sum: s.sum,
-        n: s.n,
-        prev: here,
-    }
-}
-
-// As `runs_turn`.
-fn mean_turn(s: Mean, before: u32, v: u32, shortest: f64) -> Mean
-    ensures { result ≡ turned (mean_step shortest) before v s }
-{
-    let up = before < v;
-    if up {
-        let prev = s.prev;
-        return added(s, run_to(shortest, prev, fit::time_of(arith::Fix64(v))));
-    }
-    s
 }
 
 // The runs of one symbol. Their mean is the first guess: the slicer moves upper and lower runs in opposite directions, which it evens out.
-fn mean_of(slots: &[u32], last: usize, shortest: f64) -> Mean
-    requires { last ≤ length slots.now }
-    ensures { result ≡ mean_of shortest (up_to last slots.now) }
+fn mean_of(ends: &[u32], shortest: f64) -> Mean
+    ensures { result ≡ mean_of shortest (times 0 ends.now) }
 {
-    let mut before: u32 = 0;
-    let unset = Prev::Unset;
-    let mut s = Mean {
-        sum: 0.0,
-        n: 0.0,
-        prev: unset,
-    };
-    for i in 0..last {
-        let v = slots[i];
-        s = mean_turn(s, before, v, shortest);
-        before = v;
-    }
-    s
+    fit::transitions(ends, Mean::default(), |s, x| mean_step(s, x, shortest))
 }
 
 // ---- the grid of the smallest cost
 
-// x where b holds, and else y.
-fn pick_grid(b: bool, x: Grid, y: Grid) -> Grid
-    ensures { result ≡ cond b x y }
-{
-    if b {
-        return x;
-    }
-    y
-}
-
 // The grid of the smaller cost, the first of two alike.
-fn better(grid: Grid, g: Grid) -> Grid
+fn better(grid: Option<Grid>, g: Option<Grid>) -> Option<Grid>
     ensures { result ≡ better_of grid g }
 {
-    match g {
-        Grid::NoGrid => grid,
-        Grid::On(_, _, c) => match grid {
-            Grid::NoGrid => g,
-            Grid::On(_, _, d) => pick_grid(c < d, g, grid),
-        },
-    }
+    let (Some(best), Some(new)) = (grid, g) else {
+        return grid.or(g);
+    };
+    if new.cost < best.cost { g } else { grid }
 }
 
-// How many runs of one symbol were tried, the best grid so far, and the last transition.
+// How many runs of one symbol were tried, the best grid so far, and the last transition, where there is one.
 #[derive(Clone, Copy)]
 pub struct Tries {
     pub tried: usize,
-    pub grid: Grid,
-    pub prev: Prev,
+    pub grid: Option<Grid>,
+    pub prev: Option<f64>,
 }
 
-// The grid of a run of one symbol, while fewer than GRID_CAND were tried.
-fn tried_with(slots: &[u32], last: usize, mean: Fitted, s: Tries, run: Run) -> Tries
-    requires { Known slots.now last mean }
-    ensures { result ≡ tried_of (run.one && ltb s.tried grid_cand) (up_to last slots.now) s run }
+// The run to the transition x is tried as a guess where it is one symbol long, while fewer than GRID_CAND were.
+fn try_step(ends: &[u32], mean: Fitted, shortest: f64, s: Tries, x: f64) -> Tries
+    requires { Known ends.now mean }
+    ensures { result ≡ try_step (times 0 ends.now) shortest s x }
 {
-    let here = Prev::At(run.at);
-    let grid = s.grid;
-    let tried = s.tried;
-    let more = fit::both(run.one, tried < GRID_CAND);
-    if more {
-        let f = fit::grid_fit(slots, last, mean, run.steps);
-        let g = better(grid, f);
-        let next = tried + 1;
-        return Tries {
-            tried: next,
-            grid: g,
-            prev: here,
-        };
+    match run_to(shortest, s.prev, x) {
+        Some(guess) if s.tried < GRID_CAND => Tries {
+            tried: s.tried + 1,
+            grid: better(s.grid, fit::grid_fit(ends, mean, guess)),
+            prev: Some(x),
+        },
+        _ => Tries { prev: Some(x), ..s },
     }
-    Tries {
-        tried,
-        grid,
-        prev: here,
-    }
-}
-
-// What every guess is held to: the fit of the mean, and the shortest run.
-#[derive(Clone, Copy)]
-pub struct Guesses {
-    pub mean: Fitted,
-    pub shortest: f64,
-}
-
-// As `runs_turn`.
-fn try_turn(slots: &[u32], last: usize, from: Guesses, s: Tries, before: u32, v: u32) -> Tries
-    requires { Known slots.now last from.mean }
-    ensures { result ≡ turned (try_step (up_to last slots.now) from.shortest) before v s }
-{
-    let up = before < v;
-    if up {
-        let prev = s.prev;
-        let run = run_to(from.shortest, prev, fit::time_of(arith::Fix64(v)));
-        let mean = from.mean;
-        return tried_with(slots, last, mean, s, run);
-    }
-    s
 }
 
 // The best grid that a guess leads to: first the mean of the one-symbol runs is tried, then up to GRID_CAND of these runs, one by one.
-fn search(slots: &[u32], last: usize, shortest: f64, m: Mean) -> Grid
-    requires { last ≤ length slots.now }
-    ensures { result ≡ search_of (up_to last slots.now) shortest m }
+fn search(ends: &[u32], shortest: f64, m: Mean) -> Option<Grid>
+    ensures { result ≡ search_of (times 0 ends.now) shortest m }
 {
-    let unset = Prev::Unset;
-    let line = fit::fit_with(slots, last, m.sum / m.n);
-    let grid = fit::second_fit(slots, last, line);
+    let line = fit::fit_with(ends, m.sum / m.n);
+    let grid = fit::second_fit(ends, line);
     let mean = Fitted { line, grid };
-    let from = Guesses { mean, shortest };
-    let mut s = Tries {
+    let none = Tries {
         tried: 0,
         grid,
-        prev: unset,
+        prev: None,
     };
-    let mut before: u32 = 0;
-    for i in 0..last {
-        let v = slots[i];
-        s = try_turn(slots, last, from, s, before, v);
-        before = v;
-    }
-    s.grid
+    fit::transitions(ends, none, |s, x| try_step(ends, mean, shortest, s, x)).grid
 }
 
 // The grid of a frame: none where it has fewer than GRID_MIN transitions or no run of one symbol.
-pub fn grid_of(slots: &[u32], last: usize, runs: Runs) -> Grid
-    requires { last ≤ length slots.now }
-    ensures { result ≡ grid_of (up_to last slots.now) runs }
+pub fn grid_of(ends: &[u32], runs: Runs) -> Option<Grid>
+    ensures { result ≡ grid_of (times 0 ends.now) runs }
 {
-    let m = mean_of(slots, last, runs.shortest);
-    let enough = fit::both(GRID_MIN <= runs.count, m.n > 0.0);
-    if enough {
-        return search(slots, last, runs.shortest, m);
+    let m = mean_of(ends, runs.shortest);
+    if GRID_MIN <= runs.count && m.n > 0.0 {
+        search(ends, runs.shortest, m)
+    } else {
+        None
     }
-    Grid::NoGrid
 }

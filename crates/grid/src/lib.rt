@@ -3,12 +3,12 @@
 // steps at exit (`arith::Steps`).
 #![tactic(auto)]
 
-ghost use Rattle.std.specs.Prelude.{◌≡◌, ◌≤◌, length};
+ghost use Rattle.std.specs.Prelude.{◌≡◌};
 ghost use Rattle.ieee.specs.Constants.{zero64};
-ghost use Rattle.fit.specs.Slots.{up_to};
-ghost use Rattle.grid.specs.Widths.{end_of, clock_of, place_of, at_start, on_grid_of, measured_of, fsk_widths_of};
+ghost use Rattle.fit.specs.Slots.{times};
+ghost use Rattle.grid.specs.Widths.{end_of, clock_of, place_of, at_start, on_grid_of, measured_of, frame_clock, fsk_widths_of};
 
-use fit::{Grid, Prev};
+use fit::{Grid, Last};
 
 mod guess;
 
@@ -19,12 +19,10 @@ fn measured(slots: &mut [u32])
     ensures { slots.new ≡ measured_of zero64 slots.old }
 {
     let mut before: f64 = 0.0;
-    let mut i = 0;
-    while i < slots.len() {
-        let r = ieee::round(fit::time_of(arith::Fix64(slots[i])));
-        slots[i] = arith::width(before, r).0;
+    for v in slots {
+        let r = ieee::round(fit::time_of(arith::Fix64(*v)));
+        *v = arith::width(before, r).0;
         before = r;
-        i += 1;
     }
 }
 
@@ -40,42 +38,34 @@ pub struct Clock {
     pub n_tr: usize,
 }
 
-// The boundary before a slot: its 64ths, its time on the grid, how many transitions were seen, and the last of them with its symbol number.
-#[derive(Clone, Copy)]
+// The boundary before a slot: its 64ths, its time on the grid, how many transitions were seen, and the last of them.
+#[derive(Clone, Copy, Default)]
 pub struct Place {
     pub before_raw: u32,
     pub before: f64,
     pub seen: usize,
-    pub k: f64,
-    pub prev: Prev,
+    pub last: Last,
 }
 
 // The time of the frame's end.
 fn end_of(slots: &[u32]) -> f64
     ensures { result ≡ end_of slots.now }
 {
-    let n = slots.len();
-    if n == 0 {
-        return 0.0;
-    }
-    let v = slots[n - 1];
-    fit::time_of(arith::Fix64(v))
+    slots.last().map_or(0.0, |&v| fit::time_of(arith::Fix64(v)))
 }
 
 // The frame's own two ends come from the envelope, which tells them less well than the tone does: each is put a whole number of
 // symbols, one or more, from the nearest transition.
-fn clock_of(slots: &[u32], last: usize, a: f64, t: f64, n_tr: usize) -> Clock
-    requires { last ≤ length slots.now }
-    ensures { result ≡ clock_of a t n_tr (up_to last slots.now) (end_of slots.now) }
+fn clock_of(ends: &[u32], end: f64, g: Grid, n_tr: usize) -> Clock
+    ensures { result ≡ clock_of g.a g.t n_tr (times 0 ends.now) end }
 {
-    let s = fit::fit_sums(slots, last, t);
-    let end = end_of(slots);
-    let lead = fit::symbols(a, t);
-    let tail = fit::symbols(end - (a + s.k * t), t);
+    let s = fit::fit_sums(ends, g.t);
+    let lead = fit::symbols(g.a, g.t);
+    let tail = fit::symbols(end - (g.a + s.last.k * g.t), g.t);
     Clock {
-        t,
+        t: g.t,
         lead,
-        stop: lead + s.k + tail,
+        stop: lead + s.last.k + tail,
         n_tr,
     }
 }
@@ -84,37 +74,23 @@ fn clock_of(slots: &[u32], last: usize, a: f64, t: f64, n_tr: usize) -> Clock
 fn place_at(c: Clock, p: Place, v: u32) -> Place
     ensures { result ≡ place_of c p v }
 {
-    let prev = p.prev;
-    let empty = v <= p.before_raw;
-    if empty {
-        return Place {
-            before_raw: v,
-            before: p.before,
-            seen: p.seen,
-            k: p.k,
-            prev,
-        };
+    if v <= p.before_raw {
+        return Place { before_raw: v, ..p };
     }
-    let seen = p.seen;
-    if seen < c.n_tr {
+    if p.seen < c.n_tr {
         let x = fit::time_of(arith::Fix64(v));
-        let k = fit::k_after(prev, p.k, x, c.t);
-        let here = Prev::At(x);
-        let next = seen + 1;
+        let k = p.last.k_after(x, c.t);
         return Place {
             before_raw: v,
             before: ieee::round((c.lead + k) * c.t),
-            seen: next,
-            k,
-            prev: here,
+            seen: p.seen + 1,
+            last: Last { k, prev: Some(x) },
         };
     }
     Place {
         before_raw: v,
         before: ieee::round(c.stop * c.t),
-        seen,
-        k: p.k,
-        prev,
+        ..p
     }
 }
 
@@ -122,37 +98,32 @@ fn place_at(c: Clock, p: Place, v: u32) -> Place
 fn on_grid(slots: &mut [u32], c: Clock)
     ensures { slots.new ≡ on_grid_of c at_start slots.old }
 {
-    let unset = Prev::Unset;
-    let mut p = Place {
-        before_raw: 0,
-        before: 0.0,
-        seen: 0,
-        k: 0.0,
-        prev: unset,
-    };
-    let mut i = 0;
-    while i < slots.len() {
+    let mut p = Place::default();
+    for v in slots {
         let before = p.before;
-        p = place_at(c, p, slots[i]);
-        slots[i] = arith::width(before, p.before).0;
-        i += 1;
+        p = place_at(c, p, *v);
+        *v = arith::width(before, p.before).0;
     }
 }
 
 // ---- the whole
 
+// The clock of a frame whose transitions lie on a grid.
+fn frame_clock(slots: &[u32]) -> Option<Clock>
+    ensures { result ≡ frame_clock slots.now }
+{
+    let ends = &slots[..fit::last_rise(slots)];
+    let runs = guess::runs_of(ends);
+    let g = guess::grid_of(ends, runs)?;
+    Some(clock_of(ends, end_of(slots), g, runs.count))
+}
+
 // The run ends of a finished frame become widths in whole steps.
 pub fn fsk_widths(slots: &mut [u32])
     ensures { slots.new ≡ fsk_widths_of slots.old }
 {
-    let last = fit::last_rise(slots);
-    let runs = guess::runs_of(slots, last);
-    let grid = guess::grid_of(slots, last, runs);
-    match grid {
-        Grid::NoGrid => measured(slots),
-        Grid::On(a, t, _) => {
-            let c = clock_of(slots, last, a, t, runs.count);
-            on_grid(slots, c);
-        }
+    match frame_clock(slots) {
+        Some(c) => on_grid(slots, c),
+        None => measured(slots),
     }
 }

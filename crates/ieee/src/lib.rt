@@ -9,52 +9,46 @@ ghost use Rattle.ieee.specs.Rounding.{round_of, narrow_of, widen_of};
 
 // ---- bit patterns
 
-// The pattern of the NaN that is written: quiet, with no other digit set.
-const NAN_32: u32 = 0x7fc0_0000;
+// A trait over both widths would be no plainer: each of these four is one call of std, and the trait would add a type for the pattern, its
+// format and an impl of both for each width.
 
-const NAN_64: u64 = 0x7ff8_0000_0000_0000;
-
-// The pattern of a float.
+// The pattern of a float. That of the NaN is quiet, with no other digit set.
 pub fn bits_of_f32(x: f32) -> u32
     ensures { result ≡ Ieee.to_bits binary32 x }
 {
-    if x != x { NAN_32 } else { f32::to_bits(x) }
+    std::num::f32_to_bits_with_nan(x)
 }
 
 // The same of f64.
 pub fn bits_of_f64(x: f64) -> u64
     ensures { result ≡ Ieee.to_bits binary64 x }
 {
-    if x != x { NAN_64 } else { f64::to_bits(x) }
+    std::num::f64_to_bits_with_nan(x)
 }
-
-// The pattern of plus infinity. Above it, the sign left out, are the patterns of the NaN.
-const INFINITY_32: u32 = 0x7f80_0000;
-
-const INFINITY_64: u64 = 0x7ff0_0000_0000_0000;
-
-// The digit of the sign.
-const SIGN_32: u32 = 0x8000_0000;
-
-const SIGN_64: u64 = 0x8000_0000_0000_0000;
 
 // The float of a pattern: each pattern of a NaN gives the one NaN.
 pub fn f32_of_bits(n: u32) -> f32
     ensures { result ≡ Ieee.of_bits binary32 n }
 {
-    let nan = INFINITY_32 < n % SIGN_32;
-    if nan { 0.0 / 0.0 } else { f32::from_bits(n) }
+    std::num::f32_from_bits_with_nan(n)
 }
 
 // The same of f64.
 pub fn f64_of_bits(n: u64) -> f64
     ensures { result ≡ Ieee.of_bits binary64 n }
 {
-    let nan = INFINITY_64 < n % SIGN_64;
-    if nan { 0.0 / 0.0 } else { f64::from_bits(n) }
+    std::num::f64_from_bits_with_nan(n)
 }
 
 // ---- change of width and rounding to integral
+
+// The pattern of plus infinity.
+const INFINITY_32: u32 = 0x7f80_0000;
+
+// The digit of the sign.
+const SIGN_32: u32 = 0x8000_0000;
+
+const SIGN_64: u64 = 0x8000_0000_0000_0000;
 
 // The leading digit of a normal f64, which its pattern leaves out: the exponent's field stands above its place, the 52 digits below.
 const LEADING: u64 = 0x10_0000_0000_0000;
@@ -111,14 +105,15 @@ fn narrow_fields(e: u64, t: u64) -> u32
     }
 }
 
-// convertFormat (5.4.2) to the narrower format, rounded to nearest, a tie to even.
+// convertFormat (5.4.2) to the narrower format, rounded to nearest, a tie to even. std's `nearest_f64_to_f32_with_nan` gives the same and takes
+// a third longer.
 pub fn narrow(x: f64) -> f32
     ensures { result ≡ narrow_of x }
 {
-    if x != x {
-        return 0.0 / 0.0;
+    if x.is_nan() {
+        return f32::NAN;
     }
-    let b = f64::to_bits(x);
+    let b = x.to_bits();
     let e = b % SIGN_64 / LEADING;
     let t = b % LEADING;
     let r = narrow_fields(e, t);
@@ -147,14 +142,15 @@ fn whole_fields(e: u64, t: u64) -> u64
     (2 * (LEADING + t) + u) / (2 * u)
 }
 
-// roundToIntegralTiesToAway (5.9): `libm::round`. A zero keeps x's sign (6.3).
+// roundToIntegralTiesToAway (5.9): `libm::round`. A zero keeps x's sign (6.3). std's `f64::round` gives the same; with it the FSK widths of a
+// frame take a twelfth more instructions.
 pub fn round(x: f64) -> f64
     ensures { result ≡ round_of x }
 {
-    if x != x {
+    if x.is_nan() {
         return x;
     }
-    let b = f64::to_bits(x);
+    let b = x.to_bits();
     let e = b % SIGN_64 / LEADING;
     if WHOLE <= e {
         return x;

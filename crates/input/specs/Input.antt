@@ -2,9 +2,9 @@
 use Rattle.std.specs.Prelude.{ℕ, ◌+◌, ◌≤◌, Bool, true, ◌≡◌, List, length, take}
 use Rattle.input.specs.declared.Input.{Input}
 
--- bytes come after the first `have` of the buffer b, which stay
-pub record Came (b : List ℕ) (have : ℕ) (i : Input) (x : List ℕ) : Type 0 where
-  pub inside : have + i.came ≤ length x
+-- so many bytes come after the first `have` of the buffer b, which stay
+pub record Came (b : List ℕ) (have came : ℕ) (x : List ℕ) : Type 0 where
+  pub inside : have + came ≤ length x
   pub front : take have x ≡ take have b
 
 -- none come once the input has ended, nor where bytes that are there may still be answered

@@ -3,128 +3,126 @@
 // reader and a writer in memory it says which.
 #![tactic(auto)]
 
-ghost use Rattle.std.specs.Prelude.{◌≡◌, ◌≤◌, ◌<◌, true, false, length, take, drop, IfOk, IsOk, MatchResult};
+ghost use Rattle.std.specs.Prelude.{◌≡◌, ◌≤◌, [], length, take, drop, is_ok, MatchResult};
+ghost use Rattle.std.specs.Process.{exit_status};
 ghost use Rattle.input.specs.Input.{Came, Quiet};
 ghost use Rattle.input.specs.Known.{Took, Gave};
 
-use std::io::{Cursor, Error, ErrorKind, Read, Result, Write};
+use std::fmt::{self, Display, Formatter};
+use std::io::{self, Cursor, ErrorKind, Read, Write};
+use std::process::ExitCode;
 use std::str;
 
-#[derive(Clone, Copy)]
+#[derive(Clone, Copy, Debug, PartialEq, Eq)]
 pub struct Input {
     pub came: usize,
     // Whether the input has ended: nothing is read after that.
     pub last: bool,
-    pub failed: bool,
 }
 
-// Writes a line on standard error, `err`: what failed, a colon and the system's words for it.
-fn fail<E: Write>(err: &mut E, what: &[u8], why: &Error) -> Result<()> {
-    let mut said = Cursor::new([0u8; 128]);
-    let _ = write!(said, "{why}");
-    let room = said.into_inner();
-    err.write_all(what)?;
-    err.write_all(b": ")?;
-    err.write_all(words(&room))?;
-    err.write_all(b"\n")
+// Why a program stopped before its stream was over.
+#[derive(Debug, Drop)]
+pub enum Failed {
+    Read(io::Error),
+    Write(io::Error),
+    // The input had not ended after more reads than any run makes.
+    Endless,
 }
 
-// The text up to its first zero, and without the number that std puts after the system's words.
-fn words(text: &[u8]) -> &[u8] {
-    let end = match text.iter().position(|b| *b == 0) {
-        Some(n) => n,
-        None => text.len(),
-    };
-    match str::from_utf8(&text[..end]) {
-        Ok(all) => match all.split_once(" (os error ") {
-            Some((before, _)) => before.as_bytes(),
-            None => all.as_bytes(),
-        },
-        Err(_) => b"",
-    }
-}
-
-// One read to the place `have` of the buffer. A read that fails is said on standard error, as `what`.
-fn fill<R: Read, E: Write>(
-    from: &mut R,
-    buf: &mut [u8],
-    have: usize,
-    what: &[u8],
-    err: &mut E,
-) -> Input
-    requires { have ≤ length buf.old }
-    ensures came { Came buf.old have result buf.new }
-    ensures took { have < length buf.old → Took (R.remaining from.old) (R.remaining from.new) false (take result.came (drop have buf.new)) result.last }
-{
-    let got = from.read(&mut buf[have..]);
-    match got {
-        Ok(came) => Input {
-            came,
-            last: came == 0,
-            failed: false,
-        },
-        Err(why) => {
-            let _ = fail(err, what, &why);
-            Input {
-                came: 0,
-                last: false,
-                failed: true,
-            }
+// What failed, a colon and the system's words for it.
+impl Display for Failed {
+    fn fmt<W: fmt::Write>(&self, f: &mut Formatter<W>) -> fmt::Result {
+        match self {
+            Failed::Read(why) => write_why(f, "read", why),
+            Failed::Write(why) => write_why(f, "write", why),
+            Failed::Endless => f.write_str("read: no end"),
         }
     }
 }
 
-// The bytes that come next. Nothing is read where the input has ended, where bytes that are there
-// may still be answered (`full`), or where the buffer has no room.
-pub fn read_more<R: Read, E: Write>(
+fn write_why<W: fmt::Write>(f: &mut Formatter<W>, what: &str, why: &io::Error) -> fmt::Result {
+    let mut said = Cursor::new([0u8; 128]);
+    let _ = write!(said, "{why}");
+    let room = said.into_inner();
+    let system = words(&room);
+    write!(f, "{what}: {system}")
+}
+
+// The text up to its first zero, and without the number that std puts after the system's words.
+fn words(text: &[u8]) -> &str {
+    let end = text.iter().position(|b| *b == 0).unwrap_or(text.len());
+    match str::from_utf8(&text[..end]) {
+        Ok(all) => match all.split_once(" (os error ") {
+            Some((before, _)) => before,
+            None => all,
+        },
+        Err(_) => "",
+    }
+}
+
+// The status of a program: what failed is said on standard error, `err`, after the program's name. An
+// input with no end has no line.
+pub fn status<E: Write>(program: &str, done: Result<(), Failed>, err: &mut E) -> ExitCode
+    ensures { MatchResult done (λ _. exit_status result ≡ 0) (λ _. exit_status result ≡ 1) }
+{
+    match done {
+        Ok(()) => ExitCode::SUCCESS,
+        Err(Failed::Endless) => ExitCode::FAILURE,
+        Err(why) => {
+            let _ = writeln!(err, "{program}: {why}");
+            ExitCode::FAILURE
+        }
+    }
+}
+
+// The bytes that come next, to the place `have` of the buffer. Nothing is read where the input has
+// ended, where bytes that are there may still be answered (`full`), or where the buffer has no room.
+pub fn read_more<R: Read>(
     from: &mut R,
     buf: &mut [u8],
     have: usize,
     last: bool,
     full: bool,
-    what: &[u8],
-    err: &mut E,
-) -> Input
+) -> Result<Input, Failed>
     requires { have ≤ length buf.old }
-    ensures came { Came buf.old have result buf.new × Quiet last full result }
-    ensures took { Took (R.remaining from.old) (R.remaining from.new) last (take result.came (drop have buf.new)) result.last }
+    ensures came { MatchResult result (λ i. Came buf.old have i.came buf.new × Quiet last full i) (λ _. Came buf.old have 0 buf.new) }
+    ensures took { MatchResult result (λ i. Took (R.remaining from.old) (R.remaining from.new) last (take i.came (drop have buf.new)) i.last) (λ _. Took (R.remaining from.old) (R.remaining from.new) last [] last) }
 {
-    let stays = last | full | (have == buf.len());
-    if stays {
-        return Input {
-            came: 0,
-            last,
-            failed: false,
-        };
+    if last | full | (have == buf.len()) {
+        return Ok(Input { came: 0, last });
     }
-    fill(from, buf, have, what, err)
+    match from.read(&mut buf[have..]) {
+        Ok(came) => Ok(Input {
+            came,
+            last: came == 0,
+        }),
+        Err(why) => Err(Failed::Read(why)),
+    }
 }
 
-// All of the text, or the first failure: a write that takes nothing is one, and none is tried again.
-fn write_text<W: Write>(to: &mut W, text: &[u8]) -> Result<()>
-    ensures { MatchResult result (λ _. Gave (W.contents to.old) (W.contents to.new) text.now true) (λ _. Gave (W.contents to.old) (W.contents to.new) text.now false) }
+// All of the text, or the first failure: a write that takes nothing is one, and none is tried again. Each write takes as many
+// bytes as it likes, so there is no index for a `for` to count; std's `write_all` would try an interrupted write again.
+fn write_text<W: Write>(to: &mut W, text: &[u8]) -> io::Result<()>
+    ensures { Gave (W.contents to.old) (W.contents to.new) text.now (is_ok result) }
 {
     let mut done = 0;
     while done < text.len() {
         let n = to.write(&text[done..])?;
         if n == 0 {
-            return Err(Error::from(ErrorKind::WriteZero));
+            return Err(io::Error::from(ErrorKind::WriteZero));
         }
         done += n;
     }
     Ok(())
 }
 
-// Writes the lines. A write that fails is said on standard error, as `what`.
-pub fn put<W: Write, E: Write>(to: &mut W, text: &[u8], what: &[u8], err: &mut E) -> bool
-    ensures { Gave (W.contents to.old) (W.contents to.new) text.now result }
+// Writes the lines.
+pub fn put<W: Write>(to: &mut W, text: &[u8]) -> Result<(), Failed>
+    ensures { Gave (W.contents to.old) (W.contents to.new) text.now (is_ok result) }
 {
     match write_text(to, text) {
-        Ok(()) => true,
-        Err(why) => {
-            let _ = fail(err, what, &why);
-            false
-        }
+        Ok(()) => Ok(()),
+        Err(why) => Err(Failed::Write(why)),
     }
 }
 
@@ -138,55 +136,71 @@ mod tests {
     struct Failing(i32);
 
     impl Read for Failing {
-        fn read(&mut self, _buf: &mut [u8]) -> Result<usize> {
-            Err(Error::from_raw_os_error(self.0))
+        fn read(&mut self, _buf: &mut [u8]) -> io::Result<usize> {
+            Err(io::Error::from_raw_os_error(self.0))
         }
     }
 
     impl Write for Failing {
-        fn write(&mut self, _buf: &[u8]) -> Result<usize> {
-            Err(Error::from_raw_os_error(self.0))
+        fn write(&mut self, _buf: &[u8]) -> io::Result<usize> {
+            Err(io::Error::from_raw_os_error(self.0))
         }
 
-        fn flush(&mut self) -> Result<()> {
+        fn flush(&mut self) -> io::Result<()> {
             Ok(())
         }
     }
 
     #[test]
-    fn reads_after_what_is_there(rt: HostRuntime) -> std::result::Result<(), Fail> {
+    fn reads_after_what_is_there(rt: HostRuntime) -> Result<(), Fail> {
         let mut from: &[u8] = b"abc";
-        let mut err = Vec::new(rt.alloc());
         let mut buf = *b"....";
-        let first = read_more(&mut from, &mut buf[..2], 1, false, false, b"t", &mut err);
-        assert!(rt; first.came == 1 && !first.last && !first.failed);
-        let more = read_more(&mut from, &mut buf, 2, false, false, b"t", &mut err);
-        assert!(rt; more.came == 2 && !more.last && !more.failed);
+        let first = read_more(&mut from, &mut buf[..2], 1, false, false);
+        assert!(rt;
+            matches!(
+                first,
+                Ok(Input {
+                    came: 1,
+                    last: false
+                })
+            )
+        );
+        let more = read_more(&mut from, &mut buf, 2, false, false);
+        assert!(rt;
+            matches!(
+                more,
+                Ok(Input {
+                    came: 2,
+                    last: false
+                })
+            )
+        );
         assert_eq!(rt; &buf[..], b".abc".as_slice());
-        let end = read_more(&mut from, &mut buf, 0, false, false, b"t", &mut err);
-        assert!(rt; end.came == 0 && end.last && !end.failed);
-        assert!(rt; err.is_empty());
+        let end = read_more(&mut from, &mut buf, 0, false, false);
+        assert!(rt;
+            matches!(
+                end,
+                Ok(Input {
+                    came: 0,
+                    last: true
+                })
+            )
+        );
         Ok(())
     }
 
     #[test]
-    fn a_failure_is_said_once(rt: HostRuntime) -> std::result::Result<(), Fail> {
+    fn a_failure_is_said_once(rt: HostRuntime) -> Result<(), Fail> {
         let mut err = Vec::new(rt.alloc());
         let mut buf = *b"....";
-        let i = read_more(
-            &mut Failing(21),
-            &mut buf,
-            1,
-            false,
-            false,
-            b"t: read",
-            &mut err,
-        );
-        assert!(rt; i.came == 0 && !i.last && i.failed);
+        let read = read_more(&mut Failing(21), &mut buf, 1, false, false);
+        assert!(rt; read.is_err());
+        let _ = status("t", read.map(|_| ()), &mut err);
         assert_eq!(rt; err.as_slice(), b"t: read: Is a directory\n".as_slice());
         err.clear();
-        let written = put(&mut Failing(28), b"lines", b"t: write", &mut err);
-        assert!(rt; !written);
+        let written = put(&mut Failing(28), b"lines");
+        assert!(rt; written.is_err());
+        let _ = status("t", written, &mut err);
         assert_eq!(rt;
             err.as_slice(),
             b"t: write: No space left on device\n".as_slice()

@@ -1,28 +1,28 @@
 -- An accepted step: `Lane::lead` in the phase lead, `Lane::sample` in the phase burst.
-use Rattle.std.specs.Prelude.{ℕ, cond, List, ltb, eqb, Float}
+use Rattle.std.specs.Prelude.{ℕ, cond, List, ltb, eqb, Float, Ok}
 use Rattle.arith.specs.Leaves.{lead_len_of}
+use Rattle.shared.specs.declared.Next.TheVariants as next
 use Rattle.envelope.specs.declared.At.{At}
 use Rattle.burst.specs.declared.Lead.{Lead}
-use Rattle.burst.specs.declared.Sampled.{Sampled}
+use Rattle.burst.specs.Types.{Sampled}
 use Rattle.burst.specs.Sample.{sample_of}
 use Rattle.burst.specs.Lead.{lead_add_of, lead_full_of}
 use Rattle.lane.specs.declared.StepArgs.{StepArgs}
 use Rattle.lane.specs.declared.Lane.{Lane}
 use Rattle.lane.specs.declared.Answer.{Answer}
-use Rattle.lane.specs.declared.Reply.TheVariants as reply
-use Rattle.lane.specs.Answers.{reply_of, phase_of}
+use Rattle.lane.specs.Answers.{phase_of}
 use Rattle.lane.specs.Begin.{lane_of, ring_of, cleared_of}
 
 -- the lane and the reply after the last sample that was stepped or replayed
 unfoldable pub settle_of : Lane → StepArgs → Lead → List Float → Sampled → Answer
-settle_of l s ld ring r = record { reply = reply_of r.next; lane = lane_of l (phase_of r.next) s.index s.x ld ring r.burst }
+settle_of l s ld ring r = record { reply = Ok r.next; lane = lane_of l (phase_of r.next) s.index s.x ld ring r.burst }
 
 abbrev pub settled : Lane → StepArgs → Lead → List Float → Sampled × List ℕ × List ℕ → Answer × List ℕ × List ℕ
 settled l s ld ring r = (settle_of l s ld ring r.0, r.1, r.2)
 
 -- lead: the sample joins the lead-in; until that is full nothing is replayed and `high` is not read
 unfoldable pub fill_of : Lane → StepArgs → Lead → List Float → Answer
-fill_of l s ld ring = record { reply = reply.Stay; lane = lane_of l 1 s.index s.x ld ring (cleared_of l.burst) }
+fill_of l s ld ring = record { reply = Ok next.Stay; lane = lane_of l 1 s.index s.x ld ring (cleared_of l.burst) }
 
 unfoldable pub replay_step : Lane → StepArgs → Lead → List Float → List ℕ → List ℕ → Answer × List ℕ × List ℕ
 replay_step l s ld ring ook fsk = settled l s ld ring (lead_full_of l.settings s.noise ring ld (cleared_of l.burst) ook fsk)

@@ -1,5 +1,6 @@
 // The lane by value: opening, begin, close, and the part of a buffer that a record names; its step is the crate `step`. Every value of every argument
-// ends with the reply of document 01 or with the first refusal that applies, lane and buffers then as they were.
+// ends with the reply of document 01 or with the first refusal that applies, lane and buffers then as they were. The two buffers are lent as two
+// slices, here and below, and not as a struct of both: so a signature says which of them a call may write, as `begin` none and `close` one.
 #![tactic(auto)]
 
 ghost use Rattle.std.specs.Prelude.{◌≡◌, true, ℕ, ◌≤◌, List};
@@ -8,8 +9,9 @@ ghost use Rattle.lane.specs.Idle.{no_out, no_run, no_runs, none_done, no_frame, 
 ghost use Rattle.lane.specs.Begin.{ring_before_of, history_of, ring_of, begin_lead_of, cleared_of, lead_lane};
 ghost use Rattle.shared.specs.Core.{whole_out, numbered};
 ghost use Rattle.burst.specs.Makers.{with_serials};
+ghost use Rattle.burst.specs.Types.{Burst};
 ghost use Rattle.lane.specs.Close.{idle_with, end_burst_of};
-ghost use Rattle.lane.specs.Step.{new_lane, opened, begun, closed};
+ghost use Rattle.lane.specs.Step.{refuse, new_lane, opened, begun, closed};
 ghost use Rattle.lane.specs.Part.{front, named_of, part_refusal, part_of};
 ghost use Rattle.lane.specs.Serial.{stamp_of};
 
@@ -18,8 +20,9 @@ use burst::{Burst, Lead};
 use fsk::{Cand, Committed, Early, Frame, Levels, Mean, Runs, Tone};
 use ook::{Env, Train};
 use presence::Pres;
+use refusals::Refusal;
 use run::Run;
-use shared::{Carrier, Out, OutCore, Settings};
+use shared::{Carrier, Flat, Next, Out, OutCore, Settings};
 
 // The seven envelopes before begin's, nearest first.
 #[derive(Clone, Copy)]
@@ -53,7 +56,7 @@ pub struct StepArgs {
 
 #[derive(Clone, Copy)]
 pub struct Lane {
-    // 0 where it never had settings, 1 where it has.
+    // 0 where it never had settings, 1 where it has; a number, as those in `Settings`.
     pub opened: u32,
     pub settings: Settings,
     // 0 idle, 1 lead, 2 burst.
@@ -69,13 +72,8 @@ pub struct Lane {
     pub serial: u64,
 }
 
-#[derive(Clone, Copy)]
-pub enum Reply {
-    Refused(u32),
-    Stay,
-    Idle,
-    IdleAt(f32),
-}
+// What an accepted call asks for, or why a call is refused.
+pub type Reply = Result<Next, Refusal>;
 
 #[derive(Clone, Copy)]
 pub struct Answer {
@@ -153,35 +151,35 @@ pub fn follows(last: u64, index: u64) -> bool
     index - 1 == last
 }
 
-fn open_refusal(l: Lane, p: Settings) -> u32
+#[tactic(auto, unfolding(crate::specs::Refusals::open_refusal))]
+fn open_refusal(l: Lane, p: Settings) -> Result<(), Refusal>
     ensures { result ≡ open_refusal l p }
 {
-    let settings = refusals::settings_ok(p);
-    let serial = refusals::serial_left(l.serial);
-    refusals::check(3, settings, refusals::check(13, serial, 0))
+    refusals::check(refusals::settings_ok(p), Refusal::Settings)?;
+    refusals::check(refusals::serial_left(l.serial), Refusal::Serial)
 }
 
-fn begin_refusal(l: Lane, b: BeginArgs, ook: usize, fsk: usize) -> u32
+#[tactic(auto, unfolding(crate::specs::Refusals::begin_refusal))]
+fn begin_refusal(l: Lane, b: BeginArgs, ook: usize, fsk: usize) -> Result<(), Refusal>
     ensures { result ≡ begin_refusal l b ook fsk }
 {
-    let p = l.settings;
     let had = l.opened != 0;
     let lane = lane_ok(l);
     let idle = l.phase == 0;
     let serial = refusals::serial_left(l.serial);
     let index = refusals::index_ok(b.index);
     let floats = begin_floats_ok(b);
-    let room = refusals::room_ok(p, ook, fsk);
+    let room = refusals::room_ok(l.settings, ook, fsk);
     refusals::first_failed(had, lane, idle, serial, index, floats, room)
 }
 
-fn close_refusal(l: Lane, ook: usize, fsk: usize) -> u32
+#[tactic(auto, unfolding(crate::specs::Refusals::close_refusal))]
+fn close_refusal(l: Lane, ook: usize, fsk: usize) -> Result<(), Refusal>
     ensures { result ≡ close_refusal l ook fsk }
 {
-    let p = l.settings;
     let lane = lane_ok(l);
     let busy = l.phase != 0;
-    let room = refusals::room_ok(p, ook, fsk);
+    let room = refusals::room_ok(l.settings, ook, fsk);
     refusals::first_failed(true, lane, busy, true, true, true, room)
 }
 
@@ -388,22 +386,28 @@ pub fn new_lane() -> Lane
     idle_lane(0, p, 0)
 }
 
+// A refused call gives the lane back.
+pub fn refused(l: Lane, k: Refusal) -> Answer
+    ensures { result ≡ refuse k l }
+{
+    Answer {
+        reply: Err(k),
+        lane: l,
+    }
+}
+
 // Opening: settings give an idle lane in place of l, whose serial goes on.
+#[tactic(auto, unfolding(crate::specs::Step::opened))]
 pub fn open(l: Lane, p: Settings) -> Answer
     ensures { result ≡ opened l p }
 {
-    let k = open_refusal(l, p);
-    let ok = k == 0;
-    if ok {
-        let lane = idle_lane(1, p, l.serial + 1);
-        return Answer {
-            reply: Reply::Stay,
-            lane,
-        };
+    if let Err(k) = open_refusal(l, p) {
+        return refused(l, k);
     }
+    let lane = idle_lane(1, p, l.serial + 1);
     Answer {
-        reply: Reply::Refused(k),
-        lane: l,
+        reply: Ok(Next::Stay),
+        lane,
     }
 }
 
@@ -420,7 +424,7 @@ fn ring_before(ring: [f32; 32], index: u64, back: u64, e: f32) -> [f32; 32]
     r
 }
 
-// `history` of the Rust.
+// `history` of the Rust. One line for each field: History is the public input, with seven fields of their own names, so there is no list to go through.
 fn fill_history(ring: [f32; 32], index: u64, h: History) -> [f32; 32]
     ensures { result ≡ history_of ring index h }
 {
@@ -434,13 +438,11 @@ fn fill_history(ring: [f32; 32], index: u64, h: History) -> [f32; 32]
 }
 
 // The envelope goes to its place in the ring.
-fn ring_with(ring: [f32; 32], index: u64, e: f32) -> [f32; 32]
-    ensures { result ≡ ring_of ring index e }
+pub fn ring_put(ring: &mut [f32; 32], index: u64, e: f32)
+    ensures { ring.new ≡ ring_of ring.old index e }
 {
-    let mut r = ring;
     let i = (index % 32) as usize;
-    r[i] = e;
-    r
+    ring[i] = e;
 }
 
 fn begin_lead(b: BeginArgs) -> Lead
@@ -477,9 +479,9 @@ fn lead_lane(l: Lane, b: BeginArgs, serial: u64) -> Lane
 {
     let x = b.x;
     let h = b.history;
-    let ring0 = l.ring;
-    let ring1 = ring_with(ring0, b.index, b.envelope);
-    let ring = fill_history(ring1, b.index, h);
+    let mut ring = l.ring;
+    ring_put(&mut ring, b.index, b.envelope);
+    let ring = fill_history(ring, b.index, h);
     let lead = begin_lead(b);
     let old = l.burst;
     let mut burst = clear_records(old, serial);
@@ -496,21 +498,17 @@ fn lead_lane(l: Lane, b: BeginArgs, serial: u64) -> Lane
 }
 
 // Begin: the lane goes to its lead. Neither buffer is written.
+#[tactic(auto, unfolding(crate::specs::Step::begun))]
 pub fn begin(l: Lane, b: BeginArgs, ook: &[u32], fsk: &[u32]) -> Answer
     ensures { result ≡ begun l b ook.now fsk.now }
 {
-    let k = begin_refusal(l, b, ook.len(), fsk.len());
-    let ok = k == 0;
-    if ok {
-        let lane = lead_lane(l, b, l.serial + 1);
-        return Answer {
-            reply: Reply::Stay,
-            lane,
-        };
+    if let Err(k) = begin_refusal(l, b, ook.len(), fsk.len()) {
+        return refused(l, k);
     }
+    let lane = lead_lane(l, b, l.serial + 1);
     Answer {
-        reply: Reply::Refused(k),
-        lane: l,
+        reply: Ok(Next::Stay),
+        lane,
     }
 }
 
@@ -519,7 +517,7 @@ pub fn begin(l: Lane, b: BeginArgs, ook: &[u32], fsk: &[u32]) -> Answer
 pub fn no_core_out() -> OutCore
     ensures { whole_out result ≡ no_out }
 {
-    let carrier = shared::angle(0.0);
+    let carrier = Flat::angle(0.0);
     OutCore {
         index: 0,
         end: 0,
@@ -560,79 +558,71 @@ fn idle_with(l: Lane, burst: Burst, serial: u64) -> Lane
 }
 
 // Close: the burst ends as if its gap had run out. In lead there is no train. The FSK buffer is measured alone.
+#[tactic(auto, unfolding(crate::specs::Step::closed))]
 pub fn close(l: Lane, ook: &mut [u32], fsk: &[u32]) -> Answer
     ensures { (result, ook.new, fsk.now) ≡ closed l ook.old fsk.now }
 {
-    let k = close_refusal(l, ook.len(), fsk.len());
-    let ok = k == 0;
-    if ok {
-        let serial = l.serial + 1;
-        let b = l.burst;
-        let leads = l.phase == 1;
-        if leads {
-            let clear = clear_records(b, serial);
-            let lane = idle_with(l, clear, serial);
-            return Answer {
-                reply: Reply::Idle,
-                lane,
-            };
-        }
-        let ended = end_burst(b, serial, ook);
-        let lane = idle_with(l, ended, serial);
+    if let Err(k) = close_refusal(l, ook.len(), fsk.len()) {
+        return refused(l, k);
+    }
+    let serial = l.serial + 1;
+    let b = l.burst;
+    let leads = l.phase == 1;
+    if leads {
+        let clear = clear_records(b, serial);
+        let lane = idle_with(l, clear, serial);
         return Answer {
-            reply: Reply::Idle,
+            reply: Ok(Next::Idle),
             lane,
         };
     }
+    let ended = end_burst(b, serial, ook);
+    let lane = idle_with(l, ended, serial);
     Answer {
-        reply: Reply::Refused(k),
-        lane: l,
+        reply: Ok(Next::Idle),
+        lane,
     }
 }
 
 // ---- the pairs of a record
 
 // The first n slots, none where there are fewer.
+#[tactic(auto, unfolding(crate::specs::Part::front))]
 fn first<'a>(s: &'a [u32], n: usize) -> &'a [u32]
     ensures { result.now ≡ front n s.now }
 {
-    if n <= s.len() {
-        return &s[..n];
-    }
-    &s[..0]
+    s.get(..n).unwrap_or(&[])
 }
 
 // The slots that a record names.
+#[tactic(auto, unfolding(crate::specs::Part::named_of))]
 fn named<'a>(r: Out, ook: &'a [u32], fsk: &'a [u32]) -> &'a [u32]
     ensures { result.now ≡ named_of r ook.now fsk.now }
 {
-    let decides = r.state == 1;
-    if decides {
-        let is_fsk = r.fsk == 1;
-        if is_fsk {
-            return first(fsk, 2 * (r.pairs as usize));
-        }
-        return first(ook, 2 * (r.pairs as usize));
+    if r.state != 1 {
+        return &[];
     }
-    &ook[..0]
+    let slots = 2 * (r.pairs as usize);
+    if r.fsk == 1 {
+        return first(fsk, slots);
+    }
+    first(ook, slots)
 }
 
-// 13 where the record is not of the lane's last accepted call, 0 where it is.
-pub fn part_refusal(l: Lane, r: Out) -> u32
+// Refused where the record is not of the lane's last accepted call.
+pub fn part_refusal(l: Lane, r: Out) -> Result<(), Refusal>
     ensures { result ≡ part_refusal l r }
 {
-    let matches = refusals::serials_match(l.serial, r.serial);
-    refusals::check(13, matches, 0)
+    refusals::check(refusals::serials_match(l.serial, r.serial), Refusal::Serial)
 }
 
-// The part of a record, by the lane that returned it; the empty part where `part_refusal` is 13.
+// The part of a record, by the lane that returned it; the empty part where `part_refusal` refuses.
+#[tactic(auto, unfolding(crate::specs::Part::part_of))]
 pub fn part<'a>(l: Lane, r: Out, ook: &'a [u32], fsk: &'a [u32]) -> &'a [u32]
     ensures { result.now ≡ part_of l r ook.now fsk.now }
 {
-    let k = part_refusal(l, r);
-    let ok = k == 0;
-    if ok {
+    if part_refusal(l, r).is_ok() {
         return named(r, ook, fsk);
     }
-    &ook[..0]
+    &[]
 }

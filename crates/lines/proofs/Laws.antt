@@ -5,13 +5,13 @@ use mathlib.Core.Path.{◌≡◌, refl, sym, ◌∙◌, ap}
 use mathlib.Core.List.{List, [], ◌∷◌, ◌++◌}
 use native.Mathlib.Omega.{arith}
 use native.Mathlib.Nat.{add-zero, add-suc, suc-add, add_assoc, not-suc-le-zero}
-use native.Mathlib.Numerals.{add-one, sub-one}
+use native.Mathlib.Numerals.{sub-one}
 use lib.ListN.{length, set, take, drop, get_or, length-append, length-drop, drop_of_length-le}
-use lib.Seq.{take_all, sets, drop-cons, append_snoc}
+use lib.Seq.{take_all, sets, append_snoc}
+use Rattle.std.proofs.Common.{append_assoc}
+use Rattle.std.proofs.lemmas.List.{take_more, append-nil}
 use lib.Dec.{ltb}
 use borrow.Author.Tests.{lt-ltb}
-use Rattle.lines.specs.declared.Written.{Written}
-use Rattle.lines.specs.declared.Written.TheVariants.{At, NoRoom}
 use Rattle.lines.specs.Line.{Spelled, leading, decimal, number, widths, put, Put}
 
 -- ---- put
@@ -25,14 +25,6 @@ unfolding put
 put_put a b p =
     ap (λ (t : List ℕ). (p.0 + length a + length b, t)) (sets_append a b p.1 p.0)
     ∙ ap (λ (k : ℕ). (k, sets p.1 p.0 (a ++ b))) (add_assoc p.0 (length a) (length b) ∙ ap (λ (n : ℕ). p.0 + n) (sym (length-append a b)))
-
--- one byte of a text stored, and what is left of it
-pub put_turn : (src t : List ℕ) (at i : ℕ) → i < length src
-    → sets (set t (at + i) (get_or src i 0)) (at + (i + 1)) (drop (i + 1) src) ≡ sets t (at + i) (drop i src)
-put_turn src t at i h = simp (add-one, add-suc, drop-cons src i 0 h)
-
-pub put_end : (src t : List ℕ) (at i : ℕ) → length src ≤ i → t ≡ sets t (at + i) (drop i src)
-put_end src t at i h = simp (drop_of_length-le src h)
 
 -- ---- digits
 
@@ -105,25 +97,17 @@ within {w} {s} {t} {m} {at} {r} n h p = record { text = p.text; near = omega (ar
 pub said : {w v s t : List ℕ} {at r : ℕ} → w ≡ v → Put w (length w) at s r t → Put v (length v) at s r t
 said {w} {v} {s} {t} {at} {r} e p = within (length v) (omega (arith, ap length e)) (same e p)
 
--- a text that was put where there was room
-pub written_in : {w s t : List ℕ} {m at e : ℕ} (b : Bool) → b ≡ true → Put w m at s e t
-    → ◌≡◌ {A = Written × List ℕ} (At e, t) (cond b (At (at + length w), sets s at w) (NoRoom, s))
-unfolding put
-written_in b q p = simp q (ap (λ (x : ℕ × List ℕ). (At x.0, x.1)) p.text)
-
 -- ---- the widths
 
-pub widths_turn : (ws t u : List ℕ) (i a b w m : ℕ) → i < length ws → w ≡ get_or ws i 0 → Put (number w) m a t b u
-    → put (widths (drop (i + 1) ws)) (b, u) ≡ put (widths (drop i ws)) (a, t)
+widths_append : (a b : List ℕ) → widths (a ++ b) ≡ widths a ++ widths b
 unfolding widths
-widths_turn ws t u i a b w m h e p =
-    ap (put (widths (drop (i + 1) ws))) p.text
-    ∙ put_put (number w) (widths (drop (i + 1) ws)) (a, t)
-    ∙ simp (e, add-one, drop-cons ws i 0 h)
+widths_append [] b = refl
+widths_append (w ∷ a) b = ap (λ (l : List ℕ). number w ++ l) (widths_append a b) ∙ sym (append_assoc (number w) (widths a) (widths b))
 
-pub widths_end : (ws t : List ℕ) (i a : ℕ) → length ws ≤ i → ◌≡◌ {A = ℕ × List ℕ} (a, t) (put (widths (drop i ws)) (a, t))
-unfolding widths put
-widths_end ws t i a h = simp (drop_of_length-le ws h, add-zero)
+-- one width more
+pub widths_more : (ws : List ℕ) (i w : ℕ) → i < length ws → w ≡ get_or ws i 0 → widths (take i ws) ++ number w ≡ widths (take (i + 1) ws)
+unfolding widths
+widths_more ws i w h e = rw (take_more ws i 0 h) (rw (widths_append (take i ws) (get_or ws i 0 ∷ [])) (simp (e, append-nil)))
 
 pub put_none : (t : List ℕ) (a m : ℕ) → Put [] m a t a t
 unfolding put

@@ -7,12 +7,13 @@ use native.Mathlib.Omega.{arith}
 use lib.ListN.{length, length-append}
 use lib.Dec.{T, eqb, ltb, leb}
 use lib.Ieee.{Float}
-use borrow.Author.Tests.{ltb-true, ltb-false, leb-true}
+use borrow.Author.Tests.{ltb-false, leb-true}
 use Rattle.shared.specs.declared.Out.{Out}
 use Rattle.shared.specs.declared.Carrier.{Carrier}
 use Rattle.shared.specs.declared.Carrier.TheVariants.{Angle, Vector}
-use Rattle.lane.specs.declared.Reply.{Reply}
-use Rattle.lane.specs.declared.Reply.TheVariants.{Refused, Stay, Idle, IdleAt}
+use Rattle.std.specs.Prelude.{Result, Ok, Err}
+use Rattle.shared.specs.declared.Next.{Next}
+use Rattle.shared.specs.declared.Next.TheVariants as next
 use Rattle.lines.specs.Line.{hex8, number, float, carrier, widths, train_head, train_tail, train_line, record_line, idle_line, carrier_line, refused_line, call_text, max_slots, train_room, call_room, larger_of, has_room}
 use Rattle.lines.proofs.Laws.{length_decimal}
 
@@ -61,14 +62,14 @@ length_record o ws = go (eqb o.state 1)
     go true = length_train o ws
     go false = omega arith
 
-length_phase : (r : Reply) (w : List ℕ) (index : ℕ) → length (call_text r w index) ≤ length w + 48
+length_phase : (r : Result Next ℕ) (w : List ℕ) (index : ℕ) → length (call_text r w index) ≤ length w + 48
 unfolding call_text idle_line carrier_line refused_line
-length_phase (Refused n) w index = simp length-append (omega (arith, length_decimal n))
-length_phase Stay w index = omega arith
-length_phase Idle w index = simp length-append (omega (arith, length_decimal index))
-length_phase (IdleAt e) w index = simp length-append (omega (arith, length_decimal index, length_float e))
+length_phase (Err n) w index = simp length-append (omega (arith, length_decimal n))
+length_phase (Ok next.Stay) w index = omega arith
+length_phase (Ok next.Idle) w index = simp length-append (omega (arith, length_decimal index))
+length_phase (Ok (next.IdleAt e)) w index = simp length-append (omega (arith, length_decimal index, length_float e))
 
-pub length_call : (r : Reply) (f : Out) (fs : List ℕ) (o : Out) (os : List ℕ) (index : ℕ)
+pub length_call : (r : Result Next ℕ) (f : Out) (fs : List ℕ) (o : Out) (os : List ℕ) (index : ℕ)
     → length (call_text r (record_line f fs ++ record_line o os) index) ≤ train_room (length fs) + train_room (length os) + 48
 length_call r f fs o os index =
     omega (
@@ -96,18 +97,10 @@ room_there n len at e =
     (p, omega arith)
 
 pub larger_left : (n m : ℕ) → n ≤ larger_of n m
-larger_left n m = go (ltb n m) refl
-  where
-    go : (b : Bool) → ltb n m ≡ b → n ≤ cond b m n
-    go true q = omega (arith, ltb-true n m q)
-    go false q = omega arith
+larger_left n m = omega arith
 
 pub larger_right : (n m : ℕ) → m ≤ larger_of n m
-larger_right n m = go (ltb n m) refl
-  where
-    go : (b : Bool) → ltb n m ≡ b → m ≤ cond b m n
-    go true q = omega arith
-    go false q = ltb-false n m q
+larger_right n m = omega arith
 
 -- what call_lines needs of its text
 pub parts_fit : (n m len at : ℕ) → has_room (larger_of n m) len at ≡ true → at + (train_room n + train_room m + 48) ≤ len

@@ -1,16 +1,14 @@
 -- The lines that the listing program prints (document 01, "Commands"), as lists of bytes.
-use Rattle.std.specs.Prelude.{ℕ, zero, suc, ◌+◌, ◌*◌, ◌-◌, ◌/◌, ◌%◌, ◌≤◌, Bool, false, cond, ◌≡◌, List, [], ◌∷◌, ◌++◌, length, drop, eqb, ltb, leb, Float}
+use Rattle.std.specs.Prelude.{ℕ, zero, suc, ◌+◌, ◌*◌, ◌-◌, ◌/◌, ◌%◌, ◌≤◌, Bool, false, cond, ◌≡◌, List, [], ◌∷◌, ◌++◌, length, drop, max, eqb, ltb, leb, Float, Option, Some, None, Result, Ok, Err, is_err}
 use Rattle.std.proofs.lemmas.List.Edits.{sets}
 use Rattle.std.specs.Float.{binary32}
 use Rattle.std.specs.Float.Ieee.{to_bits}
 pub use Rattle.domain.specs.Limits.{max_slots}
 use Rattle.shared.specs.declared.Out.{Out}
 use Rattle.shared.specs.declared.Carrier.{Carrier}
+use Rattle.shared.specs.declared.Next.{Next}
+use Rattle.shared.specs.declared.Next.TheVariants as next
 use Rattle.shared.specs.Answers.{carrier_kind_of, carrier_first_of, carrier_second_of}
-use Rattle.lane.specs.declared.Reply.{Reply}
-use Rattle.lane.specs.Answers.{refusal_number_of, reply_number_of, reply_envelope_of}
-use Rattle.lines.specs.declared.Written.{Written}
-use Rattle.lines.specs.declared.Written.TheVariants.{At, NoRoom}
 
 -- ---- numbers
 
@@ -100,12 +98,22 @@ refused_line n = (114 ∷ 101 ∷ 102 ∷ 117 ∷ 115 ∷ 101 ∷ 100 ∷ []) ++
 
 -- what a call prints: the lines of its records, `fsk` before `ook`, and then the phase line, which `stay` has none of; a
 -- refused call prints its number and not the records that the lane still holds
-unfoldable pub call_text : Reply → List ℕ → ℕ → List ℕ
-call_text r records index =
-    let n = reply_number_of r in
-    cond (eqb n 0) records
-    (cond (eqb n 1) (records ++ idle_line index)
-    (cond (eqb n 2) (records ++ carrier_line index (reply_envelope_of r)) (refused_line (refusal_number_of r))))
+unfoldable pub call_text : Result Next ℕ → List ℕ → ℕ → List ℕ
+call_text (Ok next.Stay) records index = records
+call_text (Ok next.Idle) records index = records ++ idle_line index
+call_text (Ok (next.IdleAt e)) records index = records ++ carrier_line index e
+call_text (Err n) records index = refused_line n
+
+-- a line after a tag; where there is no line, nothing
+unfoldable pub after_tag : List ℕ → List ℕ → List ℕ
+after_tag tag [] = []
+after_tag tag (b ∷ l) = tag ++ (b ∷ l)
+
+-- The lines of a call, each after a tag, by its reply, the lines of its two records and the index of its phase line: `fsk`, `ook`, phase. A
+-- refused call has its number alone. Without records `call_text` is the phase line, or that of the refusal.
+unfoldable pub tagged_call : List ℕ → Result Next ℕ → List ℕ → List ℕ → ℕ → List ℕ
+tagged_call tag r f o index =
+    cond (is_err r) [] (after_tag tag f ++ after_tag tag o) ++ after_tag tag (call_text r [] index)
 
 -- ---- stored in a buffer
 
@@ -128,16 +136,20 @@ train_room n = 160 + 21 * n
 abbrev pub call_room : ℕ → ℕ
 call_room n = 368 + 42 * n
 
+-- the most that the lines of a call take, by the lengths of its tag and of its two parts
+abbrev pub call_most : ℕ → ℕ → ℕ → ℕ
+call_most tag n m = 3 * tag + (train_room n + train_room m + 48)
+
 abbrev pub larger_of : ℕ → ℕ → ℕ
-larger_of n m = cond (ltb n m) m n
+larger_of n m = max n m
 
 -- whether a text of len bytes has that room at a place
 unfoldable pub has_room : ℕ → ℕ → ℕ → Bool
 has_room n len at = cond (ltb max_slots n) false (cond (ltb len at) false (leb (call_room n) (len - at)))
 
--- the lines of a call, stored where there is room, and the answer where there is none
-unfoldable pub written_call : Reply → Out → List ℕ → Out → List ℕ → ℕ → ℕ → List ℕ → Written × List ℕ
+-- the lines of a call, stored where there is room, and the place after them; none where there is no room
+unfoldable pub written_call : Result Next ℕ → Out → List ℕ → Out → List ℕ → ℕ → ℕ → List ℕ → Option ℕ × List ℕ
 unfolding put call_text record_line has_room
 written_call r f fs o os index at s =
     let w = call_text r (record_line f fs ++ record_line o os) index in
-    cond (has_room (larger_of (length fs) (length os)) (length s) at) (At (at + length w), sets s at w) (NoRoom, s)
+    cond (has_room (larger_of (length fs) (length os)) (length s) at) (Some (at + length w), sets s at w) (None, s)

@@ -1,124 +1,82 @@
 // The listing program (document 01, "Commands"): commands from standard input, as many as a read
-// brings, and the lines of their calls to standard output before the next read. It only moves bytes:
-// what is printed is `feed::feed`'s.
+// brings, and the lines of their calls to standard output before the next read. What is printed is
+// `calls::block`'s, and the bytes are moved by `pump::run`.
 #![tactic(auto)]
 
-ghost use Rattle.std.specs.Prelude.{◌≤◌, ◌≡◌, length};
-ghost use Rattle.lane.specs.Step.{new_lane};
-ghost use Rattle.reached.specs.Reached.{Sound};
+ghost use Rattle.std.specs.Prelude.{◌≡◌, is_ok};
+ghost use Rattle.calls.specs.Stream.{machine, at_first};
 ghost use Rattle.stream.specs.Machine.{printed_of};
-ghost use Rattle.calls.specs.Stream.{machine};
-ghost use Rattle.feed.specs.Rest.{rest_of};
 ghost use Rattle.input.specs.Known.{Writes};
-ghost use Rattle.input.specs.Passes.{Passes, Carries};
-ghost use Rattle.listing.specs.Passes.{started, Ends};
+ghost use Rattle.listing.specs.Channel.{state_of, Ends};
 
-use feed::Fed;
+use input::Failed;
+use lane::Lane;
 use std::io::{Read, Write};
 use std::process::ExitCode;
+use stream::{Ran, Station};
 
+// A lane with its buffers, for 2,048 pairs each.
 #[derive(Clone, Copy)]
-struct Passed {
-    // What was fed last: its bytes that no command has taken are at the front of the buffer.
-    fed: Fed,
-    // Whether the input has ended.
-    last: bool,
-    // Whether a read or a write has failed.
-    failed: bool,
+struct Channel {
+    lane: Lane,
+    ook: [u32; 4096],
+    fsk: [u32; 4096],
 }
 
-// Before the first read.
-fn start() -> Passed
-    ensures { result ≡ started }
+// The lane never had settings.
+fn new_channel() -> Channel
+    ensures { state_of result ≡ at_first }
 {
-    let lane = lane::new_lane();
-    let fed = Fed {
-        lane,
-        left: 0,
-        at: 0,
-        full: false,
-        done: false,
-    };
-    Passed {
-        fed,
-        last: false,
-        failed: false,
+    Channel {
+        lane: lane::new_lane(),
+        ook: [0; 4096],
+        fsk: [0; 4096],
     }
 }
 
-// One read, the turns of what is there, and one write.
-fn pass<R: Read, W: Write, E: Write>(
-    p: Passed,
+impl Station for Channel {
+    ghost use Rattle.reached.specs.Reached.{Sound};
+    ghost use Rattle.calls.specs.Stream.{machine as program};
+    ghost use Rattle.listing.specs.Channel.{state_of};
+    ghost use Rattle.calls.proofs.Orderly.{orderly as keeps_order};
+
+    ghost machine = { program };
+
+    ghost state = { state_of };
+
+    ghost is_sound = { λ s. Sound s.lane };
+
+    fn block(&mut self, s: &[u8], last: bool, text: &mut [u8]) -> Ran {
+        let (lane, r) = calls::block(self.lane, s, last, &mut self.ook, &mut self.fsk, text);
+        self.lane = lane;
+        r
+    }
+
+    ghost orderly = { keeps_order };
+}
+
+// The lines of all that the reader brings, from a lane that never had settings.
+fn run<R: Read, W: Write>(
     from: &mut R,
     to: &mut W,
-    err: &mut E,
     buf: &mut [u8],
-    ook: &mut [u32],
-    fsk: &mut [u32],
     text: &mut [u8],
-) -> Passed
-    requires { (p.fed.left ≤ length buf.old) × Sound p.fed.lane }
-    ensures passes { Passes machine (p.fed.lane, ook.old, fsk.old) (rest_of p.fed) p.last buf.old (result.fed.lane, ook.new, fsk.new) (rest_of result.fed) result.last buf.new text.new × Sound result.fed.lane }
-    ensures carries { Carries machine (p.fed.lane, ook.old, fsk.old) (rest_of p.fed) p.last buf.old (result.fed.lane, ook.new, fsk.new) (rest_of result.fed) result.last buf.new text.new (R.remaining from.old) (R.remaining from.new) (W.contents to.old) (W.contents to.new) result.failed }
+) -> Result<(), Failed>
+    ensures ends { Ends (is_ok result) }
+    ensures writes { Writes (printed_of machine at_first) (R.remaining from.old) (W.contents to.old) (W.contents to.new) (is_ok result) }
 {
-    let q = p.fed;
-    let lane = q.lane;
-    let i = input::read_more(from, buf, q.left, p.last, q.full, b"listing: read", err);
-    let end = q.left + i.came;
-    let f = feed::feed(lane, buf, end, i.last, ook, fsk, text);
-    let at = f.at;
-    let written = input::put(to, &text[..at], b"listing: write", err);
-    Passed {
-        fed: f,
-        last: i.last,
-        failed: i.failed | !written,
-    }
+    let mut channel = new_channel();
+    pump::run(from, to, &mut channel, buf, text)
 }
 
-// Passes until the stream is over or a read or a write fails; answers whether the stream is over and
-// nothing failed. A proved loop has to end, and nothing says that the input does: it counts down from
-// a number that no run uses up.
-fn run<R: Read, W: Write, E: Write>(
-    from: &mut R,
-    to: &mut W,
-    err: &mut E,
-    buf: &mut [u8],
-    ook: &mut [u32],
-    fsk: &mut [u32],
-    text: &mut [u8],
-) -> bool
-    ensures ends { Ends (new_lane, ook.old, fsk.old) result ook.new fsk.new }
-    ensures writes { Writes (printed_of machine (new_lane, ook.old, fsk.old)) (R.remaining from.old) (W.contents to.old) (W.contents to.new) result }
-{
-    let mut p = start();
-    let mut passes = u64::MAX;
-    while passes > 0 {
-        passes -= 1;
-        p = pass(p, from, to, err, buf, ook, fsk, text);
-        if p.fed.done | p.failed {
-            return p.fed.done & !p.failed;
-        }
-    }
-    false
-}
-
-// Buffers for 2,048 pairs each. The text has room for the 172,400 bytes that one call may take, and
-// is written once for each read where the calls print less than the rest of it. A run that fails ends
-// with a status that is not zero.
+// The text has room for the 172,400 bytes that one call may take, and is written once for each read
+// where the calls print less than the rest of it. A run that fails ends with a status that is not zero.
 fn main(rt: HostRuntime) -> ExitCode {
     let mut buf = [0u8; 65536];
-    let mut ook = [0u32; 4096];
-    let mut fsk = [0u32; 4096];
     let mut text = [0u8; 262144];
     let mut from = rt.stdin();
     let mut to = rt.stdout();
+    let done = run(&mut from, &mut to, &mut buf, &mut text);
     let mut err = rt.stderr();
-    let whole = run(
-        &mut from, &mut to, &mut err, &mut buf, &mut ook, &mut fsk, &mut text,
-    );
-    if whole {
-        ExitCode::SUCCESS
-    } else {
-        ExitCode::FAILURE
-    }
+    input::status("listing", done, &mut err)
 }

@@ -17,7 +17,7 @@ use Rattle.shared.specs.declared.Settings.{Settings}
 use Rattle.ook.specs.declared.Pushed.{Pushed}
 use Rattle.shared.specs.declared.Next.{Next}
 use Rattle.shared.specs.declared.Next.TheVariants.{Idle}
-use Rattle.ook.specs.declared.Done.{Done}
+use Rattle.ook.specs.Types.{Done}
 use Rattle.shared.proofs.Counts.{inc_exact}
 use Rattle.shared.specs.Counts.{bit}
 use Rattle.run.specs.Run.{moved_of}

@@ -1,4 +1,5 @@
 -- The definitions that the OOK crate's contracts cite.
+pub mod Types
 pub mod Core
 pub mod Run
 pub mod Refine

@@ -6,7 +6,7 @@ use Rattle.run.specs.Limits.{RunWithin}
 use Rattle.ook.specs.declared.Env.{Env}
 use Rattle.ook.specs.declared.Train.{Train}
 use Rattle.shared.specs.declared.Out.{Out}
-use Rattle.ook.specs.declared.Done.{Done}
+use Rattle.ook.specs.Types.{Done}
 
 pub record EnvWithin (s : Env) : Type 0 where
   pub run_within : RunWithin s.run

@@ -11,8 +11,8 @@ use Rattle.shared.specs.Counts.{inc, bit, zero_c32}
 use Rattle.ook.specs.declared.Train.{Train}
 use Rattle.shared.specs.declared.Out.{Out}
 use Rattle.ook.specs.declared.Pushed.{Pushed}
-use Rattle.ook.specs.declared.Ended.{Ended}
-use Rattle.ook.specs.declared.Done.{Done}
+use Rattle.ook.specs.Types.{Ended}
+use Rattle.ook.specs.Types.{Done}
 use Rattle.shared.specs.declared.Settings.{Settings}
 use Rattle.shared.specs.declared.Next.{Next}
 use Rattle.shared.specs.declared.Next.TheVariants.{Stay, Idle}

@@ -12,11 +12,11 @@ ghost use Rattle.ook.specs.Train.{push_pulse_of, close_gap_of, empty_train_of, f
 
 use arith::{C32, Steps};
 use run::{Crossing, Run};
-use shared::{Next, Out, OutCore, Settings};
+use shared::{Flat, Next, Out, OutCore, Settings};
 
 // ---- what the run and the train are
 
-// The run of the envelope, whose edge t_run is refined once the run is long enough, and what that needs.
+// The run of the envelope (flags are numbers, as in shared::Settings), whose edge t_run is refined once the run is long enough, and what that needs.
 #[derive(Clone, Copy)]
 pub struct Env {
     pub run: Run,
@@ -28,7 +28,7 @@ pub struct Env {
     pub ref_pending: u32,
 }
 
-// The train of the pulses so far; origin is the first pulse's edge, bound the last boundary in 64ths of a step after it.
+// The train of the pulses so far (flags are numbers, as in shared::Settings); origin is the first pulse's edge, bound the last boundary in 64ths of a step after it.
 #[derive(Clone, Copy)]
 pub struct Train {
     pub start: u64,
@@ -43,63 +43,62 @@ pub struct Train {
     pub bound: u64,
 }
 
-// Whether a pulse had room, and the train.
+// Whether a pulse had room, and the train. A flag beside it, and neither Option nor Result: both cases have a train.
 #[derive(Clone, Copy)]
 pub struct Pushed {
     pub fits: bool,
     pub train: Train,
 }
 
+// The train after its end, and a record: a caller's (`Ended`), or the core's (`EndedCore`). So with each pair of names below and in
+// the crates above: one struct, over the type in which the two differ.
 #[derive(Clone, Copy)]
-pub struct Ended {
+pub struct EndedOf<O> {
     pub train: Train,
-    pub out: Out,
+    pub out: O,
 }
 
+pub type Ended = EndedOf<Out>;
+
+pub type EndedCore = EndedOf<OutCore>;
+
+// What a stage asks for, the train after it, and the record.
 #[derive(Clone, Copy)]
-pub struct Done {
+pub struct DoneOf<O> {
     pub next: Next,
     pub train: Train,
-    pub out: Out,
+    pub out: O,
 }
 
-// The two in the core.
-#[derive(Clone, Copy)]
-pub struct EndedCore {
-    pub train: Train,
-    pub out: OutCore,
-}
+pub type Done = DoneOf<Out>;
 
-#[derive(Clone, Copy)]
-pub struct DoneCore {
-    pub next: Next,
-    pub train: Train,
-    pub out: OutCore,
-}
+pub type DoneCore = DoneOf<OutCore>;
 
 // ---- the run of the envelope
 
 // The run after a sample whose level is `on`: a glitch takes its edge back, and the edge of a run that begins waits for its refinement.
+#[tactic(auto, unfolding(crate::specs::Run::advance_of, run::specs::Run::begin_run_of, run::specs::Run::moved_of))]
 pub fn advance(same: bool, short: bool, env: Env, on: bool, c: Crossing) -> Env
     ensures { result ≡ advance_of same short env on (edge_at c) c.idx }
 {
     let r = env.run;
+    // Fields set one by one: as `Env { run: .., ..env }` a call of the OOK stream takes 4 % more instructions.
     if same {
-        let q = run::lengthen(r);
+        let q = r.lengthen();
         let mut n = env;
         n.run = q;
         return n;
     }
     if short {
-        let q = run::rejoin(r, shared::bit(on));
+        let q = r.rejoin(u32::from(on));
         let mut n = env;
         n.run = q;
         n.c_run = env.c_prev;
         n.ref_pending = 0;
         return n;
     }
-    let tc = run::edge_at(c);
-    let q = run::begin_run(r, shared::bit(on), tc);
+    let tc = c.edge_at();
+    let q = r.begin_run(u32::from(on), tc);
     Env {
         run: q,
         c_run: tc,
@@ -109,6 +108,7 @@ pub fn advance(same: bool, short: bool, env: Env, on: bool, c: Crossing) -> Env
     }
 }
 
+#[tactic(auto, unfolding(crate::specs::Run::zero_if))]
 fn zero_if(b: bool, pac: C32) -> C32
     ensures { result ≡ zero_if b pac }
 {
@@ -119,6 +119,7 @@ fn zero_if(b: bool, pac: C32) -> C32
 }
 
 // The pulse's sum: a short pulse leaves nothing, and a pulse that begins starts from 0.
+#[tactic(auto, unfolding(crate::specs::Run::pac_run_of))]
 pub fn pac_run(same: bool, short: bool, on: bool, pac: C32) -> C32
     ensures { result ≡ pac_run_of same short on pac }
 {
@@ -132,16 +133,15 @@ pub fn pac_run(same: bool, short: bool, on: bool, pac: C32) -> C32
 }
 
 // A burst begins at the time t; ref_idx and ref_pending stay as an earlier one left them, as in the Rust.
+#[tactic(auto, unfolding(crate::specs::Run::begin_env_of))]
 pub fn begin_env(t: f64, env: Env) -> Env
     ensures { result ≡ begin_env_of t env }
 {
-    let r = run::start_run(t);
     Env {
-        run: r,
+        run: Run::start_run(t),
         c_run: t,
         c_prev: t,
-        ref_idx: env.ref_idx,
-        ref_pending: env.ref_pending,
+        ..env
     }
 }
 
@@ -151,42 +151,27 @@ pub fn begin_env(t: f64, env: Env) -> Env
 const NOISE_POWER: f32 = 0.95492965;
 
 // Half the signal's amplitude over the noise: the midpoint of an edge, which the noise does not move towards the plateau.
+#[tactic(auto, unfolding(crate::specs::Refine::refine_level_of))]
 pub fn refine_level(high: f32, noise: f32) -> f32
     ensures { result ≡ refine_level_of high noise }
 {
     root::sqrt(0.25 * high * high + NOISE_POWER * noise * noise)
 }
 
-fn min_of(x: u64, y: u64) -> u64
-    ensures { result ≡ min x y }
-{
-    if x < y {
-        return x;
-    }
-    y
-}
-
-fn max_of(x: u64, y: u64) -> u64
-    ensures { result ≡ max x y }
-{
-    if x < y {
-        return y;
-    }
-    x
-}
-
 // Where the search starts: a few samples before the crossing and after the edge before, in the burst, and in the ring.
+#[tactic(auto, unfolding(crate::specs::Refine::refine_lo_of))]
 pub fn refine_lo(min_steps: u32, ref_idx: u64, lead_at: u64, idx: u64) -> u64
     ensures { result ≡ refine_lo_of min_steps ref_idx lead_at idx }
 {
-    let back = min_of(6, shared::sat_sub(min_steps as u64, 1));
-    max_of(
-        max_of(shared::sat_sub(ref_idx, back), shared::sat_sub(lead_at, 7)),
-        shared::sat_sub(idx, 31),
-    )
+    let back = 6.min(u64::from(min_steps).saturating_sub(1));
+    ref_idx
+        .saturating_sub(back)
+        .max(lead_at.saturating_sub(7))
+        .max(idx.saturating_sub(31))
 }
 
 // What a sample adds to the sum of those after the edge: how far it is on their side of the level.
+#[tactic(auto, unfolding(crate::specs::Refine::excess_of))]
 fn excess(on: bool, m: f32, t: f32) -> f32
     ensures { result ≡ excess_of on m t }
 {
@@ -196,45 +181,27 @@ fn excess(on: bool, m: f32, t: f32) -> f32
     -(m - t)
 }
 
-fn best_at(best: f32, sum: f32) -> f32
-    ensures { result ≡ best_at best sum }
-{
-    let better = sum > best;
-    if better {
-        return sum;
-    }
-    best
-}
-
-fn split_at(best: f32, sum: f32, j: u64, split: u64) -> u64
-    ensures { result ≡ split_at best sum j split }
-{
-    let better = sum > best;
-    if better {
-        return j;
-    }
-    split
-}
-
 // The split that gives the samples after it the largest sum: the change point of a step at the level.
 fn best_split(ring: &[f32; 32], t: f32, on: bool, lo: u64, idx: u64) -> u64
     ensures { result ≡ best_split_of ring.now t on lo idx }
 {
     let mut sum: f32 = 0.0;
-    let mut best: f32 = f32::from_bits(0xff800000);
+    let mut best: f32 = f32::NEG_INFINITY;
     let mut split = idx;
-    let mut j = idx;
-    while lo < j {
+    for below in (lo..idx).rev() {
+        let j = below + 1;
         let i = (j % 32) as usize;
-        sum = sum + excess(on, ring[i], t);
-        split = split_at(best, sum, j, split);
-        best = best_at(best, sum);
-        j = j - 1;
+        sum += excess(on, ring[i], t);
+        if sum > best {
+            best = sum;
+            split = j;
+        }
     }
     split
 }
 
 // The crossing at the split; an empty window leaves the edge as it was.
+#[tactic(auto, unfolding(crate::specs::Refine::refine_in_of))]
 fn refine_in(ring: &[f32; 32], t: f32, on: bool, lo: u64, idx: u64, t_run: f64) -> f64
     ensures { result ≡ refine_in_of ring.now t on lo idx t_run }
 {
@@ -244,11 +211,12 @@ fn refine_in(ring: &[f32; 32], t: f32, on: bool, lo: u64, idx: u64, t_run: f64) 
     }
     let s = best_split(ring, t, on, lo, idx);
     let i = (s % 32) as usize;
-    let k = (shared::sat_sub(s, 1) % 32) as usize;
+    let k = (s.saturating_sub(1) % 32) as usize;
     arith::edge(s, arith::cross(ring[k], ring[i], t))
 }
 
 // The edge found again in the envelopes around it, since the low-pass delays the crossing.
+#[tactic(auto, unfolding(crate::specs::Refine::refine_of))]
 pub fn refine(
     ring: &[f32; 32],
     min_steps: u32,
@@ -269,6 +237,7 @@ pub fn refine(
 // ---- the train
 
 // A full train takes no pulse and is marked; else the pulse goes into its slot and waits for its gap.
+#[tactic(auto, unfolding(crate::specs::Train::push_pulse_of))]
 pub fn push_pulse(max_pulses: u32, t: Train, pac: C32, len: Steps, ook: &mut [u32]) -> Pushed
     ensures { (result, ook.new) ≡ push_pulse_of max_pulses t pac len ook.old }
 {
@@ -296,13 +265,14 @@ pub fn push_pulse(max_pulses: u32, t: Train, pac: C32, len: Steps, ook: &mut [u3
 }
 
 // The gap of the pulse that waits: the pair is whole.
+#[tactic(auto, unfolding(crate::specs::Train::close_gap_of, shared::specs::Counts::inc))]
 pub fn close_gap(t: Train, gap: Steps, ook: &mut [u32]) -> Train
     ensures { (result, ook.new) ≡ close_gap_of t gap ook.old }
 {
     let waits = t.open == 1;
     if waits {
         shared::put(ook, 2 * (t.ook_n as usize) + 1, gap.0);
-        let k = shared::inc(t.ook_n);
+        let k = t.ook_n.wrapping_add(1);
         let mut n = t;
         n.ook_n = k;
         n.open = 0;
@@ -312,12 +282,11 @@ pub fn close_gap(t: Train, gap: Steps, ook: &mut [u32]) -> Train
 }
 
 // No pulses; start and pulse_end stay, as in the Rust.
+#[tactic(auto, unfolding(crate::specs::Train::empty_train_of))]
 pub fn empty_train(t: Train) -> Train
     ensures { result ≡ empty_train_of t }
 {
     Train {
-        start: t.start,
-        pulse_end: t.pulse_end,
         started: 0,
         ook_n: 0,
         open: 0,
@@ -326,18 +295,20 @@ pub fn empty_train(t: Train) -> Train
         acc: C32 { re: 0.0, im: 0.0 },
         origin: 0.0,
         bound: 0,
+        ..t
     }
 }
 
 // Pairs make a record, and the train is empty then.
+#[tactic(auto, unfolding(crate::specs::Train::finish_of))]
 fn finish(t: Train, high: f32, out: OutCore) -> EndedCore
     ensures { whole_ended result ≡ finish_of t high (whole_out out) }
 {
     let empty = empty_train(t);
     let some = t.ook_n > 0;
     if some {
-        let cut = shared::bit(t.truncated == 1);
-        let carrier = shared::vector(t.acc.re, t.acc.im);
+        let cut = u32::from(t.truncated == 1);
+        let carrier = Flat::vector(t.acc.re, t.acc.im);
         let o = OutCore {
             index: t.start,
             end: t.pulse_end,
@@ -357,6 +328,7 @@ fn finish(t: Train, high: f32, out: OutCore) -> EndedCore
 }
 
 // The train ends: a pulse that waits gets the gap 0.
+#[tactic(auto, unfolding(crate::specs::Train::end_train_of))]
 pub fn end_train(t: Train, high: f32, out: OutCore, ook: &mut [u32]) -> EndedCore
     ensures { (whole_ended result, ook.new) ≡ end_train_of t high (whole_out out) ook.old }
 {
@@ -367,11 +339,7 @@ pub fn end_train(t: Train, high: f32, out: OutCore, ook: &mut [u32]) -> EndedCor
 fn longer(longest: Steps, len: Steps) -> Steps
     ensures { result ≡ longer_of longest len }
 {
-    let more = len.0 > longest.0;
-    if more {
-        return len;
-    }
-    longest
+    Steps(longest.0.max(len.0))
 }
 
 // After the push of a pulse: the burst stays, or the train is full and ends.
@@ -398,6 +366,7 @@ fn after_push(q: Pushed, high: f32, out: OutCore, ook: &mut [u32]) -> DoneCore
 }
 
 // A pulse is final. In FSK mode it is not kept: frames alone are asked for there.
+#[tactic(auto, unfolding(crate::specs::Train::pulse_done_of))]
 pub fn pulse_done(
     p: Settings,
     t: Train,
@@ -429,12 +398,9 @@ pub fn pulse_done(
 }
 
 // A gap so much longer than the longest pulse ends the train.
+#[tactic(auto, unfolding(crate::specs::Train::gap_ratio_exceeded_of))]
 pub fn gap_ratio_exceeded(gap_ratio: f32, longest: Steps, n: u32) -> bool
     ensures { result ≡ gap_ratio_exceeded_of gap_ratio longest n }
 {
-    let some = longest.0 > 0;
-    if some {
-        return arith::u32_to_f32(n) > gap_ratio * arith::u32_to_f32(longest.0);
-    }
-    false
+    longest.0 > 0 && arith::u32_to_f32(n) > gap_ratio * arith::u32_to_f32(longest.0)
 }

@@ -2,12 +2,12 @@
 use Rattle.std.specs.Prelude.{List, Float}
 use Rattle.fsk.specs.Core.{whole_frame}
 use Rattle.frame_end.specs.Core.{whole_body}
-use Rattle.presence.specs.declared.Advanced.{Advanced}
-use Rattle.presence.specs.declared.AdvancedCore.{AdvancedCore}
-use Rattle.presence.specs.declared.Present.{Present}
-use Rattle.presence.specs.declared.PresentCore.{PresentCore}
-use Rattle.presence.specs.declared.Snapped.{Snapped}
-use Rattle.presence.specs.declared.SnappedCore.{SnappedCore}
+use Rattle.presence.specs.Types.{Advanced}
+use Rattle.presence.specs.Types.{AdvancedCore}
+use Rattle.presence.specs.Types.{Present}
+use Rattle.presence.specs.Types.{PresentCore}
+use Rattle.presence.specs.Types.{Snapped}
+use Rattle.presence.specs.Types.{SnappedCore}
 
 abbrev pub whole_advanced : List Float → AdvancedCore → Advanced
 whole_advanced cs a = record { on = a.on; pres = a.pres; frame = whole_frame cs a.frame }

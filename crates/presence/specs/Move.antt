@@ -8,7 +8,7 @@ use Rattle.run.specs.declared.Run.{Run}
 use Rattle.fsk.specs.Makers.{with_runs}
 use Rattle.fsk.specs.Makers as frames
 use Rattle.fsk.specs.Resolve.{begin_frame_of}
-use Rattle.fsk.specs.declared.Frame.{Frame}
+use Rattle.fsk.specs.Types.{Frame}
 use Rattle.presence.specs.declared.Pres.{Pres}
 
 -- the makers: a presence from its fields, and with another run

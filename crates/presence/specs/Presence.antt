@@ -8,23 +8,23 @@ use Rattle.shared.specs.Counts.{bit}
 use Rattle.run.specs.Run.{with_confirmed, with_start, due_of}
 use Rattle.run.specs.declared.Run.{Run}
 use Rattle.ook.specs.Train.{end_train_of}
-use Rattle.ook.specs.declared.Ended.{Ended}
+use Rattle.ook.specs.Types.{Ended}
 use Rattle.shared.specs.declared.Settings.{Settings}
 use Rattle.shared.specs.declared.Next.{Next}
 use Rattle.shared.specs.declared.Next.TheVariants.{Stay, IdleAt}
 use Rattle.fsk.specs.Makers.{with_full, with_runs, with_done}
 use Rattle.fsk.specs.Makers as frames
-use Rattle.fsk.specs.declared.Frame.{Frame}
+use Rattle.fsk.specs.Types.{Frame}
 use Rattle.fsk_sample.specs.Tone.{upper_of}
 use Rattle.fsk_sample.specs.Sample.{fsk_sample_of}
 use Rattle.frame_end.specs.Done.{body_of, with_frame, frame_done_of}
-use Rattle.frame_end.specs.declared.Body.{Body}
+use Rattle.frame_end.specs.Types.{Body}
 use Rattle.presence.specs.Move.{pres_thr_of, move_pres_of, move_frame_of, with_run}
 use Rattle.presence.specs.declared.Pres.{Pres}
 use Rattle.presence.specs.declared.Inputs.{Inputs}
-use Rattle.presence.specs.declared.Advanced.{Advanced}
-use Rattle.presence.specs.declared.Present.{Present}
-use Rattle.presence.specs.declared.Snapped.{Snapped}
+use Rattle.presence.specs.Types.{Advanced}
+use Rattle.presence.specs.Types.{Present}
+use Rattle.presence.specs.Types.{Snapped}
 
 -- ---- the level, the run of the presence, the frame, and the slicer's sample
 

@@ -1,21 +1,23 @@
 -- What the refusals of demand 2's definitions say of a call, and what the calls answer where it is refused or accepted.
-use mathlib.Core.Path.{◌≡◌}
+use mathlib.Core.Path.{◌≡◌, refl}
 use mathlib.Core.Bool.{true, false, not, ◌&&◌, ◌||◌}
 use mathlib.Core.List.{List}
 use Prim.Native.Nat.{ℕ, ◌*◌, ◌≤◌}
 use lib.Dec.{leb, eqb}
 use borrow.Author.Tests.{leb-true, eqb-false, not-true}
 use lib.ListN.{length}
+use Rattle.std.specs.Prelude.{Ok, is_ok}
 use Rattle.shared.specs.declared.Settings.{Settings}
 use Rattle.shared.proofs.Tests.{both_true}
 use Rattle.refusals.proofs.Domain.{InDomain, settings_tell}
 use Rattle.refusals.specs.Domain.{index_ok, room_ok}
-use Rattle.refusals.proofs.Order.{none_failed}
+use Rattle.refusals.proofs.Order.{none_failed, is_passed, not_passed}
+use Rattle.lane.specs.declared.Answer.{Answer}
 use Rattle.lane.specs.declared.Lane.{Lane}
 use Rattle.lane.specs.declared.BeginArgs.{BeginArgs}
 use Rattle.lane.specs.declared.StepArgs.{StepArgs}
 use Rattle.refusals.specs.Serial.{serial_left}
-use Rattle.lane.proofs.Refusals.{opened_tells, lane_passes}
+use Rattle.lane.proofs.Refusals.{opened_tells, lane_passes, by_refusal}
 use Rattle.lane.specs.Refusals.{lane_ok, begin_floats_ok, step_floats_ok, follows_of, open_refusal, begin_refusal, step_refusal, close_refusal}
 use Rattle.lane.specs.Idle.{idle_lane}
 use Rattle.lane.specs.Begin.{lead_lane}
@@ -25,7 +27,7 @@ use Rattle.lane.specs.Serial.{stamped, stamped_with}
 use Rattle.lane.specs.Step.{stay, opened, begun, stepped, closed}
 
 -- ---- what a call that is not refused tells
-pub begin_tells : (l : Lane) (b : BeginArgs) (ook fsk : ℕ) → begin_refusal l b ook fsk ≡ 0 → InDomain l.settings × (2 * l.settings.max_pulses ≤ ook)
+pub begin_tells : (l : Lane) (b : BeginArgs) (ook fsk : ℕ) → begin_refusal l b ook fsk ≡ Ok tt → InDomain l.settings × (2 * l.settings.max_pulses ≤ ook)
 unfolding begin_refusal
 begin_tells l b ook fsk h =
     let t = none_failed (not (eqb l.opened 0)) (lane_ok l) (eqb l.phase 0) (serial_left l.serial) (index_ok b.index) (begin_floats_ok b) (room_ok l.settings ook fsk) h in
@@ -34,13 +36,13 @@ begin_tells l b ook fsk h =
       leb-true (2 * l.settings.max_pulses) ook (both_true (leb (2 * l.settings.max_pulses) ook) (eqb l.settings.mode 0 || leb (2 * l.settings.max_pulses) fsk) t.room_ok).0,
     )
 
-pub step_tells : (l : Lane) (s : StepArgs) (ook fsk : ℕ) → step_refusal l s ook fsk ≡ 0 → l.phase ≡ 0 → ⊥
+pub step_tells : (l : Lane) (s : StepArgs) (ook fsk : ℕ) → step_refusal l s ook fsk ≡ Ok tt → l.phase ≡ 0 → ⊥
 unfolding step_refusal
 step_tells l s ook fsk h =
     let t = none_failed true (lane_ok l) (not (eqb l.phase 0)) true (index_ok s.index && follows_of l.last s.index) (step_floats_ok s) (room_ok l.settings ook fsk) h in
     eqb-false l.phase 0 (not-true (eqb l.phase 0) t.phase_ok)
 
-pub close_tells : (l : Lane) (ook fsk : ℕ) → close_refusal l ook fsk ≡ 0 → l.phase ≡ 0 → ⊥
+pub close_tells : (l : Lane) (ook fsk : ℕ) → close_refusal l ook fsk ≡ Ok tt → l.phase ≡ 0 → ⊥
 unfolding close_refusal
 close_tells l ook fsk h =
     let t = none_failed true (lane_ok l) (not (eqb l.phase 0)) true true true (room_ok l.settings ook fsk) h in
@@ -48,37 +50,37 @@ close_tells l ook fsk h =
 
 -- ---- what the calls answer
 module _ (l : Lane) (p : Settings) where
-  pub open_accepted : eqb (open_refusal l p) 0 ≡ true → opened l p ≡ stamped l (stay (idle_lane 1 p))
+  pub open_accepted : is_ok (open_refusal l p) ≡ true → opened l p ≡ stamped l (stay (idle_lane 1 p))
   unfolding opened
-  open_accepted h = rw h
+  open_accepted h = rw (is_passed _ h) refl
 
-  pub open_refused : eqb (open_refusal l p) 0 ≡ false → (opened l p).lane ≡ l
+  pub open_refused : is_ok (open_refusal l p) ≡ false → (opened l p).lane ≡ l
   unfolding opened
-  open_refused h = rw h
+  open_refused h = by_refusal (λ (a : Answer). a.lane ≡ l) (open_refusal l p) (λ q. absurd (not_passed _ h q)) (λ n q. refl)
 
 module _ (l : Lane) (b : BeginArgs) (ook fsk : List ℕ) where
-  pub begin_accepted : eqb (begin_refusal l b (length ook) (length fsk)) 0 ≡ true → begun l b ook fsk ≡ stamped l (stay (lead_lane l b))
+  pub begin_accepted : is_ok (begin_refusal l b (length ook) (length fsk)) ≡ true → begun l b ook fsk ≡ stamped l (stay (lead_lane l b))
   unfolding begun
-  begin_accepted h = rw h
+  begin_accepted h = rw (is_passed _ h) refl
 
-  pub begin_refused : eqb (begin_refusal l b (length ook) (length fsk)) 0 ≡ false → (begun l b ook fsk).lane ≡ l
+  pub begin_refused : is_ok (begin_refusal l b (length ook) (length fsk)) ≡ false → (begun l b ook fsk).lane ≡ l
   unfolding begun
-  begin_refused h = rw h
+  begin_refused h = by_refusal (λ (a : Answer). a.lane ≡ l) (begin_refusal l b (length ook) (length fsk)) (λ q. absurd (not_passed _ h q)) (λ n q. refl)
 
 module _ (l : Lane) (s : StepArgs) (ook fsk : List ℕ) where
-  pub step_accepted : eqb (step_refusal l s (length ook) (length fsk)) 0 ≡ true → stepped l s ook fsk ≡ stamped_with l (advance_of l s ook fsk)
+  pub step_accepted : is_ok (step_refusal l s (length ook) (length fsk)) ≡ true → stepped l s ook fsk ≡ stamped_with l (advance_of l s ook fsk)
   unfolding stepped
-  step_accepted h = rw h
+  step_accepted h = rw (is_passed _ h) refl
 
-  pub step_refused : eqb (step_refusal l s (length ook) (length fsk)) 0 ≡ false → (stepped l s ook fsk).0.lane ≡ l
+  pub step_refused : is_ok (step_refusal l s (length ook) (length fsk)) ≡ false → (stepped l s ook fsk).0.lane ≡ l
   unfolding stepped
-  step_refused h = rw h
+  step_refused h = by_refusal (λ (a : Answer × List ℕ × List ℕ). a.0.lane ≡ l) (step_refusal l s (length ook) (length fsk)) (λ q. absurd (not_passed _ h q)) (λ n q. refl)
 
 module _ (l : Lane) (ook fsk : List ℕ) where
-  pub close_accepted : eqb (close_refusal l (length ook) (length fsk)) 0 ≡ true → closed l ook fsk ≡ stamped_with l (close_of l ook fsk)
+  pub close_accepted : is_ok (close_refusal l (length ook) (length fsk)) ≡ true → closed l ook fsk ≡ stamped_with l (close_of l ook fsk)
   unfolding closed
-  close_accepted h = rw h
+  close_accepted h = rw (is_passed _ h) refl
 
-  pub close_refused : eqb (close_refusal l (length ook) (length fsk)) 0 ≡ false → (closed l ook fsk).0.lane ≡ l
+  pub close_refused : is_ok (close_refusal l (length ook) (length fsk)) ≡ false → (closed l ook fsk).0.lane ≡ l
   unfolding closed
-  close_refused h = rw h
+  close_refused h = by_refusal (λ (a : Answer × List ℕ × List ℕ). a.0.lane ≡ l) (close_refusal l (length ook) (length fsk)) (λ q. absurd (not_passed _ h q)) (λ n q. refl)

@@ -18,15 +18,15 @@ use Rattle.ook.specs.Run.{begin_env_of}
 use Rattle.ook.specs.Train.{empty_train_of}
 use Rattle.refusals.proofs.Domain.{InDomain}
 use Rattle.envelope.specs.declared.Seen.{Seen}
-use Rattle.envelope.specs.declared.Acted.{Acted}
+use Rattle.envelope.specs.Types.{Acted}
 use Rattle.envelope.specs.See.{see_of}
 use Rattle.envelope.specs.Act.{act_of}
-use Rattle.presence.specs.declared.Present.{Present}
+use Rattle.presence.specs.Types.{Present}
 use Rattle.presence.specs.Presence.{presence_of}
 use Rattle.envelope.specs.declared.At.{At}
-use Rattle.burst.specs.declared.Burst.{Burst}
+use Rattle.burst.specs.Types.{Burst}
 use Rattle.burst.specs.declared.Lead.{Lead}
-use Rattle.burst.specs.declared.Sampled.{Sampled}
+use Rattle.burst.specs.Types.{Sampled}
 use Rattle.burst.specs.Makers.{with_acted, body_in, with_body}
 use Rattle.burst.specs.Sample.{snap_if_of, absence_of, last_of, inputs_of, present_of, rest_of, sample_of}
 use Rattle.burst.specs.Lead.{begin_burst_of, lead_at_of, onward, staying, replay_from, replay_of, lead_full_of}

@@ -5,7 +5,7 @@ use mathlib.Core.Bool.{Bool, true, not, ◌&&◌}
 use mathlib.Core.List.{List, [], ◌∷◌, ◌++◌, map}
 use borrow.Author.Tests.{not-true}
 use Rattle.shared.proofs.Tests.{both_true}
-use Rattle.lane.specs.declared.Reply.{Reply}
+use Rattle.lane.specs.Answers.{Reply}
 use Rattle.pulses.specs.Yardstick.{Call}
 use Rattle.pulses.specs.Demand.{Program}
 use Rattle.pulses.specs.Lists.{opens, slots, first, lo, his, shut, m6, m7, two, halves, unended}

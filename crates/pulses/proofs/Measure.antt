@@ -5,7 +5,6 @@ use mathlib.Core.List.{List, [], ◌∷◌, ◌++◌, append-nil}
 use Prim.Native.Nat.{ℕ, ◌+◌, ◌*◌, ◌≤◌}
 use native.Mathlib.Omega.{arith}
 use lib.Dec.{ltb, eqb}
-use borrow.Author.Tests.{eqb-true}
 use lib.ListN.{length}
 use lib.Ieee.{Float}
 use Rattle.arith.specs.Leaves.{lead_len_of}
@@ -15,14 +14,16 @@ use Rattle.shared.specs.Core.{numbered}
 use Rattle.shared.specs.declared.Next.{Next}
 use Rattle.shared.specs.declared.Next.TheVariants as next
 use Rattle.burst.specs.declared.Lead.{Lead}
-use Rattle.burst.specs.declared.Sampled.{Sampled}
+use Rattle.burst.specs.Types.{Sampled}
 use Rattle.burst.specs.Sample.{sample_of}
 use Rattle.burst.specs.Lead.{lead_add_of, staying, lead_full_of}
+use Rattle.shared.specs.Answers.{next_number_of}
 use Rattle.refusals.proofs.Domain.{InDomain}
+use Rattle.refusals.proofs.Order.{is_passed}
 use Rattle.lane.specs.declared.Lane.{Lane}
 use Rattle.lane.specs.declared.Answer.{Answer}
 use Rattle.lane.specs.declared.StepArgs.{StepArgs}
-use Rattle.lane.specs.Answers.{reply_number_of, reply_of, phase_of}
+use Rattle.lane.specs.Answers.{reply_number_of, phase_of}
 use Rattle.lane.specs.Idle.{no_out, idle_lane}
 use Rattle.lane.specs.Begin.{ring_of, cleared_of, lead_lane}
 use Rattle.lane.specs.Advance.{settle_of, settled, fill_of, at_of, replay_step, lead_step, burst_step, advance_of}
@@ -116,7 +117,7 @@ module _ (y : Yardstick) (D : InDomain y.lane.settings) where
     answered : (ld : Lead) (ring : List Float) (r : Sampled × List ℕ × List ℕ) (ms : List (Sample Float)) (ns : List ℕ)
         → (Listed p (y.phases ++ ns) r.0.burst.frames → Next-is p r (y.recorded ++ ms)) → (Listed p (y.phases ++ ns) r.0.burst.frames → y.trains ≡ [])
         → StepFine y (settled y.lane s ld ring r) ms ns
-    unfolding StepFine Fine settle_of stamp_of reply_of phase_of
+    unfolding StepFine Fine settle_of stamp_of phase_of
     answered ld ring r ms ns H T = go r.0.next refl
       where
         y' : Yardstick
@@ -131,7 +132,7 @@ module _ (y : Yardstick) (D : InDomain y.lane.settings) where
         on_end n (over n' C') t = end_gives (settled y.lane s ld ring r) (y.recorded ++ ms) t C'
 
         go : (n : Next) → r.0.next ≡ n
-            → Good y' × (not (eqb (reply_number_of (reply_of n)) 0) ≡ true → Listed p (y.phases ++ ns) r.0.burst.frames → Gives p (pulses p.min_steps (y.recorded ++ ms)) y'.trains)
+            → Good y' × (not (eqb (next_number_of n) 0) ≡ true → Listed p (y.phases ++ ns) r.0.burst.frames → Gives p (pulses p.min_steps (y.recorded ++ ms)) y'.trains)
         go next.Stay n = (in_burst (ap phase_of n) D (λ o. on_stay n (H o) (T o)), λ e. clash (sym e))
         go next.Idle n = (at_rest (ap phase_of n), λ e o. on_end (λ q. idle_not (sym n ∙ q)) (H o) (T o))
         go (next.IdleAt v) n = (at_rest (ap phase_of n), λ e o. on_end (λ q. idle_at_not v (sym n ∙ q)) (H o) (T o))
@@ -225,10 +226,10 @@ unfolding Fine StepFine CloseFine advanced ends refusal stamp_of idle_lane lead_
 call_fine y c false q G = (G, λ e. clash (sym e))
 call_fine y (opening p) true q G = (at_rest refl, λ e. clash (sym e))
 call_fine y (begin b ook fsk) true q G =
-    let t = begin_tells y.lane b (length ook) (length fsk) (eqb-true _ 0 q) in
+    let t = begin_tells y.lane b (length ook) (length fsk) (is_passed _ q) in
     (in_lead refl t.0 (record { unrecorded = refl; no_trains = refl; room = t.1 }), λ e. clash (sym e))
-call_fine y (step s o fsk) true q G = step_fine y s fsk G (step_tells y.lane s (length (lent o y.ook)) (length fsk) (eqb-true _ 0 q))
-call_fine y (close o fsk) true q G = close_fine y fsk G (close_tells y.lane (length (lent o y.ook)) (length fsk) (eqb-true _ 0 q))
+call_fine y (step s o fsk) true q G = step_fine y s fsk G (step_tells y.lane s (length (lent o y.ook)) (length fsk) (is_passed _ q))
+call_fine y (close o fsk) true q G = close_fine y fsk G (close_tells y.lane (length (lent o y.ook)) (length fsk) (is_passed _ q))
 
 pub good : (y : Yardstick) (e : Bool) → Fine y e → Good y
 unfolding Fine

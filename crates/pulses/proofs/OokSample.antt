@@ -14,7 +14,7 @@ use Rattle.arith.specs.Leaves.{step_of}
 use Rattle.ook.specs.declared.Env.{Env}
 use Rattle.ook.specs.declared.Train.{Train}
 use Rattle.shared.specs.declared.Out.{Out}
-use Rattle.ook.specs.declared.Done.{Done}
+use Rattle.ook.specs.Types.{Done}
 use Rattle.shared.specs.declared.Settings.{Settings}
 use Rattle.shared.specs.declared.Next.{Next}
 use Rattle.shared.specs.declared.Next.TheVariants.{Stay, Idle, IdleAt}
@@ -26,7 +26,7 @@ use Rattle.ook.specs.Train.{with_started, with_first, with_bound, close_gap_of, 
 use Rattle.refusals.proofs.Domain.{InDomain}
 use Rattle.envelope.specs.declared.At.{At}
 use Rattle.envelope.specs.declared.Seen.{Seen}
-use Rattle.envelope.specs.declared.Acted.{Acted}
+use Rattle.envelope.specs.Types.{Acted}
 use Rattle.envelope.specs.declared.Absence.{Absence}
 use Rattle.envelope.specs.See.{refine_due_of, with_refined, see_of}
 use Rattle.run.specs.Run.{due_of}

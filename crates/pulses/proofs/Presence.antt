@@ -10,7 +10,7 @@ use lib.Ieee.{Float, binary64, add, of_int}
 use Rattle.arith.specs.declared.C32.{C32}
 use Rattle.ieee.specs.Constants.{one64}
 use Rattle.ook.specs.declared.Env.{Env}
-use Rattle.ook.specs.declared.Done.{Done}
+use Rattle.ook.specs.Types.{Done}
 use Rattle.shared.specs.declared.Settings.{Settings}
 use Rattle.shared.specs.declared.Next.TheVariants.{Stay, IdleAt}
 use Rattle.shared.specs.Counts.{sat_add_of}
@@ -18,14 +18,14 @@ use Rattle.refusals.proofs.Domain.{InDomain}
 use Rattle.frame_end.specs.End.{is_split_of, enough_runs_of, is_frame_of, last_run_of, framed_by, close_by, end_frame_of}
 use Rattle.frame_end.specs.Done.{with_frame, with_framed, cut_body, frame_done_of}
 use Rattle.frame_end.specs.Cut.{cut_train_of}
-use Rattle.frame_end.specs.declared.Body.{Body}
-use Rattle.frame_end.specs.declared.Framed.{Framed}
+use Rattle.frame_end.specs.Types.{Body}
+use Rattle.frame_end.specs.Types.{Framed}
 use Rattle.run.specs.Run.{due_of}
 use Rattle.run.specs.declared.Run.{Run}
 use Rattle.presence.specs.declared.Pres.{Pres}
 use Rattle.presence.specs.declared.Inputs.{Inputs}
-use Rattle.presence.specs.declared.Advanced.{Advanced}
-use Rattle.presence.specs.declared.Present.{Present}
+use Rattle.presence.specs.Types.{Advanced}
+use Rattle.presence.specs.Types.{Present}
 use Rattle.presence.specs.Presence.{advance_of, sure_if_of, ends_of, end_of, end_if_of, long_of, full_body, end_train_by, end_carrier_of, present_by, carrier_if_of, presence_of}
 use Rattle.pulses.specs.Runs.{Sample}
 use Rattle.pulses.proofs.Flags.{clash}
@@ -65,11 +65,11 @@ module _ (p : Settings) (auto : p.mode ≡ 2) where
       framed = framed_by b.frame high pac start end (close_by (last_run_of p.max_pulses b.frame.fsk_phase b.frame.runs b.frame.done end fsk))
 
       q : Bool → Framed × List ℕ
-      q f = cond f framed (record { is_fsk = 0; frame = b.frame; out = b.out_fsk }, fsk)
+      q f = cond f framed (record { is_fsk = false; frame = b.frame; out = b.out_fsk }, fsk)
 
       done : Bool → Bool → Body × List ℕ × List ℕ
       done f m =
-          cond (eqb (q f).0.is_fsk 1)
+          cond (q f).0.is_fsk
           (cond m (cut_body b (q f).0 (q f).1 (cut_train_of b.train high b.out_ook start ook)) (with_framed (q f).0 (sat_add_of b.frames 1) b, ook, (q f).1))
           (with_framed (q f).0 b.frames b, ook, (q f).1)
 

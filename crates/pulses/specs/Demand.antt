@@ -6,11 +6,11 @@ use Rattle.arith.specs.Leaves.{width_of}
 use Rattle.shared.specs.declared.Settings.{Settings}
 use Rattle.shared.specs.declared.Out.{Out}
 use Rattle.shared.specs.Counts.{bit}
-use Rattle.lane.specs.declared.Reply.{Reply}
 use Rattle.lane.specs.declared.Lane.{Lane}
 use Rattle.lane.specs.declared.Answer.{Answer}
 use Rattle.lane.specs.declared.BeginArgs.{BeginArgs}
 use Rattle.lane.specs.declared.StepArgs.{StepArgs}
+use Rattle.lane.specs.Answers.{Reply}
 use Rattle.lane.specs.Step.{new_lane, opened, begun, stepped, closed}
 use Rattle.lane.specs.Part.{part_of}
 use Rattle.slots.specs.Slots.{slots_of}
@@ -66,7 +66,7 @@ module _ (W : Program) where
   start = record { lane = W.new; ook = []; trains = []; yard = unused }
 
   -- "A burst gives a train where a call of it returns an OOK record that decides one": begin, step or close c returned r, and earlier are
-  -- the trains that its burst had given before. The part is fetched by the lane that the call returned. A refusal returns its number alone.
+  -- the trains that its burst had given before. The part is fetched by the lane that the call returned. A refusal returns its reason alone.
   abbrev taken : Bool → Place W → Call → List Given → Returned W.Lanes → Place W
   taken a k c earlier r = record {
     lane = r.lane;

@@ -8,9 +8,8 @@ use Rattle.shared.specs.Counts.{bit}
 use Rattle.lane.specs.Idle.{no_out}
 use Rattle.lane.specs.Serial.{stamp_of}
 use Rattle.lane.specs.declared.Lane.{Lane}
-use Rattle.lane.specs.declared.Reply.{Reply}
 use Rattle.lane.specs.declared.StepArgs.{StepArgs}
-use Rattle.lane.specs.Answers.{reply_number_of}
+use Rattle.lane.specs.Answers.{Reply, reply_number_of}
 use Rattle.pulses.specs.Demand.{Returned, Program, the_lane, Demand3}
 
 -- a program that does not meet demand 3

@@ -1,6 +1,6 @@
 -- The yardstick of demand 3: "Demand 2's written definition, run over the arguments of the list's accepted calls". It has a lane, an OOK
 -- buffer and a record of its own, and knows no program: "None of this is read from the program's lane, slots or returned records."
-use Rattle.std.specs.Prelude.{Bool, true, false, cond, not, ◌&&◌, List, [], ◌∷◌, ◌++◌, ℕ, zero, suc, ◌+◌, ltb, eqb, pos, length, get_or, Float}
+use Rattle.std.specs.Prelude.{Bool, true, false, cond, not, ◌&&◌, List, [], ◌∷◌, ◌++◌, ℕ, zero, suc, ◌+◌, ltb, eqb, pos, length, get_or, Float, ⊤, Result, is_ok}
 use Rattle.std.specs.Float.{nan, binary64}
 use Rattle.std.specs.Float.Ieee.{of_int}
 use Rattle.arith.specs.Leaves.{lead_len_of}
@@ -10,15 +10,16 @@ use Rattle.shared.specs.Answers.{is_stay_of}
 use Rattle.envelope.specs.declared.At.{At}
 use Rattle.envelope.specs.declared.Seen.{Seen}
 use Rattle.envelope.specs.See.{see_of}
-use Rattle.burst.specs.declared.Burst.{Burst}
+use Rattle.burst.specs.Types.{Burst}
 use Rattle.burst.specs.declared.Lead.{Lead}
-use Rattle.burst.specs.declared.Sampled.{Sampled}
+use Rattle.burst.specs.Types.{Sampled}
 use Rattle.burst.specs.Sample.{sample_of}
 use Rattle.burst.specs.Lead.{lead_add_of, largest_of, begin_burst_of, lead_at_of, onward, staying}
 use Rattle.lane.specs.declared.Lane.{Lane}
 use Rattle.lane.specs.declared.Answer.{Answer}
 use Rattle.lane.specs.declared.BeginArgs.{BeginArgs}
 use Rattle.lane.specs.declared.StepArgs.{StepArgs}
+use Rattle.refusals.specs.declared.Refusal.{Refusal}
 use Rattle.lane.specs.Answers.{reply_number_of}
 use Rattle.lane.specs.Refusals.{open_refusal, begin_refusal, step_refusal, close_refusal}
 use Rattle.lane.specs.Idle.{idle_lane}
@@ -72,15 +73,15 @@ pub record Yardstick : Type 0 where
 unfoldable pub unused : Yardstick
 unused = record { lane = new_lane; ook = []; recorded = []; trains = []; phases = [] }
 
--- A call is accepted where no refusal applies, of document 01's and 13 of document 02: the number of the first that does, or 0.
-unfoldable pub refusal : Yardstick → Call → ℕ
+-- A call is accepted where no refusal applies, of document 01's and 13 of document 02: the first that does.
+unfoldable pub refusal : Yardstick → Call → Result ⊤ Refusal
 refusal y (opening p) = open_refusal y.lane p
 refusal y (begin b ook fsk) = begin_refusal y.lane b (length ook) (length fsk)
 refusal y (step s o fsk) = step_refusal y.lane s (length (lent o y.ook)) (length fsk)
 refusal y (close o fsk) = close_refusal y.lane (length (lent o y.ook)) (length fsk)
 
 abbrev pub accepts : Yardstick → Call → Bool
-accepts y c = eqb (refusal y c) 0
+accepts y c = is_ok (refusal y c)
 
 -- "gives each sample its level, high or low": what the level test of demand 2's `sample` says in this burst, and the run's edge after it
 unfoldable pub levelled : Settings → At → List Float → Burst → Sample Float

@@ -7,7 +7,8 @@ use native.Mathlib.Omega.{arith}
 use lib.Dec.{ltb}
 use lib.Ieee.{Float}
 use lib.ListN.{length, length-append}
-use borrow.Author.Tests.{ltb-true, ltb-false, eqb-true}
+use borrow.Author.Tests.{ltb-true, ltb-false}
+use Rattle.std.specs.Prelude.{Ok}
 use Rattle.arith.specs.Leaves.{lead_len_of}
 use Rattle.shared.specs.declared.Settings.{Settings}
 use Rattle.shared.specs.declared.Next.{Next}
@@ -15,15 +16,16 @@ use Rattle.shared.specs.declared.Next.TheVariants as next
 use Rattle.shared.specs.Counts.{inc}
 use Rattle.shared.proofs.Counts.{inc_exact}
 use Rattle.refusals.proofs.Domain.{InDomain}
+use Rattle.refusals.proofs.Order.{is_passed}
 use Rattle.burst.specs.declared.Lead.{Lead}
-use Rattle.burst.specs.declared.Burst.{Burst}
-use Rattle.burst.specs.declared.Sampled.{Sampled}
+use Rattle.burst.specs.Types.{Burst}
+use Rattle.burst.specs.Types.{Sampled}
 use Rattle.burst.specs.Sample.{sample_of}
 use Rattle.burst.specs.Lead.{lead_add_of, staying, replay_from, lead_full_of}
 use Rattle.lane.specs.declared.Lane.{Lane}
 use Rattle.lane.specs.declared.Answer.{Answer}
 use Rattle.lane.specs.declared.StepArgs.{StepArgs}
-use Rattle.lane.specs.Answers.{reply_of, phase_of}
+use Rattle.lane.specs.Answers.{phase_of}
 use Rattle.lane.specs.Idle.{idle_lane}
 use Rattle.lane.specs.Begin.{ring_of, cleared_of, begin_lead_of, lead_lane}
 use Rattle.lane.specs.Advance.{settle_of, settled, fill_of, at_of, replay_step, lead_step, burst_step, advance_of}
@@ -142,9 +144,9 @@ module _ (w : Settings → ℕ) (N : (p : Settings) → InDomain p → Enough p 
   call_good y n c false q G = G
   call_good y n (opening p) true q G = at_rest refl
   call_good y n (begin b ook fsk) true q G =
-      let t = begin_tells y.lane b (length ook) (length fsk) (eqb-true _ 0 q) in
+      let t = begin_tells y.lane b (length ook) (length fsk) (is_passed _ q) in
       in_lead refl t.0 refl refl (omega (arith, t.0.min_steps.0))
-  call_good y n (step s o fsk) true q G = step_good y n s fsk G (step_tells y.lane s (length (lent o y.ook)) (length fsk) (eqb-true _ 0 q)) (y.phases ++ step_phases y.lane s y.ook fsk)
+  call_good y n (step s o fsk) true q G = step_good y n s fsk G (step_tells y.lane s (length (lent o y.ook)) (length fsk) (is_passed _ q)) (y.phases ++ step_phases y.lane s y.ook fsk)
   call_good y n (close o fsk) true q G = at_rest (close_rests y fsk)
 
   -- ---- what it tells
@@ -163,8 +165,8 @@ module _ (w : Settings → ℕ) (N : (p : Settings) → InDomain p → Enough p 
   quiet_rests y n (in_burst q D H) o t = clash (sym t ∙ (H o).0.loud)
 
 -- ---- the answer
-next_idles : (n : Next) → phase_of n ≡ 0 → idles (reply_of n) ≡ true
-unfolding phase_of reply_of
+next_idles : (n : Next) → phase_of n ≡ 0 → idles (Ok n) ≡ true
+unfolding phase_of
 next_idles next.Stay q = absurd (omega (arith, q))
 next_idles next.Idle q = refl
 next_idles (next.IdleAt e) q = refl

@@ -19,20 +19,20 @@ use Rattle.shared.specs.Params.{refine_at_of}
 use Rattle.shared.proofs.Cases.{either}
 use Rattle.ook.specs.Run.{begin_env_of}
 use Rattle.refusals.proofs.Domain.{InDomain}
-use Rattle.fsk.specs.declared.Frame.{Frame}
+use Rattle.fsk.specs.Types.{Frame}
 use Rattle.presence.specs.declared.Pres.{Pres}
-use Rattle.presence.specs.declared.Snapped.{Snapped}
+use Rattle.presence.specs.Types.{Snapped}
 use Rattle.run.specs.Run.{start_run_of}
 use Rattle.presence.specs.Presence.{near_start_of, snap_of}
 use Rattle.envelope.specs.declared.At.{At}
 use Rattle.envelope.specs.declared.Seen.{Seen}
-use Rattle.envelope.specs.declared.Acted.{Acted}
+use Rattle.envelope.specs.Types.{Acted}
 use Rattle.envelope.specs.See.{refine_due_of, see_of}
 use Rattle.envelope.specs.Act.{act_of}
 use Rattle.envelope.specs.Tail.{tail_of}
-use Rattle.burst.specs.declared.Burst.{Burst}
+use Rattle.burst.specs.Types.{Burst}
 use Rattle.burst.specs.declared.Lead.{Lead}
-use Rattle.burst.specs.declared.Sampled.{Sampled}
+use Rattle.burst.specs.Types.{Sampled}
 use Rattle.burst.specs.Sample.{snap_if_of, absence_of, last_of, present_of, rest_of, sample_of}
 use Rattle.burst.specs.Lead.{begin_burst_of, lead_at_of, staying, replay_from}
 use Rattle.burst.proofs.LeadLaws.{replay_stop}

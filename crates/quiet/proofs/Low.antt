@@ -10,7 +10,7 @@ use borrow.Author.Tests.{leb-false, lt-leb, lt-ltb, eqb-true, eqb-false}
 use Rattle.ook.specs.declared.Env.{Env}
 use Rattle.run.specs.declared.Run.{Run}
 use Rattle.ook.specs.declared.Train.{Train}
-use Rattle.ook.specs.declared.Done.{Done}
+use Rattle.ook.specs.Types.{Done}
 use Rattle.shared.proofs.Cases.{either}
 use Rattle.shared.specs.declared.Out.{Out}
 use Rattle.shared.specs.declared.Settings.{Settings}

@@ -1,7 +1,7 @@
 -- What the lane does in small lists of calls: how long it waits before it is idle.
-use Rattle.std.specs.Prelude.{◌≡◌, List, [], ◌∷◌, ◌++◌, map, ℕ, ◌+◌}
+use Rattle.std.specs.Prelude.{◌≡◌, List, [], ◌∷◌, ◌++◌, map, ℕ, ◌+◌, Ok}
 use Rattle.shared.specs.declared.Settings.{Settings}
-use Rattle.lane.specs.declared.Reply.TheVariants.{Stay}
+use Rattle.shared.specs.declared.Next.TheVariants.{Stay}
 use Rattle.pulses.specs.Yardstick.{Call, opening, Yardstick, unused}
 use Rattle.pulses.specs.Demand.{Program}
 use Rattle.pulses.specs.Lists.{settings, slots, first, lo, shut, los, his}
@@ -61,7 +61,7 @@ Right rows = map (λ (r : List Call × Shown). shown r.0) rows ≡ map (λ (r : 
 -- ---- programs that do not end a burst in time
 -- it stays for ever
 abbrev pub deaf : Program
-deaf = silent Stay
+deaf = silent (Ok Stay)
 
 -- it waits one sample longer than its settings say
 unfoldable pub late : Program

@@ -4,8 +4,7 @@
 use Rattle.std.specs.Prelude.{◌≡◌, Bool, true, false, ◌||◌, List, [], ◌∷◌, ℕ, suc, ◌+◌, ◌-◌, ◌<◌, max, leb, eqb, length}
 use Rattle.arith.specs.Leaves.{lead_len_of}
 use Rattle.shared.specs.declared.Settings.{Settings}
-use Rattle.lane.specs.declared.Reply.{Reply}
-use Rattle.lane.specs.Answers.{reply_number_of}
+use Rattle.lane.specs.Answers.{Reply, reply_number_of}
 use Rattle.pulses.specs.Runs.{Sample, sample}
 use Rattle.pulses.specs.Yardstick.{lent, Call, opening, begin, step, close, Yardstick, unused, accepts, advanced, handed_on}
 use Rattle.pulses.specs.Demand.{Program, Place, start, after}

@@ -11,23 +11,23 @@ use Rattle.shared.specs.Answers.{is_stay_of}
 use Rattle.shared.specs.Params.{fsk_min_of}
 use Rattle.shared.proofs.Cases.{either, by_test}
 use Rattle.shared.specs.declared.Settings.{Settings}
-use Rattle.fsk.specs.declared.Frame.{Frame}
+use Rattle.fsk.specs.Types.{Frame}
 use Rattle.presence.specs.Presence.{presence_of}
 use Rattle.presence.specs.declared.Pres.{Pres}
-use Rattle.presence.specs.declared.Snapped.{Snapped}
-use Rattle.presence.specs.declared.Present.{Present}
+use Rattle.presence.specs.Types.{Snapped}
+use Rattle.presence.specs.Types.{Present}
 use Rattle.envelope.specs.See.{see_of}
 use Rattle.envelope.specs.Act.{act_of}
 use Rattle.envelope.specs.declared.At.{At}
 use Rattle.envelope.specs.declared.Seen.{Seen}
-use Rattle.envelope.specs.declared.Acted.{Acted}
+use Rattle.envelope.specs.Types.{Acted}
 use Rattle.burst.specs.Makers.{with_acted, body_in, with_body}
 use Rattle.burst.specs.Sample.{snap_if_of, inputs_of, last_of, present_by, present_of, rest_of, acted_by, sample_of}
 use Rattle.run.specs.Run.{start_run_of}
 use Rattle.burst.specs.Lead.{begin_burst_of, lead_at_of, replay_from}
-use Rattle.burst.specs.declared.Burst.{Burst}
+use Rattle.burst.specs.Types.{Burst}
 use Rattle.burst.specs.declared.Lead.{Lead}
-use Rattle.burst.specs.declared.Sampled.{Sampled}
+use Rattle.burst.specs.Types.{Sampled}
 use Rattle.reached.proofs.Pairs.{sample_fits, replay_keeps, begin_burst_fits}
 use Rattle.reached.proofs.Presence.{AnswerWithin, presence_within, snap_within, PresentWithin}
 use Rattle.reached.specs.Limits.{Running, BurstWithin, UnderWay}

@@ -13,18 +13,18 @@ use Rattle.ook.specs.Limits.{TrainWithin, OutWithin}
 use Rattle.ook.specs.Train.{with_pairs, with_end, end_train_of}
 use Rattle.ook.specs.declared.Train.{Train}
 use Rattle.shared.specs.declared.Out.{Out}
-use Rattle.ook.specs.declared.Ended.{Ended}
+use Rattle.ook.specs.Types.{Ended}
 use Rattle.shared.specs.declared.Settings.{Settings}
 use Rattle.shared.specs.declared.Carrier.{Carrier}
 use Rattle.fsk.specs.declared.Committed.{Committed}
 use Rattle.fsk.specs.declared.Runs.{Runs}
-use Rattle.fsk.specs.declared.Frame.{Frame}
+use Rattle.fsk.specs.Types.{Frame}
 use Rattle.frame_end.specs.End.{is_split_of, enough_runs_of, is_frame_of, last_run_of, close_pair_of, close_by, out_of, end_frame_of}
 use Rattle.frame_end.specs.Cut.{gap_at_of, keep_next_of, keep_from, keep_before_of, start_kept_of, cut_by, cut_train_of}
 use Rattle.frame_end.specs.Done.{frame_done_of}
-use Rattle.frame_end.specs.declared.Framed.{Framed}
+use Rattle.frame_end.specs.Types.{Framed}
 use Rattle.frame_end.specs.declared.Kept.{Kept}
-use Rattle.frame_end.specs.declared.Body.{Body}
+use Rattle.frame_end.specs.Types.{Body}
 use Rattle.reached.proofs.Fsk.{inc_most, CommitWithin, commit_within}
 use Rattle.reached.specs.Limits.{CommittedWithin, FrameWithin}
 
@@ -114,6 +114,6 @@ pub frame_done_within : (p : Settings) (least k m : ℕ) (b : Body) (high : Floa
 unfolding frame_done_of
 frame_done_within p least k m b high pac start end ook fsk h =
     let f : EndWithin p.max_pulses least k (m + 1) (end_frame_of p b.frame high pac start end b.out_fsk fsk) = end_frame_within p least k m b.frame high pac start end b.out_fsk fsk h in
-    either (DoneWithin p.max_pulses least k (m + 1)) (eqb (end_frame_of p b.frame high pac start end b.out_fsk fsk).0.is_fsk 1)
+    either (DoneWithin p.max_pulses least k (m + 1)) (end_frame_of p b.frame high pac start end b.out_fsk fsk).0.is_fsk
     (either (DoneWithin p.max_pulses least k (m + 1)) (eqb p.mode 2) f f)
     f

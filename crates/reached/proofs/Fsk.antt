@@ -18,7 +18,7 @@ use Rattle.fsk.specs.Resolve.{begin_frame_of, is_early_of, open_runs_of, turn_at
 use Rattle.fsk.specs.declared.Committed.{Committed}
 use Rattle.fsk.specs.declared.Runs.{Runs}
 use Rattle.fsk.specs.declared.Ran.{Ran}
-use Rattle.fsk.specs.declared.Frame.{Frame}
+use Rattle.fsk.specs.Types.{Frame}
 use Rattle.fsk.specs.declared.Turn.{Turn}
 use Rattle.fsk.specs.declared.Opening.{Opening}
 use Rattle.reached.specs.Limits.{CommittedWithin, RunsWithin, FrameWithin}

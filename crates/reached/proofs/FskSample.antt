@@ -17,7 +17,7 @@ use Rattle.fsk.specs.declared.Mean.{Mean}
 use Rattle.fsk.specs.declared.Cand.{Cand}
 use Rattle.fsk.specs.declared.Early.{Early}
 use Rattle.fsk.specs.declared.Tone.{Tone}
-use Rattle.fsk.specs.declared.Frame.{Frame}
+use Rattle.fsk.specs.Types.{Frame}
 use Rattle.fsk_sample.specs.Tone.{tone_of, upper_of}
 use Rattle.fsk_sample.specs.Seek.{seed_of, average_of, restart_early_of, clear_of, far_from_of}
 use Rattle.fsk_sample.specs.Sample.{seek_frame_of, restart_of, away_of, seek_of, track_of, fsk_sample_of}

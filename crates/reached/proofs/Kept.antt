@@ -19,10 +19,10 @@ use Rattle.ook.specs.declared.Env.{Env}
 use Rattle.ook.specs.declared.Train.{Train}
 use Rattle.shared.specs.declared.Out.{Out}
 use Rattle.shared.specs.declared.Settings.{Settings}
-use Rattle.fsk.specs.declared.Frame.{Frame}
+use Rattle.fsk.specs.Types.{Frame}
 use Rattle.presence.specs.declared.Pres.{Pres}
 use Rattle.burst.specs.Makers.{with_serials}
-use Rattle.burst.specs.declared.Burst.{Burst}
+use Rattle.burst.specs.Types.{Burst}
 use Rattle.reached.specs.Limits.{most_runs, CommittedWithin, FrameWithin, PresWithin, Paired, BurstFits, BurstWithin, UnderWay}
 use Rattle.reached.proofs.FskSample.{fsk_min_above}
 use Rattle.refusals.proofs.Domain.{InDomain}

@@ -28,34 +28,34 @@ use Rattle.fsk.specs.declared.Ran.{Ran}
 use Rattle.fsk.specs.declared.Mean.{Mean}
 use Rattle.fsk.specs.declared.Cand.{Cand}
 use Rattle.fsk.specs.declared.Tone.{Tone}
-use Rattle.fsk.specs.declared.Frame.{Frame}
+use Rattle.fsk.specs.Types.{Frame}
 use Rattle.fsk.specs.declared.Opening.{Opening}
 use Rattle.fsk_sample.specs.Seek.{far_from_of}
 use Rattle.fsk_sample.specs.Sample.{seek_frame_of, restart_of, away_of, seek_of, track_of, fsk_sample_of}
 use Rattle.frame_end.specs.End.{is_split_of, enough_runs_of, is_frame_of, last_run_of, close_by, end_frame_of}
 use Rattle.frame_end.specs.Cut.{cut_train_of}
 use Rattle.frame_end.specs.Done.{frame_done_of}
-use Rattle.frame_end.specs.declared.Framed.{Framed}
-use Rattle.frame_end.specs.declared.Body.{Body}
+use Rattle.frame_end.specs.Types.{Framed}
+use Rattle.frame_end.specs.Types.{Body}
 use Rattle.presence.specs.Move.{extend_of, move_frame_of}
 use Rattle.presence.specs.Presence.{slice_if_of, advance_of, end_if_of, long_of, full_body, end_carrier_of, carrier_if_of, presence_of, near_start_of, snap_of}
 use Rattle.presence.specs.declared.Pres.{Pres}
 use Rattle.presence.specs.declared.Inputs.{Inputs}
-use Rattle.presence.specs.declared.Present.{Present}
-use Rattle.presence.specs.declared.Snapped.{Snapped}
+use Rattle.presence.specs.Types.{Present}
+use Rattle.presence.specs.Types.{Snapped}
 use Rattle.envelope.specs.See.{see_of}
 use Rattle.envelope.specs.Act.{act_of}
 use Rattle.envelope.specs.Tail.{tail_of}
 use Rattle.envelope.proofs.Limits.{see_within, ActedWithin, act_within, Within, tail_within}
 use Rattle.envelope.specs.declared.At.{At}
 use Rattle.envelope.specs.declared.Seen.{Seen}
-use Rattle.envelope.specs.declared.Acted.{Acted}
+use Rattle.envelope.specs.Types.{Acted}
 use Rattle.burst.specs.Makers.{with_acted, body_in, with_body}
 use Rattle.burst.specs.Sample.{snap_if_of, absence_of, inputs_of, last_of, present_by, present_of, rest_of, acted_by, sample_of}
 use Rattle.burst.specs.Lead.{begin_burst_of, lead_at_of, onward, replay_from}
-use Rattle.burst.specs.declared.Burst.{Burst}
+use Rattle.burst.specs.Types.{Burst}
 use Rattle.burst.specs.declared.Lead.{Lead}
-use Rattle.burst.specs.declared.Sampled.{Sampled}
+use Rattle.burst.specs.Types.{Sampled}
 use Rattle.reached.proofs.Fsk.{CommitWithin, StepWithin, commit_within, open_runs_within, settle_within}
 use Rattle.reached.proofs.FrameEnd.{CutWithin, last_run_within, close_pair_within, out_within, cut_train_within, ended_within}
 use Rattle.reached.specs.Limits.{CommittedWithin, Paired, BurstFits}
@@ -154,7 +154,7 @@ module _ (p : Settings) (fits : p.max_pulses < 2 ^ 32) where
       let q : Framed × List ℕ = end_frame_of p b.frame high pac start end b.out_fsk fsk in
       let f : EndFits max q = end_frame_fits p b.frame high pac start end b.out_fsk fsk h.pairs h.fsk_within in
       let c : CutWithin max (cut_train_of b.train high b.out_ook start ook) = cut_train_within max fits b.train high b.out_ook start ook h.train_within h.ook_within in
-      either (DoneFits max) (eqb q.0.is_fsk 1) (either (DoneFits max) (eqb p.mode 2) (search) (search)) (search)
+      either (DoneFits max) q.0.is_fsk (either (DoneFits max) (eqb p.mode 2) (search) (search)) (search)
 
   -- ---- presence
 

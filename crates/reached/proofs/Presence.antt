@@ -20,16 +20,16 @@ use Rattle.run.specs.Run.{with_start, lengthen_of, rejoin_of, begin_run_of, move
 use Rattle.run.specs.declared.Run.{Run}
 use Rattle.fsk.specs.Makers.{with_runs}
 use Rattle.fsk.specs.Makers as frames
-use Rattle.fsk.specs.declared.Frame.{Frame}
+use Rattle.fsk.specs.Types.{Frame}
 use Rattle.fsk_sample.specs.Tone.{upper_of}
 use Rattle.frame_end.specs.Done.{frame_done_of}
-use Rattle.frame_end.specs.declared.Body.{Body}
+use Rattle.frame_end.specs.Types.{Body}
 use Rattle.presence.specs.Move.{pres_thr_of, with_run, move_pres_of, extend_of, move_frame_of}
 use Rattle.presence.specs.Presence.{slice_if_of, advance_at, advance_of, sure_if_of, ends_of, end_of, end_if_of, long_of, full_body, end_carrier_of, carrier_if_of, carrier_by, confirm_by, after_advance, presence_of, near_start_of, snap_of}
 use Rattle.presence.specs.declared.Pres.{Pres}
 use Rattle.presence.specs.declared.Inputs.{Inputs}
-use Rattle.presence.specs.declared.Present.{Present}
-use Rattle.presence.specs.declared.Snapped.{Snapped}
+use Rattle.presence.specs.Types.{Present}
+use Rattle.presence.specs.Types.{Snapped}
 use Rattle.reached.specs.Limits.{most_runs, FrameWithin, Running, PresWithin}
 use Rattle.reached.proofs.Fsk.{begin_frame_within}
 use Rattle.reached.proofs.FskSample.{fsk_min_above, sample_within}

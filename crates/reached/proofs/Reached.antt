@@ -6,10 +6,11 @@ use mathlib.Core.Path.{◌≡◌, refl, sym, ap, ◌∙◌}
 use mathlib.Core.List.{List}
 use native.Mathlib.Omega.{arith}
 use lib.ListN.{length, get_or}
-use lib.Dec.{leb, ltb, eqb, lit<}
+use lib.Dec.{leb, ltb, eqb}
 use lib.IntN.{pos}
 use lib.Ieee.{Float, nan, binary64, of_int, of_bits, to_bits}
 use borrow.Author.Tests.{leb-true, le-leb, lt-ltb, ltb-true, eqb-true, eqb-false, not-true}
+use Rattle.std.specs.Prelude.{Ok, Err}
 use Rattle.domain.specs.Limits.{max_index, spent_serial, max_serial}
 use Rattle.arith.specs.Leaves.{lead_len_of}
 use Rattle.shared.specs.declared.Settings.{Settings}
@@ -18,13 +19,14 @@ use Rattle.shared.specs.Answers.{is_stay_of}
 use Rattle.shared.specs.declared.Next.{Next}
 use Rattle.shared.specs.declared.Next.TheVariants as next
 use Rattle.burst.specs.Makers.{with_serials}
-use Rattle.burst.specs.declared.Burst.{Burst}
+use Rattle.burst.specs.Types.{Burst}
 use Rattle.burst.specs.declared.Lead.{Lead}
-use Rattle.burst.specs.declared.Sampled.{Sampled}
+use Rattle.burst.specs.Types.{Sampled}
 use Rattle.burst.specs.Lead.{lead_add_of, largest_of, begin_burst_of, staying, replay_of, lead_full_of}
 use Rattle.refusals.proofs.Domain.{InDomain, settings_tell}
 use Rattle.refusals.specs.Domain.{settings_ok, unset_ok, index_ok, room_ok}
 use Rattle.refusals.specs.State.{burst_ok, frame_ok, lead_ok, cand_ok}
+use Rattle.refusals.specs.declared.Refusal.TheVariants as refusal
 use Rattle.refusals.specs.Order.{first_failed}
 use Rattle.refusals.proofs.Order.{passed, AllPassed, none_failed}
 use Rattle.shared.proofs.Tests.{both_true}
@@ -38,7 +40,7 @@ use Rattle.lane.specs.declared.Answer.{Answer}
 use Rattle.lane.specs.Answers.{phase_of}
 use Rattle.refusals.specs.Serial.{serial_left}
 use Rattle.lane.specs.Refusals.{opened_ok, lane_ok, follows_of, begin_floats_ok, step_floats_ok, open_refusal, begin_refusal, step_refusal, close_refusal}
-use Rattle.lane.proofs.Refusals.{passes_lane}
+use Rattle.lane.proofs.Refusals.{passes_lane, by_refusal}
 use Rattle.lane.specs.Idle.{no_burst, idle_lane}
 use Rattle.lane.specs.Begin.{cleared_of, begin_lead_of, lead_lane, lane_of}
 use Rattle.lane.specs.Advance.{settle_of, fill_of, replay_step, lead_step, burst_step, advance_of}
@@ -92,26 +94,26 @@ unfolding idle_lane
 idle_kept p q =
     record { had = refl; domain = q; held = none_within p; going = λ e. absurd (omega arith); named = omega arith; filled = λ e. omega arith; from = omega arith; near = omega arith }
 
-opening_passes : (l : Lane) (p : Settings) → open_refusal l p ≡ 0 → (settings_ok p ≡ true) × (l.serial < spent_serial)
+opening_passes : (l : Lane) (p : Settings) → open_refusal l p ≡ Ok tt → (settings_ok p ≡ true) × (l.serial < spent_serial)
 unfolding open_refusal
 opening_passes l p e =
-    let a = passed 3 (settings_ok p) _ (lit< tt) e in
-    (a.0, ltb-true l.serial spent_serial (passed 13 (serial_left l.serial) 0 (lit< tt) a.1).0)
+    let a = passed refusal.Settings (settings_ok p) _ e in
+    (a.0, ltb-true l.serial spent_serial (passed refusal.Serial (serial_left l.serial) _ a.1).0)
 
 pub open_sound : {l : Lane} (p : Settings) → Sound l → Sound (opened l p).lane
 unfolding opened
 open_sound {l} p h =
-    by_test (λ (a : Answer). Sound a.lane) (eqb (open_refusal l p) 0)
-    (λ q. let t = opening_passes l p (eqb-true _ 0 q) in stamp_sound (l.serial + 1) (idle_kept p t.0) (raises (omega (arith, t.1))))
-    (λ q. h)
+    by_refusal (λ (a : Answer). Sound a.lane) (open_refusal l p)
+    (λ q. let t = opening_passes l p q in stamp_sound (l.serial + 1) (idle_kept p t.0) (raises (omega (arith, t.1))))
+    (λ k q. h)
 
 -- begin
-begin_passes : (l : Lane) (b : BeginArgs) (m n : ℕ) → begin_refusal l b m n ≡ 0
+begin_passes : (l : Lane) (b : BeginArgs) (m n : ℕ) → begin_refusal l b m n ≡ Ok tt
     → AllPassed (not (eqb l.opened 0)) (lane_ok l) (eqb l.phase 0) (serial_left l.serial) (index_ok b.index) (begin_floats_ok b) (room_ok l.settings m n)
 unfolding begin_refusal
 begin_passes l b m n e = none_failed (not (eqb l.opened 0)) (lane_ok l) (eqb l.phase 0) (serial_left l.serial) (index_ok b.index) (begin_floats_ok b) (room_ok l.settings m n) e
 
-lead_sound : {l : Lane} (b : BeginArgs) (m n : ℕ) → begin_refusal l b m n ≡ 0 → Sound l → Sound (stamp_of (l.serial + 1) (lead_lane l b))
+lead_sound : {l : Lane} (b : BeginArgs) (m n : ℕ) → begin_refusal l b m n ≡ Ok tt → Sound l → Sound (stamp_of (l.serial + 1) (lead_lane l b))
 unfolding lead_lane begin_lead_of new_lane idle_lane
 lead_sound b m n e unopened = let z : ◌≡◌ {A = Bool} false true = (begin_passes new_lane b m n e).settings_ok in absurd (let y : ◌≡◌ {A = ℕ} 0 1 = cc in omega arith)
 lead_sound {l} b m n e (within w) =
@@ -125,9 +127,9 @@ lead_sound {l} b m n e (within w) =
 pub begin_sound : {l : Lane} (b : BeginArgs) (ook fsk : List ℕ) → Sound l → Sound (begun l b ook fsk).lane
 unfolding begun
 begin_sound {l} b ook fsk h =
-    by_test (λ (a : Answer). Sound a.lane) (eqb (begin_refusal l b (length ook) (length fsk)) 0)
-    (λ q. lead_sound b (length ook) (length fsk) (eqb-true _ 0 q) h)
-    (λ q. h)
+    by_refusal (λ (a : Answer). Sound a.lane) (begin_refusal l b (length ook) (length fsk))
+    (λ q. lead_sound b (length ook) (length fsk) q h)
+    (λ k q. h)
 
 -- the replay of a lead-in
 lead_within : (p : Settings) (noise : Float) (ring : List Float) (ld : Lead) (b : Burst) (ook fsk : List ℕ) → InDomain p → BurstWithin p b → SampledWithin p (lead_full_of p noise ring ld b ook fsk).0
@@ -187,7 +189,7 @@ module _ {l : Lane} (s : StepArgs) (k : Steps l s) where
       (λ q. lead_step_sound _ ook fsk)
       (λ q. burst_step_sound _ ook fsk (omega (arith, k.was.kept.named, k.under_way, eqb-false l.phase 1 q)))
 
-pub step_passes : (l : Lane) (s : StepArgs) (m n : ℕ) → step_refusal l s m n ≡ 0
+pub step_passes : (l : Lane) (s : StepArgs) (m n : ℕ) → step_refusal l s m n ≡ Ok tt
     → AllPassed true (lane_ok l) (not (eqb l.phase 0)) true (index_ok s.index && follows_of l.last s.index) (step_floats_ok s) (room_ok l.settings m n)
 unfolding step_refusal
 step_passes l s m n e = none_failed true (lane_ok l) (not (eqb l.phase 0)) true (index_ok s.index && follows_of l.last s.index) (step_floats_ok s) (room_ok l.settings m n) e
@@ -196,7 +198,7 @@ follows_is : (last index : ℕ) → follows_of last index ≡ true → index ≡
 unfolding follows_of
 follows_is last index q = eqb-true index (last + 1) q
 
-accepted_sound : {l : Lane} (s : StepArgs) (ook fsk : List ℕ) → step_refusal l s (length ook) (length fsk) ≡ 0 → Sound l → Sound (stamp_of (l.serial + 1) (advance_of l s ook fsk).0.lane)
+accepted_sound : {l : Lane} (s : StepArgs) (ook fsk : List ℕ) → step_refusal l s (length ook) (length fsk) ≡ Ok tt → Sound l → Sound (stamp_of (l.serial + 1) (advance_of l s ook fsk).0.lane)
 unfolding new_lane idle_lane
 accepted_sound s ook fsk e unopened = let z : ◌≡◌ {A = Bool} false true = (step_passes new_lane s (length ook) (length fsk) e).phase_ok in absurd (let y : ◌≡◌ {A = ℕ} 0 1 = cc in omega arith)
 accepted_sound {l} s ook fsk e (within h) =
@@ -207,12 +209,12 @@ accepted_sound {l} s ook fsk e (within h) =
 pub step_sound : {l : Lane} (s : StepArgs) (ook fsk : List ℕ) → Sound l → Sound (stepped l s ook fsk).0.lane
 unfolding stepped
 step_sound {l} s ook fsk h =
-    by_test (λ (r : Answer × List ℕ × List ℕ). Sound r.0.lane) (eqb (step_refusal l s (length ook) (length fsk)) 0)
-    (λ q. accepted_sound s ook fsk (eqb-true _ 0 q) h)
-    (λ q. h)
+    by_refusal (λ (r : Answer × List ℕ × List ℕ). Sound r.0.lane) (step_refusal l s (length ook) (length fsk))
+    (λ q. accepted_sound s ook fsk q h)
+    (λ k q. h)
 
 -- close
-pub close_passes : (l : Lane) (m n : ℕ) → close_refusal l m n ≡ 0 → AllPassed true (lane_ok l) (not (eqb l.phase 0)) true true true (room_ok l.settings m n)
+pub close_passes : (l : Lane) (m n : ℕ) → close_refusal l m n ≡ Ok tt → AllPassed true (lane_ok l) (not (eqb l.phase 0)) true true true (room_ok l.settings m n)
 unfolding close_refusal
 close_passes l m n e = none_failed true (lane_ok l) (not (eqb l.phase 0)) true true true (room_ok l.settings m n) e
 
@@ -223,7 +225,7 @@ idle_with_sound {l} b w busy g =
     let k : Kept (lane_of l 0 l.last l.x_prev l.lead l.ring b) = record { had = h.had; domain = h.domain; held = g; going = λ e. absurd (omega arith); named = omega arith; filled = λ e. absurd (omega arith); from = h.from; near = h.near } in
     stamp_sound (l.serial + 1) k (record { busy = λ n. absurd (n refl); idle = omega (arith, w.counted.busy busy) })
 
-closes_sound : {l : Lane} (ook fsk : List ℕ) → close_refusal l (length ook) (length fsk) ≡ 0 → Sound l → Sound (stamp_of (l.serial + 1) (close_of l ook fsk).0.lane)
+closes_sound : {l : Lane} (ook fsk : List ℕ) → close_refusal l (length ook) (length fsk) ≡ Ok tt → Sound l → Sound (stamp_of (l.serial + 1) (close_of l ook fsk).0.lane)
 unfolding new_lane idle_lane close_of
 closes_sound ook fsk e unopened = let z : ◌≡◌ {A = Bool} false true = (close_passes new_lane (length ook) (length fsk) e).phase_ok in absurd (let y : ◌≡◌ {A = ℕ} 0 1 = cc in omega arith)
 closes_sound {l} ook fsk e (within w) =
@@ -238,9 +240,9 @@ closes_sound {l} ook fsk e (within w) =
 pub close_sound : {l : Lane} (ook fsk : List ℕ) → Sound l → Sound (closed l ook fsk).0.lane
 unfolding closed
 close_sound {l} ook fsk h =
-    by_test (λ (r : Answer × List ℕ × List ℕ). Sound r.0.lane) (eqb (close_refusal l (length ook) (length fsk)) 0)
-    (λ q. closes_sound ook fsk (eqb-true _ 0 q) h)
-    (λ q. h)
+    by_refusal (λ (r : Answer × List ℕ × List ℕ). Sound r.0.lane) (close_refusal l (length ook) (length fsk))
+    (λ q. closes_sound ook fsk q h)
+    (λ k q. h)
 
 -- the records of a sound lane have its serial
 pub own_records : {l : Lane} → Sound l → stamp_of l.serial l ≡ l
@@ -264,26 +266,26 @@ pub reached_ok : {l : Lane} → Reached l → lane_ok l ≡ true
 reached_ok r = sound_ok (reached_sound r)
 
 -- where the lane passes its check, the first refusal is another one than 4
-not_four : (s l p n i f r : Bool) → l ≡ true → first_failed s l p n i f r ≡ 4 → ⊥
+not_four : (s l p n i f r : Bool) → l ≡ true → first_failed s l p n i f r ≡ Err refusal.Lane → ⊥
 unfolding first_failed
 not_four s false p n i f r q e = let y : ◌≡◌ {A = ℕ} 0 1 = cc in omega arith
-not_four false true p n i f r q e = omega arith
-not_four true true false n i f r q e = omega arith
-not_four true true true false i f r q e = omega arith
-not_four true true true true false f r q e = omega arith
-not_four true true true true true false r q e = omega arith
-not_four true true true true true true false q e = omega arith
-not_four true true true true true true true q e = omega arith
+not_four false true p n i f r q e = grind arith
+not_four true true false n i f r q e = grind arith
+not_four true true true false i f r q e = grind arith
+not_four true true true true false f r q e = grind arith
+not_four true true true true true false r q e = grind arith
+not_four true true true true true true false q e = grind arith
+not_four true true true true true true true q e = grind arith
 
 -- no list of calls meets refusal 4; an opening has no refusal but 3 and 13
-pub begin_not_four : {l : Lane} → Reached l → (b : BeginArgs) (ook fsk : ℕ) → begin_refusal l b ook fsk ≡ 4 → ⊥
+pub begin_not_four : {l : Lane} → Reached l → (b : BeginArgs) (ook fsk : ℕ) → begin_refusal l b ook fsk ≡ Err refusal.Lane → ⊥
 unfolding begin_refusal
 begin_not_four {l} r b ook fsk = not_four (not (eqb l.opened 0)) (lane_ok l) (eqb l.phase 0) (serial_left l.serial) (index_ok b.index) (begin_floats_ok b) (room_ok l.settings ook fsk) (reached_ok r)
 
-pub step_not_four : {l : Lane} → Reached l → (s : StepArgs) (ook fsk : ℕ) → step_refusal l s ook fsk ≡ 4 → ⊥
+pub step_not_four : {l : Lane} → Reached l → (s : StepArgs) (ook fsk : ℕ) → step_refusal l s ook fsk ≡ Err refusal.Lane → ⊥
 unfolding step_refusal
 step_not_four {l} r s ook fsk = not_four true (lane_ok l) (not (eqb l.phase 0)) true (index_ok s.index && follows_of l.last s.index) (step_floats_ok s) (room_ok l.settings ook fsk) (reached_ok r)
 
-pub close_not_four : {l : Lane} → Reached l → (ook fsk : ℕ) → close_refusal l ook fsk ≡ 4 → ⊥
+pub close_not_four : {l : Lane} → Reached l → (ook fsk : ℕ) → close_refusal l ook fsk ≡ Err refusal.Lane → ⊥
 unfolding close_refusal
 close_not_four {l} r ook fsk = not_four true (lane_ok l) (not (eqb l.phase 0)) true true true (room_ok l.settings ook fsk) (reached_ok r)

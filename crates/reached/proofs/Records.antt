@@ -1,7 +1,7 @@
 -- The records of an accepted call, whatever the lane value: an opening and a begin leave none, and each that a step or a close leaves has at most
 -- max_pulses pairs. So the slots that belong to a record are at most 2 * max_pulses, which the domain ends at max_slots.
 use Prim.Native.Nat.{ℕ, ◌+◌, ◌*◌, ◌≤◌}
-use mathlib.Core.Bool.{Bool, true, false, cond, ◌&&◌}
+use mathlib.Core.Bool.{Bool, true, false, ◌&&◌}
 use mathlib.Core.Path.{◌≡◌, refl}
 use mathlib.Core.List.{List}
 use native.Mathlib.Omega.{arith}
@@ -9,24 +9,26 @@ use lib.ListN.{length, get_or, length-take}
 use lib.Dec.{leb, ltb, eqb}
 use lib.IntN.{pos}
 use lib.Ieee.{Float, nan, binary64, of_int}
-use borrow.Author.Tests.{leb-true, eqb-true, not-true}
+use borrow.Author.Tests.{leb-true, not-true}
+use Rattle.std.specs.Prelude.{⊤, Result, Ok, is_ok}
 use Rattle.domain.specs.Limits.{max_slots, max_count, max_bound}
 use Rattle.arith.specs.Leaves.{lead_len_of}
 use Rattle.shared.proofs.Tests.{both_true, six_true}
-use Rattle.shared.proofs.Cases.{either, by_test}
+use Rattle.shared.proofs.Cases.{either}
 use Rattle.ook.specs.Limits.{EnvWithin, TrainWithin}
 use Rattle.ook.specs.declared.Env.{Env}
 use Rattle.ook.specs.declared.Train.{Train}
 use Rattle.shared.specs.declared.Out.{Out}
 use Rattle.shared.specs.declared.Settings.{Settings}
 use Rattle.fsk.specs.declared.Committed.{Committed}
-use Rattle.fsk.specs.declared.Frame.{Frame}
-use Rattle.burst.specs.declared.Burst.{Burst}
+use Rattle.fsk.specs.Types.{Frame}
+use Rattle.burst.specs.Types.{Burst}
 use Rattle.burst.specs.declared.Lead.{Lead}
 use Rattle.burst.specs.Lead.{lead_add_of, largest_of, begin_burst_of, staying, replay_of, lead_full_of}
 use Rattle.reached.specs.Limits.{Paired, BurstFits}
 use Rattle.reached.proofs.Pairs.{SampledFits, sample_fits, replay_fits, begin_burst_fits}
 use Rattle.refusals.proofs.Domain.{InDomain, settings_tell}
+use Rattle.refusals.specs.declared.Refusal.{Refusal}
 use Rattle.refusals.specs.State.{run_ok, flag, env_ok, train_ok, runs_ok, committed_ok, out_ok, pres_ok, frame_ok, burst_ok}
 use Rattle.reached.proofs.Kept.{cleared_fits, ended_fits}
 use Rattle.lane.specs.declared.BeginArgs.{BeginArgs}
@@ -35,13 +37,13 @@ use Rattle.lane.specs.declared.Lane.{Lane}
 use Rattle.lane.specs.declared.Answer.{Answer}
 use Rattle.lane.specs.Answers.{reply_number_of}
 use Rattle.lane.specs.Refusals.{opened_ok, open_refusal, begin_refusal, step_refusal, close_refusal, Passes}
-use Rattle.lane.proofs.Refusals.{opened_tells, lane_passes}
+use Rattle.lane.proofs.Refusals.{opened_tells, lane_passes, by_refusal}
 use Rattle.lane.specs.Idle.{no_burst, idle_lane}
 use Rattle.lane.specs.Begin.{ring_of, cleared_of, lead_lane}
 use Rattle.lane.specs.Advance.{settle_of, fill_of, replay_step, lead_step, at_of, burst_step, advance_of}
 use Rattle.lane.specs.Serial.{stamp_of}
 use Rattle.lane.specs.Close.{idle_with, close_of}
-use Rattle.lane.specs.Step.{refuse, opened, begun, stepped, closed}
+use Rattle.lane.specs.Step.{refuse, unless_refused, opened, begun, stepped, closed}
 use Rattle.lane.specs.Part.{front, named_of, part_refusal, part_of}
 use Rattle.reached.proofs.Reached.{step_passes, close_passes}
 
@@ -95,7 +97,7 @@ domain_tells had phase p busy h = settings_tell p (opened_tells had phase p h (g
     go true = busy
     go false = refl
 
-ready : (l : Lane) (s : StepArgs) (m n : ℕ) → step_refusal l s m n ≡ 0 → Ready l
+ready : (l : Lane) (s : StepArgs) (m n : ℕ) → step_refusal l s m n ≡ Ok tt → Ready l
 ready l s m n e =
     let t = step_passes l s m n e in
     let k : Passes l = lane_passes l t.lane_ok in
@@ -126,7 +128,7 @@ module _ (l : Lane) (s : StepArgs) (r : Ready l) where
 
 -- ---- an accepted close
 
-ready_close : (l : Lane) (m n : ℕ) → close_refusal l m n ≡ 0 → Ready l
+ready_close : (l : Lane) (m n : ℕ) → close_refusal l m n ≡ Ok tt → Ready l
 ready_close l m n e =
     let t = close_passes l m n e in
     let k : Passes l = lane_passes l t.lane_ok in
@@ -149,23 +151,23 @@ pub record NoRecords (b : Burst) : Type 0 where
   pub ook_none : b.out_ook.pairs ≡ 0
   pub fsk_none : b.out_fsk.pairs ≡ 0
 
-records_fit_step : (l : Lane) (s : StepArgs) (ook fsk : List ℕ) → step_refusal l s (length ook) (length fsk) ≡ 0 → RecordsFit l.settings.max_pulses (stepped l s ook fsk).0.lane.burst
+records_fit_step : (l : Lane) (s : StepArgs) (ook fsk : List ℕ) → step_refusal l s (length ook) (length fsk) ≡ Ok tt → RecordsFit l.settings.max_pulses (stepped l s ook fsk).0.lane.burst
 unfolding stepped stamp_of
 records_fit_step l s ook fsk e =
     let f : AnswerFits l.settings.max_pulses (advance_of l s ook fsk) = advance_fits l s (ready l s (length ook) (length fsk) e) ook fsk in
     rw e (record { ook_pairs = f.ook_within.room; fsk_pairs = f.fsk_within.room })
 
-records_fit_close : (l : Lane) (ook fsk : List ℕ) → close_refusal l (length ook) (length fsk) ≡ 0 → RecordsFit l.settings.max_pulses (closed l ook fsk).0.lane.burst
+records_fit_close : (l : Lane) (ook fsk : List ℕ) → close_refusal l (length ook) (length fsk) ≡ Ok tt → RecordsFit l.settings.max_pulses (closed l ook fsk).0.lane.burst
 unfolding closed stamp_of
 records_fit_close l ook fsk e =
     let f : AnswerFits l.settings.max_pulses (close_of l ook fsk) = close_fits l (ready_close l (length ook) (length fsk) e) ook fsk in
     rw e (record { ook_pairs = f.ook_within.room; fsk_pairs = f.fsk_within.room })
 
-records_none_begin : (l : Lane) (b : BeginArgs) (ook fsk : List ℕ) → begin_refusal l b (length ook) (length fsk) ≡ 0 → NoRecords (begun l b ook fsk).lane.burst
+records_none_begin : (l : Lane) (b : BeginArgs) (ook fsk : List ℕ) → begin_refusal l b (length ook) (length fsk) ≡ Ok tt → NoRecords (begun l b ook fsk).lane.burst
 unfolding begun lead_lane cleared_of stamp_of
 records_none_begin l b ook fsk e = rw e (record { ook_none = refl; fsk_none = refl })
 
-records_none_open : (l : Lane) (p : Settings) → open_refusal l p ≡ 0 → NoRecords (opened l p).lane.burst
+records_none_open : (l : Lane) (p : Settings) → open_refusal l p ≡ Ok tt → NoRecords (opened l p).lane.burst
 unfolding opened idle_lane no_burst stamp_of
 records_none_open l p e = rw e (record { ook_none = refl; fsk_none = refl })
 
@@ -184,7 +186,7 @@ part_most : (most : ℕ) (l : Lane) (r : Out) (ook fsk : List ℕ) → 2 * r.pai
 unfolding part_of named_of
 part_most most l r ook fsk h =
     let short : List ℕ → Type 0 = λ (q : List ℕ). length q ≤ most in
-    either short (eqb (part_refusal l r) 0)
+    either short (is_ok (part_refusal l r))
     (either short (eqb r.state 1)
     (either short (eqb r.fsk 1) (omega (arith, front_most (2 * r.pairs) fsk)) (omega (arith, front_most (2 * r.pairs) ook)))
     (omega arith))
@@ -193,42 +195,42 @@ part_most most l r ook fsk h =
 parts_fit : (max : ℕ) (l : Lane) → RecordsFit max l.burst → (x y : List ℕ) → PartsFit (2 * max) l x y
 parts_fit max l f x y = record { ook_part = part_most _ _ _ x y (omega (arith, f.ook_pairs)); fsk_part = part_most _ _ _ x y (omega (arith, f.fsk_pairs)) }
 
-pub parts_fit_step : (l : Lane) (s : StepArgs) (ook fsk : List ℕ) → step_refusal l s (length ook) (length fsk) ≡ 0 → (x y : List ℕ) → PartsFit (2 * l.settings.max_pulses) (stepped l s ook fsk).0.lane x y
+pub parts_fit_step : (l : Lane) (s : StepArgs) (ook fsk : List ℕ) → step_refusal l s (length ook) (length fsk) ≡ Ok tt → (x y : List ℕ) → PartsFit (2 * l.settings.max_pulses) (stepped l s ook fsk).0.lane x y
 parts_fit_step l s ook fsk e = parts_fit l.settings.max_pulses (stepped l s ook fsk).0.lane (records_fit_step l s ook fsk e)
 
-pub parts_fit_close : (l : Lane) (ook fsk : List ℕ) → close_refusal l (length ook) (length fsk) ≡ 0 → (x y : List ℕ) → PartsFit (2 * l.settings.max_pulses) (closed l ook fsk).0.lane x y
+pub parts_fit_close : (l : Lane) (ook fsk : List ℕ) → close_refusal l (length ook) (length fsk) ≡ Ok tt → (x y : List ℕ) → PartsFit (2 * l.settings.max_pulses) (closed l ook fsk).0.lane x y
 parts_fit_close l ook fsk e = parts_fit l.settings.max_pulses (closed l ook fsk).0.lane (records_fit_close l ook fsk e)
 
 none_most : (most : ℕ) (l : Lane) → NoRecords l.burst → (x y : List ℕ) → PartsFit most l x y
 none_most most l n x y = record { ook_part = part_most most l _ x y (omega (arith, n.ook_none)); fsk_part = part_most most l _ x y (omega (arith, n.fsk_none)) }
 
-pub parts_fit_begin : (l : Lane) (b : BeginArgs) (ook fsk : List ℕ) → begin_refusal l b (length ook) (length fsk) ≡ 0 → (most : ℕ) (x y : List ℕ) → PartsFit most (begun l b ook fsk).lane x y
+pub parts_fit_begin : (l : Lane) (b : BeginArgs) (ook fsk : List ℕ) → begin_refusal l b (length ook) (length fsk) ≡ Ok tt → (most : ℕ) (x y : List ℕ) → PartsFit most (begun l b ook fsk).lane x y
 parts_fit_begin l b ook fsk e most = none_most most (begun l b ook fsk).lane (records_none_begin l b ook fsk e)
 
-pub parts_fit_open : (l : Lane) (p : Settings) → open_refusal l p ≡ 0 → (most : ℕ) (x y : List ℕ) → PartsFit most (opened l p).lane x y
+pub parts_fit_open : (l : Lane) (p : Settings) → open_refusal l p ≡ Ok tt → (most : ℕ) (x y : List ℕ) → PartsFit most (opened l p).lane x y
 parts_fit_open l p e most = none_most most (opened l p).lane (records_none_open l p e)
 
 -- an accepted step has settings of the domain
-domain_step : (l : Lane) (s : StepArgs) (m n : ℕ) → step_refusal l s m n ≡ 0 → InDomain l.settings
+domain_step : (l : Lane) (s : StepArgs) (m n : ℕ) → step_refusal l s m n ≡ Ok tt → InDomain l.settings
 domain_step l s m n e = (ready l s m n e).domain
 
-pub slots_close : (l : Lane) (m n : ℕ) → close_refusal l m n ≡ 0 → 2 * l.settings.max_pulses ≤ max_slots
+pub slots_close : (l : Lane) (m n : ℕ) → close_refusal l m n ≡ Ok tt → 2 * l.settings.max_pulses ≤ max_slots
 slots_close l m n e = omega (arith, (ready_close l m n e).domain.max_pulses.1)
 
-pub slots_step : (l : Lane) (s : StepArgs) (m n : ℕ) → step_refusal l s m n ≡ 0 → 2 * l.settings.max_pulses ≤ max_slots
+pub slots_step : (l : Lane) (s : StepArgs) (m n : ℕ) → step_refusal l s m n ≡ Ok tt → 2 * l.settings.max_pulses ≤ max_slots
 slots_step l s m n e = omega (arith, (domain_step l s m n e).max_pulses.1)
 
 -- ---- a call that does not answer 3 is accepted
 
-abbrev Accepts : ℕ → Answer → Type 0
-Accepts k a = (reply_number_of a.reply ≡ 3 → ⊥) → k ≡ 0
+abbrev Accepts : Result ⊤ Refusal → Answer → Type 0
+Accepts k a = (reply_number_of a.reply ≡ 3 → ⊥) → k ≡ Ok tt
 
--- k is the number of the first check that fails
-not_three : (k : ℕ) (l : Lane) (a : Answer) → Accepts k (cond (eqb k 0) a (refuse k l))
-not_three k l a = by_test (Accepts k) (eqb k 0) (λ q h. eqb-true k 0 q) (λ q h. absurd (h refl))
+-- k is the first check that fails
+not_three : (k : Result ⊤ Refusal) (l : Lane) (a : Answer) → Accepts k (unless_refused k a (λ r. refuse r l))
+not_three k l a = by_refusal (Accepts k) k (λ q h. q) (λ r q h. absurd (h refl))
 
-not_three_with : (k : ℕ) (l : Lane) (a : Answer × List ℕ × List ℕ) (ook fsk : List ℕ) → Accepts k (cond (eqb k 0) a (refuse k l, ook, fsk)).0
-not_three_with k l a ook fsk = by_test (λ (r : Answer × List ℕ × List ℕ). Accepts k r.0) (eqb k 0) (λ q h. eqb-true k 0 q) (λ q h. absurd (h refl))
+not_three_with : (k : Result ⊤ Refusal) (l : Lane) (a : Answer × List ℕ × List ℕ) (ook fsk : List ℕ) → Accepts k (unless_refused k a (λ r. (refuse r l, ook, fsk))).0
+not_three_with k l a ook fsk = by_refusal (λ (r : Answer × List ℕ × List ℕ). Accepts k r.0) k (λ q h. q) (λ r q h. absurd (h refl))
 
 pub answered_open : (l : Lane) (p : Settings) → Accepts (open_refusal l p) (opened l p)
 unfolding opened

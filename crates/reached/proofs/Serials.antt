@@ -7,6 +7,8 @@ use mathlib.Core.List.{List, [], ◌∷◌, ◌++◌}
 use native.Mathlib.Nat.{not-suc-le-zero}
 use native.Mathlib.Omega.{arith}
 use lib.Dec.{eqb}
+use Rattle.std.specs.Prelude.{⊤, Result, Ok}
+use Rattle.refusals.specs.declared.Refusal.{Refusal}
 use Rattle.shared.specs.declared.Next.{Next}
 use Rattle.shared.specs.declared.Next.TheVariants as next
 use lib.ListN.{length, get_or}
@@ -14,35 +16,35 @@ use Rattle.lane.specs.declared.Answer.{Answer}
 use Rattle.lane.specs.declared.Lane.{Lane}
 use Rattle.lane.specs.declared.StepArgs.{StepArgs}
 use Rattle.lane.specs.Advance.{advance_of, fill_of, settle_of}
-use Rattle.lane.specs.Answers.{reply_number_of, reply_of}
+use Rattle.lane.specs.Answers.{reply_number_of}
 use Rattle.lane.specs.Begin.{lead_lane}
 use Rattle.lane.specs.Idle.{idle_lane}
-use Rattle.shared.proofs.Cases.{either}
+use Rattle.lane.proofs.Refusals.{by_refusal}
 use Rattle.lane.proofs.PartLaws.{part_named}
 use Rattle.lane.specs.Refusals.{open_refusal, begin_refusal, step_refusal, close_refusal}
 use Rattle.lane.specs.Serial.{stamp_of, stamped, stamped_with}
 use Rattle.lane.specs.Close.{idle_with, close_of}
-use Rattle.lane.specs.Step.{new_lane, refuse, stay, opened, begun, stepped, closed}
+use Rattle.lane.specs.Step.{new_lane, refuse, unless_refused, stay, opened, begun, stepped, closed}
 use Rattle.reached.proofs.Accepted.{step_ways, close_ways}
 use Rattle.reached.specs.Serials.{Call, opening, begin, step, close, answer_to, accepted, serials, count_from, Counted, NoTwoAlike, InBoth, BothFetched}
 
 -- a stamped answer to l, or a refusal of it
 data Answers (l : Lane) (a : Answer) : Type 0 where
   raises : (b : Answer) → accepted b ≡ true → a ≡ stamped l b → Answers l a
-  refuses : (k : ℕ) → a ≡ refuse k l → Answers l a
+  refuses : (k : Refusal) → a ≡ refuse k l → Answers l a
 
 abbrev Is : Answer × List ℕ × List ℕ → Type 0
 Is r = accepted r.0 ≡ true
 
-by_check : (l : Lane) (k : ℕ) (b : Answer) → accepted b ≡ true → Answers l (cond (eqb k 0) (stamped l b) (refuse k l))
-by_check l k b t = either (Answers l) (eqb k 0) (raises b t refl) (refuses k refl)
+by_check : (l : Lane) (k : Result ⊤ Refusal) (b : Answer) → accepted b ≡ true → Answers l (unless_refused k (stamped l b) (λ n. refuse n l))
+by_check l k b t = by_refusal (Answers l) k (λ q. raises b t refl) (λ n q. refuses n refl)
 
-by_check_with : (l : Lane) (k : ℕ) (r : Answer × List ℕ × List ℕ) (ook fsk : List ℕ) → Is r → Answers l (cond (eqb k 0) (stamped_with l r) (refuse k l, ook, fsk)).0
-by_check_with l k r ook fsk t = either (λ (a : Answer × List ℕ × List ℕ). Answers l a.0) (eqb k 0) (raises r.0 t refl) (refuses k refl)
+by_check_with : (l : Lane) (k : Result ⊤ Refusal) (r : Answer × List ℕ × List ℕ) (ook fsk : List ℕ) → Is r
+    → Answers l (unless_refused k (stamped_with l r) (λ n. (refuse n l, ook, fsk))).0
+by_check_with l k r ook fsk t = by_refusal (λ (a : Answer × List ℕ × List ℕ). Answers l a.0) k (λ q. raises r.0 t refl) (λ n q. refuses n refl)
 
 -- a sample is never answered by a refusal
-next_accepted : (n : Next) → not (eqb (reply_number_of (reply_of n)) 3) ≡ true
-unfolding reply_of
+next_accepted : (n : Next) → not (eqb (reply_number_of {E = Refusal} (Ok n)) 3) ≡ true
 next_accepted next.Stay = refl
 next_accepted next.Idle = refl
 next_accepted (next.IdleAt e) = refl

@@ -5,11 +5,11 @@ use Rattle.std.specs.Prelude.{ℕ, ◌+◌, ◌*◌, ◌<◌, ◌≤◌, ◌≡�
 use Rattle.run.specs.Limits.{RunWithin}
 use Rattle.fsk.specs.declared.Committed.{Committed}
 use Rattle.fsk.specs.declared.Runs.{Runs}
-use Rattle.fsk.specs.declared.Frame.{Frame}
+use Rattle.fsk.specs.Types.{Frame}
 use Rattle.presence.specs.declared.Pres.{Pres}
 use Rattle.shared.specs.Params.{fsk_min_of}
 use Rattle.shared.specs.declared.Settings.{Settings}
-use Rattle.burst.specs.declared.Burst.{Burst}
+use Rattle.burst.specs.Types.{Burst}
 use Rattle.ook.specs.Limits.{EnvWithin, TrainWithin, OutWithin}
 
 -- the most runs of a frame whose presence ended at long + 1 samples: two for each, and one that its end commits

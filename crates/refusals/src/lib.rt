@@ -5,7 +5,7 @@ ghost use Rattle.std.specs.Prelude.{◌≡◌, ◌+◌, leb};
 ghost use Rattle.refusals.specs.Serial.{serial_ok, serial_left, serials_match};
 ghost use Rattle.refusals.specs.Domain.{within, between, settings_ok, unset_ok, factor_ok, envelope_ok, sample_ok, index_ok, room_ok};
 ghost use Rattle.refusals.specs.State.{flag, run_ok, env_ok, train_ok, pres_ok, runs_ok, committed_ok, frame_ok, out_ok, burst_ok, lead_ok, cand_ok};
-ghost use Rattle.refusals.specs.Order.{check, first_failed};
+ghost use Rattle.refusals.specs.Order.{number_of, check, first_failed};
 
 use arith::C32;
 use burst::{Burst, Lead};
@@ -15,12 +15,47 @@ use presence::Pres;
 use run::Run;
 use shared::{Out, Settings};
 
+// Why a call is refused: document 01's numbers 1 to 8, and document 02's 12 and 13. 9 is of the host library alone, which gives it by number;
+// 10 and 11 are not in use.
+#[derive(Clone, Copy, PartialEq, Eq)]
+pub enum Refusal {
+    // The command byte is none of the commands'.
+    Unknown = 1,
+    // The bytes end before the command does.
+    Short = 2,
+    // A setting is outside its range, or there are none yet.
+    Settings = 3,
+    // The lane is outside its limits.
+    Lane = 4,
+    // A begin of a lane that is not idle, or a step or a close of one that is.
+    Phase = 5,
+    // The index is too high, or does not follow the last; or the antenna's number is too high.
+    Index = 6,
+    // A float is outside its range, or is a NaN.
+    Float = 7,
+    // A buffer has too few slots.
+    Room = 8,
+    // Four other antennas are out of idle.
+    Places = 12,
+    // The lane's serial is spent; or those of lane and record differ, or are 0.
+    Serial = 13,
+}
+
+impl From<Refusal> for u32 {
+    ghost from_gives = { λ k n. n ≡ number_of k };
+
+    fn from(k: Refusal) -> u32 {
+        k as u32
+    }
+}
+
 fn within_range(lo: u32, hi: u32, n: u32) -> bool
     ensures { result ≡ within lo hi n }
 {
-    (lo <= n) & (n <= hi)
+    (lo..=hi).contains(&n)
 }
 
+// Two comparisons, of each float of a step: a range's `contains` goes by the floats' partial order, which has four outcomes.
 fn between_floats(lo: f32, hi: f32, x: f32) -> bool
     ensures { result ≡ between lo hi x }
 {
@@ -28,6 +63,7 @@ fn between_floats(lo: f32, hi: f32, x: f32) -> bool
 }
 
 // Refusal 3: the settings lie in the domain.
+#[tactic(auto, unfolding(crate::specs::Domain::settings_ok))]
 pub fn settings_ok(p: Settings) -> bool
     ensures { result ≡ settings_ok p }
 {
@@ -45,6 +81,7 @@ pub fn settings_ok(p: Settings) -> bool
 }
 
 // The settings of a lane that never had any.
+#[tactic(auto, unfolding(crate::specs::Domain::unset_ok))]
 pub fn unset_ok(p: Settings) -> bool
     ensures { result ≡ unset_ok p }
 {
@@ -118,8 +155,7 @@ fn run_ok(r: Run) -> bool
 fn env_ok(v: Env) -> bool
     ensures { result ≡ env_ok v }
 {
-    let r = v.run;
-    run_ok(r) & (v.ref_pending <= 1)
+    run_ok(v.run) & (v.ref_pending <= 1)
 }
 
 // a + b <= max, whatever the three are.
@@ -142,15 +178,13 @@ fn train_ok(max: u32, t: Train) -> bool
 fn pres_ok(q: Pres) -> bool
     ensures { result ≡ pres_ok q }
 {
-    let r = q.run;
-    run_ok(r)
+    run_ok(q.run)
 }
 
 fn runs_ok(r: Runs) -> bool
     ensures { result ≡ runs_ok r }
 {
-    let q = r.run;
-    run_ok(q) & (r.fsk_has_prev <= 1)
+    run_ok(r.run) & (r.fsk_has_prev <= 1)
 }
 
 fn committed_ok(max: u32, c: Committed) -> bool
@@ -162,16 +196,15 @@ fn committed_ok(max: u32, c: Committed) -> bool
         & (c.fsk_runs <= domain::MAX_COUNT)
 }
 
+#[tactic(auto, unfolding(crate::specs::State::frame_ok))]
 fn frame_ok(max: u32, f: Frame) -> bool
     ensures { result ≡ frame_ok max f }
 {
-    let runs = f.runs;
-    let done = f.done;
     (f.fsk_phase <= 1)
         & (f.mean.fsk_cnt <= domain::MAX_COUNT)
         & (f.early.early <= 1)
-        & runs_ok(runs)
-        & committed_ok(max, done)
+        & runs_ok(f.runs)
+        & committed_ok(max, f.done)
 }
 
 // Refusal 4's bound of a serial, the lane's and its records'.
@@ -187,46 +220,41 @@ fn out_ok(o: Out) -> bool
     (o.state <= 1) & (o.cut <= 1) & (o.fsk <= 1) & serial_ok(o.serial)
 }
 
+#[tactic(auto, unfolding(crate::specs::State::burst_ok))]
 pub fn burst_ok(max: u32, b: Burst) -> bool
     ensures { result ≡ burst_ok max b }
 {
-    let env = b.env;
-    let train = b.train;
-    let out_ook = b.out_ook;
-    let pres = b.pres;
-    let frame = b.frame;
-    let out_fsk = b.out_fsk;
-    env_ok(env)
-        & train_ok(max, train)
-        & out_ok(out_ook)
-        & pres_ok(pres)
-        & frame_ok(max, frame)
-        & out_ok(out_fsk)
+    env_ok(b.env)
+        & train_ok(max, b.train)
+        & out_ok(b.out_ook)
+        & pres_ok(b.pres)
+        & frame_ok(max, b.frame)
+        & out_ok(b.out_fsk)
 }
 
+#[tactic(auto, unfolding(crate::specs::State::lead_ok))]
 pub fn lead_ok(phase: u32, min_steps: u32, l: Lead) -> bool
     ensures { result ≡ lead_ok phase min_steps l }
 {
     (l.lead_at <= domain::MAX_INDEX) & ((phase != 1) | (l.lead_n < arith::lead_len(min_steps)))
 }
 
+#[tactic(auto, unfolding(crate::specs::State::cand_ok))]
 pub fn cand_ok(phase: u32, min_steps: u32, f: Frame) -> bool
     ensures { result ≡ cand_ok phase min_steps f }
 {
     (phase != 2) | (f.fsk_phase != 0) | (f.cand.fsk_cand < shared::fsk_min(min_steps))
 }
 
-// k where a check fails, and else what the later checks give.
-pub fn check(k: u32, ok: bool, rest: u32) -> u32
-    ensures { result ≡ check k ok rest }
+// A check that fails refuses by k.
+pub fn check(ok: bool, k: Refusal) -> Result<(), Refusal>
+    ensures { result ≡ check k ok (Ok tt) }
 {
-    if ok {
-        return rest;
-    }
-    k
+    if ok { Ok(()) } else { Err(k) }
 }
 
-// The number of the first check that fails, 0 where none does.
+// The first check that fails refuses.
+#[tactic(auto, unfolding(crate::specs::Order::first_failed))]
 pub fn first_failed(
     settings: bool,
     lane: bool,
@@ -235,10 +263,14 @@ pub fn first_failed(
     index: bool,
     floats: bool,
     room: bool,
-) -> u32
+) -> Result<(), Refusal>
     ensures { result ≡ first_failed settings lane phase serial index floats room }
 {
-    let values = check(7, floats, check(8, room, 0));
-    let numbers = check(13, serial, check(6, index, values));
-    check(3, settings, check(4, lane, check(5, phase, numbers)))
+    check(settings, Refusal::Settings)?;
+    check(lane, Refusal::Lane)?;
+    check(phase, Refusal::Phase)?;
+    check(serial, Refusal::Serial)?;
+    check(index, Refusal::Index)?;
+    check(floats, Refusal::Float)?;
+    check(room, Refusal::Room)
 }

@@ -2,7 +2,9 @@
 use mathlib.Core.Path.{◌≡◌, refl, sym, ap, ◌∙◌, subst}
 use mathlib.Core.Logic.{⊎_elim}
 use mathlib.Core.Bool.{Bool, true, false, ◌&&◌, ◌||◌, beq, cond}
-use mathlib.Core.Option.{Option, none, some, IsSome, get_or}
+use Rattle.std.specs.Prelude.{Option, None, Some, IsSome, is_some}
+use Rattle.std.proofs.Common.{true≢false}
+use Rattle.std.specs.Option.{unwrap_or}
 use Prim.Native.Nat.{ℕ, zero, suc, ◌+◌, ◌-◌, ◌*◌, ◌/◌, ◌%◌, ◌^◌, ◌≤◌, ◌<◌}
 use native.Mathlib.Nat.{mul-pos, zero-mul, zero-lt-suc, eq-or-lt_of_le}
 use native.Mathlib.Omega.{arith}
@@ -14,9 +16,8 @@ use lib.Ieee.Bits.{is_true}
 use lib.Ieee.Exact.{HasValue}
 use lib.Ieee.Fits.{up_pos, and_l}
 use lib.Ieee.Positive.{positive}
-use Rattle.root.specs.declared.Answer.{Answer}
 use Rattle.ieee.specs.Constants.{zero32}
-use Rattle.root.specs.Root.{special_of, answered, exact_of, scaled, round_exact_of, sqrt_of}
+use Rattle.root.specs.Root.{special_of, exact_of, scaled, round_exact_of, sqrt_of}
 use Rattle.root.specs.RootSteps.{IsSpecial, a_zero, plus_infinity, no_number, negative, SpecialStep}
 use Rattle.root.specs.RootNearest.{SpecialRoots}
 use Rattle.ieee.proofs.Fields.{of_bits_fields, value_zero, value_finite}
@@ -29,7 +30,7 @@ eq_zero : (s : Bool) (m : ℕ) (e : ℤ) → T (eq (fin s m e) zero32) → m * u
 unfolding eq of_bits
 eq_zero s m e t = eqb→eq (m * up e * 1) (0 * down e) (and_l (eqb (m * up e * 1) (0 * down e)) (beq s false || eqb (m * up e * 1) 0) t)
 
-pub zero_answer : (x : Float) → T (eq x zero32) → special_of x ≡ some x
+pub zero_answer : (x : Float) → T (eq x zero32) → special_of x ≡ Some x
 unfolding special_of
 zero_answer nan t = absurd (unfold eq in t)
 zero_answer (inf s) t = absurd (unfold eq of_bits in t)
@@ -67,7 +68,7 @@ nan_is (fin s m e) t = absurd t
 
 -- ---- negatives
 
-pub negative_answer : (x : Float) → T (lt x zero32) → special_of x ≡ some nan
+pub negative_answer : (x : Float) → T (lt x zero32) → special_of x ≡ Some nan
 unfolding special_of
 negative_answer nan t = refl
 negative_answer (inf true) t = refl
@@ -85,10 +86,10 @@ negative_told m e = subst T (sym (lt_neg (suc m) e)) (lt→ltb 0 (suc m * up e) 
 -- ---- the first step
 
 every : (x : Float) → IsSpecial x → IsSome (special_of x)
-every x (a_zero t) = subst IsSome (sym (zero_answer x t)) tt
-every x (plus_infinity t) = subst (λ (y : Float). IsSome (special_of y)) (sym (infinity_is x t)) (unfold special_of in tt)
-every x (no_number t) = subst (λ (y : Float). IsSome (special_of y)) (sym (nan_is x t)) (unfold special_of in tt)
-every x (negative t) = subst IsSome (sym (negative_answer x t)) tt
+every x (a_zero t) = ap is_some (zero_answer x t)
+every x (plus_infinity t) = ap (λ (y : Float). is_some (special_of y)) (infinity_is x t) ∙ (unfold special_of in refl)
+every x (no_number t) = ap (λ (y : Float). is_some (special_of y)) (nan_is x t) ∙ (unfold special_of in refl)
+every x (negative t) = ap is_some (negative_answer x t)
 
 no_other : (x : Float) → IsSome (special_of x) → IsSpecial x
 unfolding special_of
@@ -97,15 +98,15 @@ no_other (inf true) t = negative (unfold lt of_bits in tt)
 no_other (inf false) t = plus_infinity (unfold eq in tt)
 no_other (fin s zero e) t = a_zero (subst T (sym (zero_told s e)) tt)
 no_other (fin true (suc m) e) t = negative (negative_told m e)
-no_other (fin false (suc m) e) t = absurd t
+no_other (fin false (suc m) e) t = absurd (true≢false (sym t))
 
-left : (x : Float) → special_of x ≡ none → T (positive x)
+left : (x : Float) → special_of x ≡ None → T (positive x)
 unfolding special_of
-left nan h = absurd (subst IsSome h tt)
-left (inf true) h = absurd (subst IsSome h tt)
-left (inf false) h = absurd (subst IsSome h tt)
-left (fin s zero e) h = absurd (subst IsSome h tt)
-left (fin true (suc m) e) h = absurd (subst IsSome h tt)
+left nan h = absurd (true≢false (ap is_some h))
+left (inf true) h = absurd (true≢false (ap is_some h))
+left (inf false) h = absurd (true≢false (ap is_some h))
+left (fin s zero e) h = absurd (true≢false (ap is_some h))
+left (fin true (suc m) e) h = absurd (true≢false (ap is_some h))
 left (fin false (suc m) e) h = lt→ltb 0 (suc m) (zero-lt-suc m)
 
 pub special_step : SpecialStep special_of
@@ -120,15 +121,15 @@ special_step = record {
 }
 
 -- what is none of these is left
-pub none_of_these : (x : Float) → (IsSpecial x → ⊥) → special_of x ≡ none
+pub none_of_these : (x : Float) → (IsSpecial x → ⊥) → special_of x ≡ None
 none_of_these x n = go (special_of x) refl
   where
-    go : (o : Option Float) → special_of x ≡ o → special_of x ≡ none
-    go none h = h
-    go (some r) h = absurd (n (no_other x (subst IsSome (sym h) tt)))
+    go : (o : Option Float) → special_of x ≡ o → special_of x ≡ None
+    go None h = h
+    go (Some r) h = absurd (n (no_other x (ap is_some h)))
 
 -- and so is every finite number above zero
-pub positive_left : (x : Float) → T (positive x) → special_of x ≡ none
+pub positive_left : (x : Float) → T (positive x) → special_of x ≡ None
 unfolding special_of
 positive_left nan t = absurd t
 positive_left (inf s) t = absurd t
@@ -138,13 +139,13 @@ positive_left (fin false (suc m) e) t = refl
 
 -- ---- the steps in a row
 
-pub root_answered : (x r : Float) → special_of x ≡ some r → sqrt_of x ≡ r
+pub root_answered : (x r : Float) → special_of x ≡ Some r → sqrt_of x ≡ r
 unfolding sqrt_of
-root_answered x r h = ap (λ (o : Option Float). get_or o (round_exact_of (exact_of (scaled x)))) h
+root_answered x r h = ap (λ (o : Option Float). unwrap_or o (round_exact_of (exact_of (scaled x)))) h
 
-pub root_left : (x : Float) → special_of x ≡ none → sqrt_of x ≡ round_exact_of (exact_of (scaled x))
+pub root_left : (x : Float) → special_of x ≡ None → sqrt_of x ≡ round_exact_of (exact_of (scaled x))
 unfolding sqrt_of
-root_left x h = ap (λ (o : Option Float). get_or o (round_exact_of (exact_of (scaled x)))) h
+root_left x h = ap (λ (o : Option Float). unwrap_or o (round_exact_of (exact_of (scaled x)))) h
 
 pub special_roots : SpecialRoots sqrt_of
 special_roots = record {
@@ -154,35 +155,28 @@ special_roots = record {
   negative = λ x t. root_answered x nan (special_step.negative x t);
 }
 
--- an answer of the code
-pub given_root : (a : Answer) (x : Float) → answered a ≡ special_of x → a.given ≡ true → a.root ≡ sqrt_of x
-given_root a x h g = sym (root_answered x a.root (sym h ∙ ap (λ (b : Bool). cond b (some a.root) none) g))
-
-pub none_given : (a : Answer) (x : Float) → answered a ≡ special_of x → a.given ≡ false → special_of x ≡ none
-none_given a x h g = sym h ∙ ap (λ (b : Bool). cond b (some a.root) none) g
-
 -- ---- by the pattern: those above -0's
 
-below_zero : (t : Bool) (m : ℕ) (e : ℤ) (u : ℕ) → 0 < u → t ≡ true → m * up e * 2 ^ 149 ≡ u * down e → special_of (fin t m e) ≡ some nan
+below_zero : (t : Bool) (m : ℕ) (e : ℤ) (u : ℕ) → 0 < u → t ≡ true → m * up e * 2 ^ 149 ≡ u * down e → special_of (fin t m e) ≡ Some nan
 unfolding special_of
 below_zero t zero e u p f h = absurd (nothing_left e u p h)
 below_zero t (suc m) e u p f h = ap (λ (s : Bool). special_of (fin s (suc m) e)) f
 
-negative_value : (x : Float) (u : ℕ) → 0 < u → HasValue x true u (2 ^ 149) → special_of x ≡ some nan
+negative_value : (x : Float) (u : ℕ) → 0 < u → HasValue x true u (2 ^ 149) → special_of x ≡ Some nan
 negative_value nan u p h = absurd h
 negative_value (inf t) u p h = absurd h
 negative_value (fin t m e) u p h = below_zero t m e u p h.0 h.1
 
 -- by the fields: a subnormal, a number, an infinity or a NaN
-at_top : (t : ℕ) → special_of (of_fields binary32 true 255 t) ≡ some nan
+at_top : (t : ℕ) → special_of (of_fields binary32 true 255 t) ≡ Some nan
 unfolding of_fields
 at_top t = go (eqb t 0)
   where
-    go : (b : Bool) → special_of (cond b (inf true) nan) ≡ some nan
+    go : (b : Bool) → special_of (cond b (inf true) nan) ≡ Some nan
     go true = unfold special_of in refl
     go false = unfold special_of in refl
 
-negative_fields : (f t : ℕ) → f ≤ 255 → (f ≡ 0 → 0 < t) → special_of (of_fields binary32 true f t) ≡ some nan
+negative_fields : (f t : ℕ) → f ≤ 255 → (f ≡ 0 → 0 < t) → special_of (of_fields binary32 true f t) ≡ Some nan
 negative_fields zero t h p = negative_value (of_fields binary32 true 0 t) t (p refl) (value_zero binary32 true t)
 negative_fields (suc f) t h p =
     ⊎_elim (λ (e : suc f ≡ 255). ap (λ (x : ℕ). special_of (of_fields binary32 true x t)) e ∙ at_top t)

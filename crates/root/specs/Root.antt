@@ -1,9 +1,8 @@
 -- The square root of an f32, after IEEE 754-2019, 5.4.1 (squareRoot) with 4.3.1 (roundTiesToEven), in whole numbers that antt computes. Definitions only.
 -- The steps are the standard's, in its order: special operands, then the exact result, then the rounding. What each has to do by itself is said in RootSteps.antt.
 use Prim.Native.Nat.{ℕ, zero, suc, ◌+◌, ◌*◌, ◌/◌, ◌%◌, ◌^◌, ◌≤◌, ◌<◌, Ordering}
-use Rattle.std.specs.Prelude.{Bool, true, false, cond, leb, ltb, Float}
-use Rattle.std.proofs.Math.Option.{Option, none, some, get_or}
-use Rattle.root.specs.declared.Answer.{Answer}
+use Rattle.std.specs.Prelude.{Bool, true, false, cond, leb, ltb, Float, Option, None, Some}
+use Rattle.std.specs.Option.{unwrap_or}
 use Rattle.root.specs.declared.Exact.{Exact}
 use Rattle.std.specs.Float.{nan, inf, fin, binary32}
 use Rattle.std.specs.Float.Ieee.{up, down, size, nearest, units}
@@ -13,16 +12,12 @@ use Rattle.std.specs.Float.Ieee.{up, down, size, nearest, units}
 -- What is answered with no root taken: a NaN by a NaN (6.2), a zero by itself, with its sign (6.3), plus infinity by itself (6.1), and what is below zero, for which the operation is invalid, by a NaN (7.2).
 -- Nothing is answered for a finite number above zero.
 unfoldable pub special_of : Float → Option Float
-special_of nan = some nan
-special_of (fin s zero e) = some (fin s zero e)
-special_of (inf false) = some (inf false)
-special_of (inf true) = some nan
-special_of (fin true (suc m) e) = some nan
-special_of (fin false (suc m) e) = none
-
--- the code's answer as one of these
-abbrev pub answered : Answer → Option Float
-answered a = cond a.given (some a.root) none
+special_of nan = Some nan
+special_of (fin s zero e) = Some (fin s zero e)
+special_of (inf false) = Some (inf false)
+special_of (inf true) = Some nan
+special_of (fin true (suc m) e) = Some nan
+special_of (fin false (suc m) e) = None
 
 -- ---- the exact result
 
@@ -81,4 +76,4 @@ round_exact_of e = round_exact e.root e.more e.power
 
 unfoldable pub sqrt_of : Float → Float
 unfolding special_of exact_of round_exact
-sqrt_of x = get_or (special_of x) (round_exact_of (exact_of (scaled x)))
+sqrt_of x = unwrap_or (special_of x) (round_exact_of (exact_of (scaled x)))

@@ -1,6 +1,5 @@
 -- What each step of the square root has to do by itself, in the standard's order: special operands, the exact result, the rounding. It is said without saying how it is done. Definitions only.
-use Rattle.std.specs.Prelude.{ℕ, ◌+◌, ◌*◌, ◌/◌, ◌^◌, ◌≤◌, ◌<◌, ◌≡◌, Bool, false, T, ltb, Float}
-use Rattle.std.proofs.Math.Option.{Option, some, IsSome, none}
+use Rattle.std.specs.Prelude.{ℕ, ◌+◌, ◌*◌, ◌/◌, ◌^◌, ◌≤◌, ◌<◌, ◌≡◌, Bool, false, T, ltb, Float, Option, None, Some, IsSome}
 use Rattle.std.specs.Float.{nan, inf, binary32}
 use Rattle.std.specs.Float.Ieee.{is_nan, eq, lt, round}
 use Rattle.std.specs.Float.Ieee.Exact.{HasValue}
@@ -20,13 +19,13 @@ pub data IsSpecial (x : Float) : Type 0 where
 
 -- The first step answers these and no others. A zero (6.3) and plus infinity (6.1) are their own roots; a NaN (6.2) and what is below zero (7.2) have a NaN. What is left for the second step is finite and above zero.
 pub record SpecialStep (answer : Float → Option Float) : Type 0 where
-  pub a_zero : (x : Float) → T (eq x zero32) → answer x ≡ some x
-  pub plus_infinity : answer (inf false) ≡ some (inf false)
-  pub no_number : answer nan ≡ some nan
-  pub negative : (x : Float) → T (lt x zero32) → answer x ≡ some nan
+  pub a_zero : (x : Float) → T (eq x zero32) → answer x ≡ Some x
+  pub plus_infinity : answer (inf false) ≡ Some (inf false)
+  pub no_number : answer nan ≡ Some nan
+  pub negative : (x : Float) → T (lt x zero32) → answer x ≡ Some nan
   pub every : (x : Float) → IsSpecial x → IsSome (answer x)
   pub no_other : (x : Float) → IsSome (answer x) → IsSpecial x
-  pub left : (x : Float) → answer x ≡ none → T (positive x)
+  pub left : (x : Float) → answer x ≡ None → T (positive x)
 
 -- ---- the exact result
 

@@ -3,44 +3,27 @@
 
 ghost use Rattle.std.specs.Prelude.{◌≡◌, ◌+◌, ◌-◌, ◌*◌, ◌^◌, ◌<◌, ◌≤◌, T};
 ghost use Rattle.std.specs.Float.Ieee.Positive.{positive};
-ghost use Rattle.root.specs.Root.{special_of, answered, scaled, InRange, IsRoot, exact_of, round_exact, sqrt_of};
+ghost use Rattle.root.specs.Root.{special_of, scaled, InRange, IsRoot, exact_of, round_exact_of, sqrt_of};
 
-// What is answered with no root taken, if anything is.
-#[derive(Clone, Copy)]
-pub struct Answer {
-    pub given: bool,
-    pub root: f32,
-}
-
-// The first step. A NaN (IEEE 754-2019, 6.2), a zero with its sign (6.3) and plus infinity (6.1) are their
-// own roots, and for what is below zero the operation is invalid: a NaN (7.2).
-fn special(x: f32) -> Answer
-    ensures { answered result ≡ special_of x }
+// The first step: what is answered with no root taken, if anything is. A NaN (IEEE 754-2019, 6.2), a zero with its sign (6.3) and plus
+// infinity (6.1) are their own roots, and for what is below zero the operation is invalid: a NaN (7.2). With these tests joined by `||` a root takes
+// a tenth more instructions.
+fn special(x: f32) -> Option<f32>
+    ensures { result ≡ special_of x }
 {
-    let own = Answer {
-        given: true,
-        root: x,
-    };
-    if x != x {
-        return own;
+    if x.is_nan() {
+        return Some(x);
     }
     if x == 0.0 {
-        return own;
+        return Some(x);
     }
-    if x == f32::from_bits(0x7f80_0000) {
-        return own;
+    if x == f32::INFINITY {
+        return Some(x);
     }
     if x < 0.0 {
-        let zero = 0.0f32;
-        return Answer {
-            given: true,
-            root: zero / zero,
-        };
+        return Some(f32::NAN);
     }
-    Answer {
-        given: false,
-        root: x,
-    }
+    None
 }
 
 // The exact root of a positive number: its 25 digits, whether it has more, and the power.
@@ -68,7 +51,7 @@ fn exact_of(a: u32, k: u32) -> Exact
     requires { (0 < a) × (a < 2 ^ 24) × (k < 255) }
     ensures { result ≡ exact_of (a * 2 ^ k) }
 {
-    let s = 32 - u32::leading_zeros(a);
+    let s = 32 - a.leading_zeros();
     let p = (s + k + 1) / 2;
     let n = (a as u64) << (50 + k - (p + p));
     let r = whole_root(n);
@@ -84,7 +67,7 @@ fn exact_root(x: f32) -> Exact
     requires { T (positive x) }
     ensures { result ≡ exact_of (scaled x) }
 {
-    let b = f32::to_bits(x);
+    let b = x.to_bits();
     let f = b / 0x80_0000;
     let t = b % 0x80_0000;
     if f == 0 {
@@ -94,27 +77,26 @@ fn exact_root(x: f32) -> Exact
     }
 }
 
-// The third step: to the nearest f32, ties to even (4.3.1), from the root's 25 digits, whether it has
-// more, and the power alone.
-fn round_exact(root: u32, more: bool, power: u32) -> f32
-    requires { (2 ^ 24 ≤ root) × (root < 2 ^ 25) × (power ≤ 200) }
-    ensures { result ≡ round_exact root more power }
+// The third step: to the nearest f32, ties to even (4.3.1), from the exact root alone.
+fn round_exact(e: Exact) -> f32
+    requires { (2 ^ 24 ≤ e.root) × (e.root < 2 ^ 25) × (e.power ≤ 200) }
+    ensures { result ≡ round_exact_of e }
 {
-    let base = (power + 50) * 0x80_0000;
-    if more {
-        return f32::from_bits(base + (root + 1) / 2);
-    }
-    f32::from_bits(base + (root + root / 2 % 2) / 2)
+    let base = (e.power + 50) * 0x80_0000;
+    let kept = if e.more {
+        (e.root + 1) / 2
+    } else {
+        (e.root + e.root / 2 % 2) / 2
+    };
+    f32::from_bits(base + kept)
 }
 
 // The square root of x.
 pub fn sqrt(x: f32) -> f32
     ensures { result ≡ sqrt_of x }
 {
-    let s = special(x);
-    if s.given {
-        return s.root;
+    match special(x) {
+        Some(root) => root,
+        None => round_exact(exact_root(x)),
     }
-    let e = exact_root(x);
-    round_exact(e.root, e.more, e.power)
 }

@@ -2,12 +2,14 @@
 // table: for i from 256 to 1,023 the largest whole number whose square is at most 64 * i, one number to a line.
 #![tactic(auto)]
 
-ghost use Rattle.std.specs.Prelude.{◌+◌, ◌≤◌, ◌<◌, ◌≡◌, length};
+ghost use Rattle.std.specs.Prelude.{◌+◌, ◌≤◌, ◌<◌, ◌≡◌, length, is_ok};
 ghost use Rattle.table.specs.Rule.{rule_of};
-ghost use Rattle.lines.specs.Line.{Put};
+ghost use Rattle.lines.specs.Text.{RoomFor, Puts};
 ghost use Rattle.input.specs.Known.{Gave};
 ghost use Rattle.roots.specs.Text.{line, text_room, printed, Printed};
 
+use input::Failed;
+use lines::Text;
 use std::io::Write;
 use std::process::ExitCode;
 
@@ -16,19 +18,20 @@ fn rule(i: u64) -> u64
     requires { i < 1024 }
     ensures { result ≡ rule_of i }
 {
-    let mut r: u64 = 255;
-    while 64 * i < r * r {
-        r -= 1;
+    for r in (1..256).rev() {
+        if r * r <= 64 * i {
+            return r;
+        }
     }
-    r
+    0
 }
 
-fn put_line(n: u64, text: &mut [u8], at: usize) -> usize
-    requires { at + 21 ≤ length text.old }
-    ensures { Put (line n) 21 at text.old result text.new }
+fn put_line(n: u64, text: &mut Text)
+    requires { RoomFor 21 text.old }
+    ensures { Puts (line n) 21 text.old text.new }
 {
-    let a = lines::put_decimal(n, text, at);
-    lines::put_byte(10, text, a)
+    text.put_decimal(n);
+    text.put_byte(b'\n');
 }
 
 // All 768 lines, at the start of the text.
@@ -36,45 +39,32 @@ fn put_lines(text: &mut [u8]) -> usize
     requires { text_room ≤ length text.old }
     ensures { Printed result text.new }
 {
-    let mut at = 0;
-    let mut i: u64 = 256;
-    while i < 1024 {
-        at = put_line(rule(i), text, at);
-        i += 1;
+    let mut t = Text::new(text, 0);
+    for i in 256..1024 {
+        put_line(rule(i), &mut t);
     }
-    at
+    t.at
 }
 
-// Writes the lines, and answers whether it did. A write that fails is said on standard error.
-fn put<W: Write, E: Write>(to: &mut W, err: &mut E, text: &[u8]) -> bool
-    ensures { Gave (W.contents to.old) (W.contents to.new) text.now result }
-{
-    input::put(to, text, b"roots: write", err)
-}
-
-fn print<W: Write, E: Write>(to: &mut W, err: &mut E, text: &mut [u8]) -> bool
+fn print<W: Write>(to: &mut W, text: &mut [u8]) -> Result<(), Failed>
     requires { text_room ≤ length text.old }
-    ensures { Gave (W.contents to.old) (W.contents to.new) printed result }
+    ensures { Gave (W.contents to.old) (W.contents to.new) printed (is_ok result) }
 {
     let at = put_lines(text);
-    put(to, err, &text[..at])
+    input::put(to, &text[..at])
 }
 
-fn run<W: Write, E: Write>(to: &mut W, err: &mut E, text: &mut [u8; 16128]) -> bool
-    ensures { Gave (W.contents to.old) (W.contents to.new) printed result }
+fn run<W: Write>(to: &mut W, text: &mut [u8; 16128]) -> Result<(), Failed>
+    ensures { Gave (W.contents to.old) (W.contents to.new) printed (is_ok result) }
 {
-    print(to, err, text)
+    print(to, text)
 }
 
 // A run that fails ends with a status that is not zero.
 fn main(rt: HostRuntime) -> ExitCode {
     let mut text = [0u8; 16128];
     let mut to = rt.stdout();
+    let done = run(&mut to, &mut text);
     let mut err = rt.stderr();
-    let whole = run(&mut to, &mut err, &mut text);
-    if whole {
-        ExitCode::SUCCESS
-    } else {
-        ExitCode::FAILURE
-    }
+    input::status("roots", done, &mut err)
 }

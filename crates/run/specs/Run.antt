@@ -1,5 +1,6 @@
 -- The run machine (source document 000): what `sample`, `presence` and `fsk_run_step` do to a run with each sample, once for all three.
 use Rattle.std.specs.Prelude.{ℕ, Bool, false, cond, not, leb, eqb, Float}
+use Rattle.std.specs.Float.Ieee.{lt, le}
 use Rattle.arith.specs.Leaves.{edge_of, cross_of}
 use Rattle.shared.specs.Counts.{sat_add_of}
 use Rattle.run.specs.declared.Run.{Run}
@@ -8,6 +9,10 @@ use Rattle.run.specs.declared.Crossing.{Crossing}
 -- edge(idx, cross(..)): where a run that begins with this sample has its edge
 unfoldable pub edge_at : Crossing → Float
 edge_at c = edge_of c.idx (cross_of c.before c.at c.thr)
+
+-- the level: `x >= thr` while high, else `x > thr`
+unfoldable pub is_high_of : Bool → Float → Float → Bool
+is_high_of up x thr = cond up (le thr x) (lt thr x)
 
 -- the makers: a run from its fields, and with one of its fields changed
 abbrev pub run_of : ℕ → ℕ → ℕ → ℕ → Float → Float → Run

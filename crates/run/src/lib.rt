@@ -3,9 +3,9 @@
 #![tactic(auto)]
 
 ghost use Rattle.std.specs.Prelude.{◌≡◌};
-ghost use Rattle.run.specs.Run.{edge_at, begins_of, lengthen_of, rejoin_of, begin_run_of, due_of, start_run_of};
+ghost use Rattle.run.specs.Run.{edge_at, is_high_of, begins_of, lengthen_of, rejoin_of, begin_run_of, due_of, start_run_of};
 
-// A run under way, with what a glitch needs to go back to the run before. The Rust has these six for each of the three, as
+// A run under way (flags are numbers, as in shared::Settings), with what a glitch needs to go back to the run before. The Rust has these six for each of the three, as
 // level, run_len, confirmed, prev_len, t_run, t_prev (envelope), p_level, p_run, p_confirmed, p_prev, p_t_run, p_t_prev (presence) and
 // fsk_level, fsk_run, fsk_confirmed, fsk_prev, ft_run, ft_prev (frequency).
 #[derive(Clone, Copy)]
@@ -32,81 +32,94 @@ pub struct Crossing {
     pub thr: f32,
 }
 
-pub fn edge_at(c: Crossing) -> f64
-    ensures { result ≡ edge_at c }
-{
-    arith::edge(c.idx, arith::cross(c.before, c.at, c.thr))
+impl Crossing {
+    #[tactic(auto, unfolding(crate::specs::Run::edge_at))]
+    pub fn edge_at(self) -> f64
+        ensures { result ≡ edge_at self }
+    {
+        arith::edge(self.idx, arith::cross(self.before, self.at, self.thr))
+    }
 }
 
 // A sample is of the run's level (same), or it ends a run that is too short to count (short), or a run begins with it. Whoever moves
-// a run decides this once for a sample and hands the two flags on to all that moves with it.
+// a run decides this once for a sample and hands the two flags on to all that moves with it; as an enum they take 4 to 6 % more
+// instructions (docs/SPEED.md).
+#[tactic(auto, unfolding(crate::specs::Run::begins_of))]
 pub fn begins(same: bool, short: bool) -> bool
     ensures { result ≡ begins_of same short }
 {
-    if same {
-        return false;
+    !same && !short
+}
+
+// The level of a sample: high above the threshold, and at it too where the run is high (up), so that noise there makes no runs.
+#[tactic(auto, unfolding(crate::specs::Run::is_high_of))]
+pub fn is_high(up: bool, x: f32, thr: f32) -> bool
+    ensures { result ≡ is_high_of up x thr }
+{
+    if up { x >= thr } else { x > thr }
+}
+
+impl Run {
+    // One sample more.
+    #[tactic(auto, unfolding(crate::specs::Run::lengthen_of, shared::specs::Counts::sat_add_of))]
+    pub fn lengthen(self) -> Run
+        ensures { result ≡ lengthen_of self }
+    {
+        Run {
+            run_len: self.run_len.saturating_add(1),
+            ..self
+        }
     }
-    !short
-}
 
-// One sample more.
-pub fn lengthen(r: Run) -> Run
-    ensures { result ≡ lengthen_of r }
-{
-    let n = shared::sat_add(r.run_len, 1);
-    let mut q = r;
-    q.run_len = n;
-    q
-}
-
-// A glitch: the run before goes on, as if it had never ended.
-pub fn rejoin(r: Run, level: u32) -> Run
-    ensures { result ≡ rejoin_of r level }
-{
-    let n = shared::sat_add(shared::sat_add(r.prev_len, r.run_len), 1);
-    let mut q = r;
-    q.level = level;
-    q.run_len = n;
-    q.confirmed = 1;
-    q.t_run = r.t_prev;
-    q
-}
-
-// This sample is the first of a run, whose edge is at tc.
-pub fn begin_run(r: Run, level: u32, tc: f64) -> Run
-    ensures { result ≡ begin_run_of r level tc }
-{
-    Run {
-        level,
-        run_len: 1,
-        confirmed: 0,
-        prev_len: r.run_len,
-        t_run: tc,
-        t_prev: r.t_run,
+    // A glitch: the run before goes on, as if it had never ended.
+    #[tactic(auto, unfolding(crate::specs::Run::rejoin_of, shared::specs::Counts::sat_add_of))]
+    pub fn rejoin(self, level: u32) -> Run
+        ensures { result ≡ rejoin_of self level }
+    {
+        Run {
+            level,
+            run_len: self.prev_len.saturating_add(self.run_len).saturating_add(1),
+            confirmed: 1,
+            t_run: self.t_prev,
+            ..self
+        }
     }
-}
 
-// Whether the run counts from this sample on.
-pub fn due(r: Run, steps: u32) -> bool
-    ensures { result ≡ due_of r steps }
-{
-    let open = r.confirmed == 0;
-    if open {
-        return r.run_len >= steps;
+    // This sample is the first of a run, whose edge is at tc.
+    #[tactic(auto, unfolding(crate::specs::Run::begin_run_of))]
+    pub fn begin_run(self, level: u32, tc: f64) -> Run
+        ensures { result ≡ begin_run_of self level tc }
+    {
+        Run {
+            level,
+            run_len: 1,
+            confirmed: 0,
+            prev_len: self.run_len,
+            t_run: tc,
+            t_prev: self.t_run,
+        }
     }
-    false
-}
 
-// Low and without a sample, at the time t: it counts, so that the first high sample begins a run.
-pub fn start_run(t: f64) -> Run
-    ensures { result ≡ start_run_of t }
-{
-    Run {
-        level: 0,
-        run_len: 0,
-        confirmed: 1,
-        prev_len: 0,
-        t_run: t,
-        t_prev: t,
+    // Whether the run counts from this sample on.
+    #[tactic(auto, unfolding(crate::specs::Run::due_of))]
+    pub fn due(self, steps: u32) -> bool
+        ensures { result ≡ due_of self steps }
+    {
+        self.confirmed == 0 && self.run_len >= steps
+    }
+
+    // Low and without a sample, at the time t: it counts, so that the first high sample begins a run.
+    #[tactic(auto, unfolding(crate::specs::Run::start_run_of))]
+    pub fn start_run(t: f64) -> Run
+        ensures { result ≡ start_run_of t }
+    {
+        Run {
+            level: 0,
+            run_len: 0,
+            confirmed: 1,
+            prev_len: 0,
+            t_run: t,
+            t_prev: t,
+        }
     }
 }

@@ -7,9 +7,10 @@ use native.Mathlib.Omega.{arith}
 use lib.ListN.{length, drop}
 use lib.Dec.{eqb, ltb}
 use borrow.Author.Tests.{eqb-true, lt-ltb}
+use Rattle.shared.specs.Counts.{zero_c32}
 use Rattle.shared.proofs.Tests.{both_true}
 use Rattle.lane.specs.declared.Lane.{Lane}
-use Rattle.lane.specs.declared.Reply.{Reply}
+use Rattle.lane.specs.Answers.{Reply}
 use Rattle.lane.specs.declared.StepArgs.{StepArgs}
 use Rattle.lane.specs.Answers.{answer_of}
 use Rattle.lane.specs.Step.{new_lane}
@@ -17,7 +18,6 @@ use Rattle.reached.specs.Reached.{Sound}
 use Rattle.commands.specs.declared.Command.TheVariants.{Step}
 use Rattle.commands.specs.Command.{is_step_of}
 use Rattle.calls.specs.Turn.{State}
-use Rattle.calls.specs.Steps.{no_args}
 use Rattle.calls.proofs.Silent.{Quiet, Kept, steps_sound, steps_kept, steps_onward, core_step, steps_more}
 use Rattle.addressed.specs.Addressed.{addressed_of, antenna_of}
 use Rattle.among.specs.Among.{antennas}
@@ -31,6 +31,9 @@ StepsFor i p s from used r q = (a : Asked) → a.antenna ≡ i → is_step_of a.
 
 abbrev pub HeardFor : ℕ → State → List ℕ → ℕ → ℕ → Reply → State → Type 0
 HeardFor i p s from used r q = (a : Asked) → a.antenna ≡ i → is_step_of a.command ≡ true → Heard a p s from (past_of q.0 used r) q
+
+abbrev no_args : StepArgs
+no_args = record { index = 0; noise = zero_c32.re; envelope = zero_c32.re; x = zero_c32 }
 
 abbrev someone : ℕ → Asked
 someone i = record { lane = new_lane; others = 0; antenna = i; command = Step no_args }

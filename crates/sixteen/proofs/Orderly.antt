@@ -8,8 +8,10 @@ use native.Mathlib.Omega.{arith}
 use lib.ListN.{length, drop}
 use lib.Dec.{eqb, ltb}
 use borrow.Author.Tests.{eqb-true, eqb-false}
-use Rattle.lane.specs.declared.Reply.{Reply}
-use Rattle.lane.specs.declared.Reply.TheVariants as reply
+use Rattle.std.specs.Prelude.{Ok, Err}
+use Rattle.shared.specs.declared.Next.TheVariants.{Stay}
+use Rattle.refusals.specs.declared.Refusal.TheVariants as refusal
+use Rattle.lane.specs.Answers.{Reply}
 use Rattle.commands.specs.declared.Command.{Command}
 use Rattle.commands.specs.declared.Command.TheVariants.{End, Open, Begin, Step, Unknown, Short, Close}
 use Rattle.commands.specs.Command.{size_of}
@@ -31,13 +33,13 @@ stays_put all i r false = refl
 
 pub no_call : (all : Lanes) (i : ℕ) (k : Command) → size_of k ≡ 0 → after_call all i k ≡ all
 unfolding after_call answer_to called_among called
-no_call all i End h = stays_put all i reply.Stay (ltb i antennas)
+no_call all i End h = stays_put all i (Ok Stay) (ltb i antennas)
 no_call all i (Open s true) h = absurd (omega (arith, h))
 no_call all i (Open s false) h = absurd (omega (arith, h))
 no_call all i (Begin b) h = absurd (omega (arith, h))
 no_call all i (Step s) h = absurd (omega (arith, h))
-no_call all i Unknown h = stays_put all i (reply.Refused 1) (ltb i antennas)
-no_call all i Short h = stays_put all i (reply.Refused 2) (ltb i antennas)
+no_call all i Unknown h = stays_put all i (Err refusal.Unknown) (ltb i antennas)
+no_call all i Short h = stays_put all i (Err refusal.Short) (ltb i antennas)
 no_call all i Close h = absurd (omega (arith, h))
 
 none_heard : (k : Command) → size_of k ≡ 0 → is_heard_of k ≡ false

@@ -10,10 +10,13 @@ use lib.Dec.{eqb, ltb, leb}
 use borrow.Author.Tests.{ltb-true, ltb-false, not-true}
 use Rattle.shared.proofs.Tests.{both_true, clash}
 use Rattle.lane.specs.declared.Lane.{Lane}
-use Rattle.lane.specs.declared.Reply.{Reply}
-use Rattle.lane.specs.declared.Reply.TheVariants as reply
+use Rattle.std.specs.Prelude.{Result, Ok, Err}
+use Rattle.shared.specs.declared.Next.{Next}
+use Rattle.shared.specs.declared.Next.TheVariants.{Stay, Idle, IdleAt}
+use Rattle.refusals.specs.declared.Refusal.{Refusal}
+use Rattle.refusals.specs.declared.Refusal.TheVariants as refusal
 use Rattle.lane.specs.declared.StepArgs.{StepArgs}
-use Rattle.lane.specs.Answers.{answer_of}
+use Rattle.lane.specs.Answers.{Reply, answer_of}
 use Rattle.lane.specs.Step.{refuse}
 use Rattle.reached.specs.Reached.{Sound}
 use Rattle.commands.specs.declared.Command.{Command}
@@ -22,8 +25,10 @@ use Rattle.commands.specs.Command.{is_step_of}
 use Rattle.commands.proofs.Stream.{a_step}
 use Rattle.lines.specs.Line.{call_text, record_line, train_room, has_room, put, Put}
 use Rattle.lines.proofs.Room.{room_there}
-use Rattle.lines.proofs.Laws as lines
-use Rattle.calls.specs.Turn.{State, Called, unchanged, called, next, shown_of, waits, most_of}
+use Rattle.lines.proofs.Writers as lines
+use Rattle.lines.specs.declared.Text.{Text}
+use Rattle.lines.specs.Text.{Puts}
+use Rattle.calls.specs.Turn.{State, Called, unchanged, called, next, shown_of, by_number, waits, most_of}
 use Rattle.calls.specs.Turn.{Shown}
 use Rattle.calls.proofs.Laws.{shown_most, too_few_left}
 use Rattle.calls.specs.Steps.{quiet_of}
@@ -38,8 +43,8 @@ use Rattle.among.proofs.Laws.{settled, among_sound}
 use Rattle.stream.specs.Blocks.{Seen, Passed}
 use Rattle.stream.proofs.Taken.{stored, passed_one, passed_then}
 use Rattle.sixteen.specs.declared.Asked.{Asked}
-use Rattle.sixteen.specs.declared.Past.{Past}
-use Rattle.sixteen.specs.declared.Turned.{Turned}
+use Rattle.calls.specs.declared.Past.{Past}
+use Rattle.calls.specs.declared.Turned.{Turned}
 use Rattle.sixteen.specs.Sixteen.{heard_text, is_heard_of, none_text, spoken_text, row_of, machine}
 use Rattle.sixteen.specs.Spoken.{Among, one_of, Heard, spoken_room, has_tagged_room, Told}
 use Rattle.sixteen.proofs.Rows.{put_own, put_again, among_after}
@@ -50,31 +55,31 @@ past_of l used r = record { lane = l; used = used; reply = r }
 
 -- ---- the answer to one command
 
-refused_shown : (n : ℕ) (l : Lane) (ook fsk : List ℕ) (most : ℕ) → Shown (record { reply = reply.Refused n; lane = l }, ook, fsk) most
+refused_shown : (n : Refusal) (l : Lane) (ook fsk : List ℕ) (most : ℕ) → Shown (record { reply = Err n; lane = l }, ook, fsk) most
 refused_shown n l ook fsk most = record { fsk_shown = omega arith; ook_shown = omega arith }
 
 -- a refusal prints its number, whatever the lane
-refused_text : (i n : ℕ) (p q : State) → heard_text i (unchanged (reply.Refused n) p) ≡ heard_text i (unchanged (reply.Refused n) q)
+refused_text : (i : ℕ) (n : Refusal) (p q : State) → heard_text i (unchanged (Err n) p) ≡ heard_text i (unchanged (Err n) q)
 unfolding heard_text tagged_text call_text
 refused_text i n p q = refl
 
 none_answers : (i : ℕ) (k : Command) (p q : State) → spoken_text i k (unchanged (no_antenna k) p) ≡ spoken_text i k (unchanged (no_antenna k) q)
 none_answers i End p q = refl
-none_answers i (Open s carries) p q = refused_text i 6 p q
-none_answers i (Begin b) p q = refused_text i 6 p q
-none_answers i (Step s) p q = refused_text i 6 p q
+none_answers i (Open s carries) p q = refused_text i refusal.Index p q
+none_answers i (Begin b) p q = refused_text i refusal.Index p q
+none_answers i (Step s) p q = refused_text i refusal.Index p q
 none_answers i Unknown p q = refl
 none_answers i Short p q = refl
-none_answers i Close p q = refused_text i 6 p q
+none_answers i Close p q = refused_text i refusal.Index p q
 
 none_shown : (k : Command) (p : State) (most : ℕ) → waits true k ≡ false → Shown (unchanged (no_antenna k) p) most
 none_shown End p most w = clash w
-none_shown (Open s carries) p most w = refused_shown 6 p.0 p.1 p.2 most
-none_shown (Begin b) p most w = refused_shown 6 p.0 p.1 p.2 most
-none_shown (Step s) p most w = refused_shown 6 p.0 p.1 p.2 most
-none_shown Unknown p most w = refused_shown 1 p.0 p.1 p.2 most
-none_shown Short p most w = refused_shown 2 p.0 p.1 p.2 most
-none_shown Close p most w = refused_shown 6 p.0 p.1 p.2 most
+none_shown (Open s carries) p most w = refused_shown refusal.Index p.0 p.1 p.2 most
+none_shown (Begin b) p most w = refused_shown refusal.Index p.0 p.1 p.2 most
+none_shown (Step s) p most w = refused_shown refusal.Index p.0 p.1 p.2 most
+none_shown Unknown p most w = refused_shown refusal.Unknown p.0 p.1 p.2 most
+none_shown Short p most w = refused_shown refusal.Short p.0 p.1 p.2 most
+none_shown Close p most w = refused_shown refusal.Index p.0 p.1 p.2 most
 
 among_shown : (n : ℕ) (p : State) (k : Command) → waits true k ≡ false → length (called_among n p k).1 ≡ length p.1 → length (called_among n p k).2 ≡ length p.2 → Shown (called_among n p k) (most_of p)
 unfolding settled_of
@@ -83,8 +88,8 @@ among_shown n p k w h g =
     let own : Shown (called p k) (most_of p) = shown_most p k w (ap (λ (c : Called). length c.1) (sym e) ∙ h) (ap (λ (c : Called). length c.2) (sym e) ∙ g) in
     subst (λ (c : Called). Shown c (most_of p)) (sym e) (go own (is_begin_of k && (leb places n && late_of (called p k).0.reply)))
   where
-    go : Shown (called p k) (most_of p) → (b : Bool) → Shown (cond b (refuse 12 p.0) (called p k).0, (called p k).1, (called p k).2) (most_of p)
-    go own true = refused_shown 12 p.0 (called p k).1 (called p k).2 (most_of p)
+    go : Shown (called p k) (most_of p) → (b : Bool) → Shown (cond b (refuse refusal.Places p.0) (called p k).0, (called p k).1, (called p k).2) (most_of p)
+    go own true = refused_shown refusal.Places p.0 (called p k).1 (called p k).2 (most_of p)
     go own false = own
 
 module _ (a : Asked) (p : State) where
@@ -195,14 +200,14 @@ heard_one a p s from r q size inside sound is_k is_i ready is_size is_used is_c 
 -- a step that stays and decides no record prints nothing
 silent : (i : ℕ) (r : Reply) (l : Lane) (ook fsk : List ℕ) → quiet_of r l.burst.out_fsk.state l.burst.out_ook.state ≡ true → heard_text i (answer_of r l, ook, fsk) ≡ []
 unfolding heard_text tagged_text tagged call_text record_line
-silent i (reply.Refused k) l ook fsk h = clash (sym h)
-silent i reply.Stay l ook fsk h =
+silent i (Err k) l ook fsk h = clash (sym h)
+silent i (Ok Stay) l ook fsk h =
     let f = l.burst.out_fsk in
     let o = l.burst.out_ook in
     let b = both_true (not (eqb f.state 1)) (not (eqb o.state 1)) h in
     simp (not-true (eqb f.state 1) b.0, not-true (eqb o.state 1) b.1)
-silent i reply.Idle l ook fsk h = clash (sym h)
-silent i (reply.IdleAt e) l ook fsk h = clash (sym h)
+silent i (Ok Idle) l ook fsk h = clash (sym h)
+silent i (Ok (IdleAt e)) l ook fsk h = clash (sym h)
 
 step_heard : (k : Command) → is_step_of k ≡ true → is_heard_of k ≡ true
 step_heard k h = ap is_heard_of (a_step k h).is
@@ -280,20 +285,21 @@ module _ (a : Asked) (p : State) (s : List ℕ) (from used : ℕ) (r : Reply) (q
 
 -- a call without records has its phase line or its refusal
 pub shown_heard : (i : ℕ) (r : Reply) (l : Lane) (ook fsk : List ℕ)
-    → tagged_text i r (record_line l.burst.out_fsk (shown_of r l l.burst.out_fsk ook fsk)) (record_line l.burst.out_ook (shown_of r l l.burst.out_ook ook fsk)) l.last ≡ heard_text i (answer_of r l, ook, fsk)
+    → tagged_text i (by_number r) (record_line l.burst.out_fsk (shown_of r l l.burst.out_fsk ook fsk)) (record_line l.burst.out_ook (shown_of r l l.burst.out_ook ook fsk)) l.last ≡ heard_text i (answer_of r l, ook, fsk)
 unfolding heard_text tagged_text
-shown_heard i (reply.Refused n) l ook fsk = refl
-shown_heard i reply.Stay l ook fsk = refl
-shown_heard i reply.Idle l ook fsk = refl
-shown_heard i (reply.IdleAt e) l ook fsk = refl
+shown_heard i (Err n) l ook fsk = refl
+shown_heard i (Ok Stay) l ook fsk = refl
+shown_heard i (Ok Idle) l ook fsk = refl
+shown_heard i (Ok (IdleAt e)) l ook fsk = refl
 
-pub heard_put : (i : ℕ) (r : Reply) (l : Lane) (ook fsk fs os : List ℕ) (at e : ℕ) (x y : List ℕ) → fs ≡ shown_of r l l.burst.out_fsk ook fsk → os ≡ shown_of r l l.burst.out_ook ook fsk
-    → Put (tagged_text i r (record_line l.burst.out_fsk fs) (record_line l.burst.out_ook os) l.last) (train_room (length fs) + train_room (length os) + 48 + 63) at x e y
-    → Put (heard_text i (answer_of r l, ook, fsk)) (spoken_room r l ook fsk) at x e y
-heard_put i r l ook fsk fs os at e x y is_f is_o puts =
+pub heard_put : (i : ℕ) (r : Reply) (z : Result Next ℕ) (l : Lane) (ook fsk fs os : List ℕ) (x y : Text) → z ≡ by_number r → fs ≡ shown_of r l l.burst.out_fsk ook fsk → os ≡ shown_of r l l.burst.out_ook ook fsk
+    → Puts (tagged_text i z (record_line l.burst.out_fsk fs) (record_line l.burst.out_ook os) l.last) (train_room (length fs) + train_room (length os) + 48 + 63) x y
+    → Puts (heard_text i (answer_of r l, ook, fsk)) (spoken_room r l ook fsk) x y
+heard_put i r z l ook fsk fs os x y is_z is_f is_o puts =
     lines.same (shown_heard i r l ook fsk)
-    (subst (λ (v : List ℕ). Put (tagged_text i r (record_line l.burst.out_fsk (shown_of r l l.burst.out_fsk ook fsk)) (record_line l.burst.out_ook v) l.last) (train_room (length (shown_of r l l.burst.out_fsk ook fsk)) + train_room (length v) + 48 + 63) at x e y) is_o
-    (subst (λ (v : List ℕ). Put (tagged_text i r (record_line l.burst.out_fsk v) (record_line l.burst.out_ook os) l.last) (train_room (length v) + train_room (length os) + 48 + 63) at x e y) is_f puts))
+    (subst (λ (v : List ℕ). Puts (tagged_text i (by_number r) (record_line l.burst.out_fsk (shown_of r l l.burst.out_fsk ook fsk)) (record_line l.burst.out_ook v) l.last) (train_room (length (shown_of r l l.burst.out_fsk ook fsk)) + train_room (length v) + 48 + 63) x y) is_o
+    (subst (λ (v : List ℕ). Puts (tagged_text i (by_number r) (record_line l.burst.out_fsk v) (record_line l.burst.out_ook os) l.last) (train_room (length v) + train_room (length os) + 48 + 63) x y) is_f
+    (subst (λ (v : Result Next ℕ). Puts (tagged_text i v (record_line l.burst.out_fsk fs) (record_line l.burst.out_ook os) l.last) (train_room (length fs) + train_room (length os) + 48 + 63) x y) is_z puts)))
 
 pub none_spoken : (i : ℕ) (k : Command) (c : Called) → is_heard_of k ≡ false → none_text k ≡ spoken_text i k c
 none_spoken i k c h = simp h

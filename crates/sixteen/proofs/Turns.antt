@@ -13,13 +13,15 @@ use Rattle.addressed.specs.Addressed.{addressed_of, antenna_of}
 use Rattle.tagged.specs.Tagged.{tagged_room}
 use Rattle.among.specs.Among.{Lanes, lane_at, put_at, out_of, outs, others_out, Sized}
 use Rattle.among.proofs.Laws.{any_default}
-use Rattle.stream.specs.Blocks.{Passed, Left, Streamed}
+use Rattle.stream.specs.declared.Ran.{Ran}
+use Rattle.stream.specs.Blocks.{Passed, Streamed}
 use Rattle.stream.proofs.Running.{Running, full_there, goes_on, ends_there}
 use Rattle.sixteen.specs.declared.Asked.{Asked}
-use Rattle.sixteen.specs.declared.Turned.{Turned}
+use Rattle.calls.specs.declared.Turned.{Turned}
 use Rattle.sixteen.specs.Sixteen.{row_of, machine}
-use Rattle.sixteen.specs.Spoken.{Among, Told, InRow, AllSound}
+use Rattle.sixteen.specs.Spoken.{Among, Told, InRow, has_tagged_room, AllSound}
 use Rattle.sixteen.proofs.Rows.{row_in, sized_put, sound_set}
+use Rattle.sixteen.proofs.Taken.{no_room_left}
 use Rattle.sixteen.proofs.Orderly.{orderly}
 
 -- the lane of the row, as the code has it, and the count kept beside the lanes
@@ -49,9 +51,8 @@ module _ {a : Asked} {j : ℕ} (ls : List Lane) {ook fsk : List (List ℕ)} {s :
       let n = sized_put (ls, ook, fsk) j (z.lane, row.ook_row, row.fsk_row) among.sized in
       record { lanes = n.lanes; ooks = ap length row.ook_set ∙ n.ooks; fsks = ap length row.fsk_set ∙ n.fsks }
 
-  -- there was room
-  pub moved : z.full ≡ false → length y ≡ length x → AllSound ls → Moved p₀ s last from z (set ls j z.lane, ook', fsk') y
-  moved room same sound =
+  pub moved : length y ≡ length x → AllSound ls → Moved p₀ s last from z (set ls j z.lane, ook', fsk') y
+  moved same sound =
       record {
         on = goes_on machine orderly h ready (passed) z.at y near told.puts;
         over = λ e. ends_there machine orderly h ready (passed) z.at y near told.puts e;
@@ -60,7 +61,7 @@ module _ {a : Asked} {j : ℕ} (ls : List Lane) {ook fsk : List (List ℕ)} {s :
       }
     where
       told : Told a (a.lane, get_or ook j [], get_or fsk j []) s from at x z (z.lane, row.ook_row, row.fsk_row) y
-      told = row.spoken.told room
+      told = row.told
 
       near : z.at ≤ length y
       near = omega (arith, told.near, same)
@@ -73,23 +74,11 @@ module _ {a : Asked} {j : ℕ} (ls : List Lane) {ook fsk : List (List ℕ)} {s :
       passed : Passed machine (ls, ook, fsk) s from z.used told.text (set ls j z.lane, ook', fsk')
       passed = subst (Passed machine (ls, ook, fsk) s from z.used told.text) back (told.passes (ls, ook, fsk) among)
 
-  -- there was none, and nothing is changed
-  module _ (none : z.full ≡ true) where
-    rows_same : ◌≡◌ {A = Lanes} (ls, ook, fsk) (ls, ook', fsk')
-    rows_same =
-        let e = (row.spoken.no_room none).1 in
-        let o : ook ≡ ook' = sym (row.ook_set ∙ ap (λ (q : State). set ook j q.1) e ∙ set-get_or ook j []) in
-        let f : fsk ≡ fsk' = sym (row.fsk_set ∙ ap (λ (q : State). set fsk j q.2) e ∙ set-get_or fsk j []) in
-        ap (λ (u : List (List ℕ)). (ls, u, fsk)) o ∙ ap (λ (u : List (List ℕ)). (ls, ook', u)) f
-
-    too_few : a.antenna ≡ antenna_of (drop from s) → length x < at + machine.most (ls, ook, fsk) (drop from s)
-    too_few is_i =
-        subst (λ (i : ℕ). length x < at + tagged_room (most_of (lane_at (ls, ook, fsk) (row_of i)))) is_i
-        (subst (λ (p : State). length x < at + tagged_room (most_of p)) (sym among.own) (row.spoken.no_room none).0)
-
-    pub filled : a.antenna ≡ antenna_of (drop from s) → {ended : Bool} → ended ≡ false
-        → Streamed machine p₀ s last (record { used = from; at = at; ended = ended; full = true }) (ls, ook', fsk') y × Sized (ls, ook', fsk')
-    filled is_i {ended} on =
-        let left : Left = record { used = from; at = at; ended = ended; full = true } in
-        let block : Streamed machine p₀ s last left (ls, ook, fsk) x = full_there machine h on refl ready (too_few is_i) in
-        (subst (λ (p : Lanes). Streamed machine p₀ s last left p y) rows_same (subst (Streamed machine p₀ s last left (ls, ook, fsk)) (sym (row.spoken.no_room none).2) block), subst Sized rows_same among.sized)
+-- where the text has no room nothing is changed
+pub filled : {p₀ : Lanes} {s x : List ℕ} {last : Bool} {from at i others : ℕ} {all : Lanes} {p : State} → Among all i others p → Running machine p₀ s last from at all x
+    → waits last (addressed_of (drop from s)) ≡ false → i ≡ antenna_of (drop from s) → has_tagged_room (most_of p) (length x) at ≡ false → {ended : Bool} → ended ≡ false
+    → Streamed machine p₀ s last (record { used = from; at = at; ended = ended; full = true }) all x
+filled {s = s} {x = x} {from = from} {at = at} {i = i} {all = all} {p = p} among h ready is_i none on =
+    full_there machine h on refl ready
+    (subst (λ (n : ℕ). length x < at + tagged_room (most_of (lane_at all (row_of n)))) is_i
+    (subst (λ (q : State). length x < at + tagged_room (most_of q)) (sym among.own) (no_room_left p (length x) at none)))

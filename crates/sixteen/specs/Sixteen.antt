@@ -6,7 +6,7 @@ use Rattle.lane.specs.Step.{new_lane}
 use Rattle.commands.specs.declared.Command.{Command}
 use Rattle.commands.specs.declared.Command.TheVariants.{End, Open, Begin, Step, Unknown, Short, Close}
 use Rattle.lines.specs.Line.{refused_line}
-use Rattle.calls.specs.Turn.{Called, record_text, waits, most_of}
+use Rattle.calls.specs.Turn.{Called, record_text, by_number, waits, most_of}
 use Rattle.addressed.specs.Addressed.{addressed_of, antenna_of, addressed_size}
 use Rattle.tagged.specs.Tagged.{tagged_text, tagged_room}
 use Rattle.among.specs.Among.{antennas, Lanes, lane_at, answer_to, after_call}
@@ -16,7 +16,7 @@ use Rattle.stream.specs.Machine.{Machine, printed_of}
 unfoldable pub heard_text : ℕ → Called → List ℕ
 heard_text i c =
     let l : Lane = c.0.lane in
-    tagged_text i c.0.reply (record_text l l.burst.out_fsk c.1 c.2) (record_text l l.burst.out_ook c.1 c.2) l.last
+    tagged_text i (by_number c.0.reply) (record_text l l.burst.out_fsk c.1 c.2) (record_text l l.burst.out_ook c.1 c.2) l.last
 
 -- refusals 1 and 2 have no antenna
 abbrev pub is_heard_of : Command → Bool

@@ -2,19 +2,17 @@
 -- the first that prints or is another antenna's.
 use Rattle.std.specs.Prelude.{ℕ, ◌+◌, ◌-◌, ◌<◌, ◌≤◌, Bool, true, false, cond, ◌≡◌, List, [], ◌∷◌, ◌++◌, length, take, set, get_or, ltb}
 use Rattle.lane.specs.declared.Lane.{Lane}
-use Rattle.lane.specs.Answers.{answer_of}
+use Rattle.lane.specs.Answers.{Reply, answer_of}
 use Rattle.reached.specs.Reached.{Sound}
-use Rattle.lane.specs.declared.Reply.{Reply}
 use Rattle.lines.specs.Line.{train_room, has_room}
+use Rattle.calls.specs.declared.Past.{Past}
+use Rattle.calls.specs.declared.Turned.{Turned}
 use Rattle.calls.specs.Turn.{State, Called, unchanged, shown_of, most_of}
 use Rattle.calls.specs.Turn.{Shown}
 use Rattle.tagged.specs.Tagged.{tagged_room}
 use Rattle.among.specs.Among.{antennas, called_among, Lanes, lane_at, put_at, others_out, no_antenna, Sized}
-use Rattle.stream.specs.Blocks.{Left, Passed}
+use Rattle.stream.specs.Blocks.{Passed}
 use Rattle.sixteen.specs.declared.Asked.{Asked}
-use Rattle.sixteen.specs.declared.Past.{Past}
-use Rattle.sixteen.specs.declared.Turned.{Turned}
-use Rattle.sixteen.specs.declared.Ran.{Ran}
 use Rattle.sixteen.specs.Sixteen.{spoken_text, row_of, machine}
 
 -- sixteen lanes among which antenna i is asked: this is its lane, with its buffers, and so many others are out of idle
@@ -55,10 +53,9 @@ pub record Told (a : Asked) (p : State) (s : List ℕ) (from at : ℕ) (x : List
   pub puts : take z.at y ≡ take at x ++ text
   pub passes : (all : Lanes) → Among all a.antenna a.others p → Passed machine all s from z.used text (put_at all (row_of a.antenna) q)
 
--- a turn: either that, or the text has too few bytes left and nothing is changed
-pub record Spoken (a : Asked) (p : State) (s : List ℕ) (from at : ℕ) (x : List ℕ) (z : Turned) (q : State) (y : List ℕ) : Type 0 where
-  pub told : z.full ≡ false → Told a p s from at x z q y
-  pub no_room : z.full ≡ true → (length x < at + tagged_room (most_of p)) × (q ≡ p) × (y ≡ x)
+-- a lane with its buffers in their rows
+abbrev pub in_row : Lane → ℕ → List (List ℕ) → List (List ℕ) → State
+in_row l j ook fsk = (l, get_or ook j [], get_or fsk j [])
 
 -- the same with the buffers in their rows
 pub record InRow (a : Asked) (j : ℕ) (ook fsk : List (List ℕ)) (s : List ℕ) (from at : ℕ) (x : List ℕ) (z : Turned) (ook' fsk' : List (List ℕ)) (y : List ℕ) : Type 0 where
@@ -66,10 +63,7 @@ pub record InRow (a : Asked) (j : ℕ) (ook fsk : List (List ℕ)) (s : List ℕ
   pub fsk_row : List ℕ
   pub ook_set : ook' ≡ set ook j ook_row
   pub fsk_set : fsk' ≡ set fsk j fsk_row
-  pub spoken : Spoken a (a.lane, get_or ook j [], get_or fsk j []) s from at x z (z.lane, ook_row, fsk_row) y
-
-abbrev pub left_by : Ran → Left
-left_by r = record { used = r.used; at = r.at; ended = r.ended; full = r.full }
+  pub told : Told a (in_row a.lane j ook fsk) s from at x z (z.lane, ook_row, fsk_row) y
 
 -- every lane is sound
 unfoldable pub AllSound : List Lane → Type 0

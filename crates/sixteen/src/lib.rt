@@ -5,17 +5,22 @@
 ghost use Rattle.std.specs.Prelude.{◌≡◌, true, false, ◌&&◌, ltb, ◌+◌, ◌≤◌, ◌<◌, length, drop};
 ghost use Rattle.commands.specs.Command.{is_step_of};
 ghost use Rattle.lines.specs.Line.{Put};
+ghost use Rattle.lines.specs.Text.{RoomFor, Puts};
 ghost use Rattle.reached.specs.Reached.{Sound};
-ghost use Rattle.calls.specs.Turn.{Called};
+ghost use Rattle.calls.specs.Turn.{Called, most_of};
 ghost use Rattle.lane.specs.Answers.{answer_of};
 ghost use Rattle.addressed.specs.Addressed.{addressed_of, antenna_of};
 ghost use Rattle.among.specs.Among.{antennas, Sized};
 ghost use Rattle.stream.specs.Blocks.{Streamed};
 ghost use Rattle.sixteen.specs.Sixteen.{heard_text, is_heard_of, none_text, spoken_text, row_of, machine};
-ghost use Rattle.sixteen.specs.Spoken.{one_of, Heard, spoken_room, has_tagged_room, Spoken, InRow, left_by, AllSound};
+ghost use Rattle.sixteen.specs.Spoken.{one_of, Heard, spoken_room, has_tagged_room, Told, in_row, InRow, AllSound};
 
+use calls::{Past, Turned};
 use commands::Command;
 use lane::{Answer, Lane, Reply};
+use lines::Text;
+use shared::Next;
+use stream::Ran;
 
 // A command for an antenna, with the antenna's lane and how many other lanes are out of idle.
 #[derive(Clone, Copy)]
@@ -26,29 +31,11 @@ pub struct Asked {
     pub command: Command,
 }
 
-// Where some commands lead: the place after them, and what the last of them answers.
-#[derive(Clone, Copy)]
-pub struct Past {
-    pub lane: Lane,
-    pub used: usize,
-    pub reply: Reply,
-}
-
-#[derive(Clone, Copy)]
-pub struct Turned {
-    pub lane: Lane,
-    // The place after the commands; the one before them where the stream ends.
-    pub used: usize,
-    // The place after the lines.
-    pub at: usize,
-    // Whether the text has no room for the lines of another call: nothing is changed then.
-    pub full: bool,
-}
-
 // ---- one antenna
 
 // The step at a place of the bytes and those of the same antenna that follow it, up to the first that
-// prints: core and arrays are changed in place (as `calls::steps` does).
+// prints: core and arrays are changed in place (as `calls::steps` does). One loop for both would need a
+// trait that says where a step stands and what either machine makes of it: longer than the loop.
 fn steps(q: Asked, s: &[u8], from: usize, ook: &mut [u32], fsk: &mut [u32]) -> Past
     requires { (from < length s.now) × (q.command ≡ addressed_of (drop from s.now)) × (q.antenna ≡ antenna_of (drop from s.now)) × (is_step_of q.command ≡ true) × (q.antenna < antennas) × Sound q.lane }
     ensures { Heard q (q.lane, ook.old, fsk.old) s.now from result (result.lane, ook.new, fsk.new) }
@@ -62,7 +49,7 @@ fn steps(q: Asked, s: &[u8], from: usize, ook: &mut [u32], fsk: &mut [u32]) -> P
     let mut ring = lane.ring;
     let mut cs = lane.burst.frame.cand.cand_f;
     let mut used = from;
-    let mut reply = Reply::Stay;
+    let mut reply = Ok(Next::Stay);
     while used < s.len() {
         let is = addressed::is_step_for(s, used, i);
         if !is {
@@ -127,53 +114,37 @@ fn pass(q: Asked, s: &[u8], from: usize, ook: &mut [u32], fsk: &mut [u32]) -> Pa
 }
 
 // Writes the lines of an antenna's call.
-fn put_heard<'a>(
-    i: usize,
-    r: Reply,
-    l: Lane,
-    ook: &'a [u32],
-    fsk: &'a [u32],
-    text: &mut [u8],
-    at: usize,
-) -> usize
-    requires { at + spoken_room r l ook.now fsk.now ≤ length text.old }
-    ensures { Put (heard_text i (answer_of r l, ook.now, fsk.now)) (spoken_room r l ook.now fsk.now) at text.old result text.new }
+fn put_heard<'a>(i: usize, r: Reply, l: Lane, ook: &'a [u32], fsk: &'a [u32], text: &mut Text)
+    requires { RoomFor (spoken_room r l ook.now fsk.now) text.old }
+    ensures { Puts (heard_text i (answer_of r l, ook.now, fsk.now)) (spoken_room r l ook.now fsk.now) text.old text.new }
 {
     let f = l.burst.out_fsk;
     let o = l.burst.out_ook;
     let fs = calls::shown(r, l, f, ook, fsk);
     let os = calls::shown(r, l, o, ook, fsk);
-    tagged::put_call(i, r, f, fs, o, os, l.last, text, at)
+    tagged::put_call(i, r.map_err(u32::from), f, fs, o, os, l.last, text);
 }
 
 // Whether the lines of a command have its antenna's number: refusals 1 and 2 have none.
 fn is_heard(k: Command) -> bool
     ensures { result ≡ is_heard_of k }
 {
-    match k {
-        Command::End => false,
-        Command::Open(_, _) => true,
-        Command::Begin(_) => true,
-        Command::Step(_) => true,
-        Command::Unknown => false,
-        Command::Short => false,
-        Command::Close => true,
-    }
+    !matches!(k, Command::End | Command::Unknown | Command::Short)
 }
 
 // Writes the lines of what is no command.
-fn put_none(k: Command, text: &mut [u8], at: usize) -> usize
-    requires { at + 48 ≤ length text.old }
-    ensures { Put (none_text k) 48 at text.old result text.new }
+fn put_none(k: Command, text: &mut Text)
+    requires { RoomFor 48 text.old }
+    ensures { Puts (none_text k) 48 text.old text.new }
 {
     match k {
-        Command::End => at,
-        Command::Open(_, _) => at,
-        Command::Begin(_) => at,
-        Command::Step(_) => at,
-        Command::Unknown => lines::put_refused(1, text, at),
-        Command::Short => lines::put_refused(2, text, at),
-        Command::Close => at,
+        Command::End => {}
+        Command::Open(_, _) => {}
+        Command::Begin(_) => {}
+        Command::Step(_) => {}
+        Command::Unknown => text.put_refused(1),
+        Command::Short => text.put_refused(2),
+        Command::Close => {}
     }
 }
 
@@ -188,7 +159,32 @@ fn has_room(n: usize, len: usize, at: usize) -> bool
     lines::has_room(n, len - 63, at)
 }
 
+// Whether it has room for any call of a lane with these buffers.
+fn has_room_for(l: Lane, ook: &[u32], fsk: &[u32], len: usize, at: usize) -> bool
+    ensures { result ≡ has_tagged_room (most_of (l, ook.now, fsk.now)) len at }
+{
+    let most = calls::most_of(l.settings.max_pulses, ook.len(), fsk.len());
+    has_room(most, len, at)
+}
+
 // Writes the lines of a command that was answered so. Most steps print nothing.
+fn put_spoken<'a>(q: Asked, r: Reply, l: Lane, ook: &'a [u32], fsk: &'a [u32], text: &mut Text)
+    requires { RoomFor (spoken_room r l ook.now fsk.now) text.old }
+    ensures { Puts (spoken_text q.antenna q.command (answer_of r l, ook.now, fsk.now)) (spoken_room r l ook.now fsk.now) text.old text.new }
+{
+    let k = q.command;
+    let heard = is_heard(k);
+    if !heard {
+        return put_none(k, text);
+    }
+    let quiet = calls::is_quiet(r, l.burst.out_fsk.state, l.burst.out_ook.state);
+    if quiet {
+        return;
+    }
+    put_heard(q.antenna, r, l, ook, fsk, text);
+}
+
+// The same at a place of the text, and the place after the lines.
 fn put_answer<'a>(
     q: Asked,
     r: Reply,
@@ -201,16 +197,9 @@ fn put_answer<'a>(
     requires { at + spoken_room r l ook.now fsk.now ≤ length text.old }
     ensures { Put (spoken_text q.antenna q.command (answer_of r l, ook.now, fsk.now)) (spoken_room r l ook.now fsk.now) at text.old result text.new }
 {
-    let k = q.command;
-    let heard = is_heard(k);
-    if !heard {
-        return put_none(k, text, at);
-    }
-    let quiet = calls::is_quiet(r, l.burst.out_fsk.state, l.burst.out_ook.state);
-    if quiet {
-        return at;
-    }
-    put_heard(q.antenna, r, l, ook, fsk, text, at)
+    let mut t = Text::new(text, at);
+    put_spoken(q, r, l, ook, fsk, &mut t);
+    t.at
 }
 
 // The commands from one at a place of the bytes up to the first that prints, and its lines.
@@ -223,20 +212,9 @@ fn turn(
     text: &mut [u8],
     at: usize,
 ) -> Turned
-    requires { (from < length s.now) × (q.command ≡ addressed_of (drop from s.now)) × (q.antenna ≡ antenna_of (drop from s.now)) × Sound q.lane × (at ≤ length text.old) }
-    ensures { Spoken q (q.lane, ook.old, fsk.old) s.now from at text.old result (result.lane, ook.new, fsk.new) text.new }
+    requires { (from < length s.now) × (q.command ≡ addressed_of (drop from s.now)) × (q.antenna ≡ antenna_of (drop from s.now)) × Sound q.lane × (has_tagged_room (most_of (q.lane, ook.old, fsk.old)) (length text.old) at ≡ true) }
+    ensures { Told q (q.lane, ook.old, fsk.old) s.now from at text.old result (result.lane, ook.new, fsk.new) text.new }
 {
-    let l = q.lane;
-    let most = calls::most_of(l.settings.max_pulses, ook.len(), fsk.len());
-    let room = has_room(most, text.len(), at);
-    if !room {
-        return Turned {
-            lane: l,
-            used: from,
-            at,
-            full: true,
-        };
-    }
     let g = pass(q, s, from, ook, fsk);
     let n = g.lane;
     let r = g.reply;
@@ -245,7 +223,6 @@ fn turn(
         lane: n,
         used: g.used,
         at: e,
-        full: false,
     }
 }
 
@@ -260,26 +237,13 @@ fn turn_in_row(
     text: &mut [u8],
     at: usize,
 ) -> Turned
-    requires { (from < length s.now) × (q.command ≡ addressed_of (drop from s.now)) × (q.antenna ≡ antenna_of (drop from s.now)) × Sound q.lane × (at ≤ length text.old) × (j < antennas) }
+    requires { (from < length s.now) × (q.command ≡ addressed_of (drop from s.now)) × (q.antenna ≡ antenna_of (drop from s.now)) × Sound q.lane × (has_tagged_room (most_of (in_row q.lane j ook.old fsk.old)) (length text.old) at ≡ true) × (j < antennas) }
     ensures { InRow q j ook.old fsk.old s.now from at text.old result ook.new fsk.new text.new }
 {
     turn(q, s, from, &mut ook[j], &mut fsk[j], text, at)
 }
 
 // ---- a block of bytes
-
-#[derive(Clone, Copy)]
-pub struct Ran {
-    pub lanes: [Lane; 16],
-    // The bytes that the block's commands took.
-    pub used: usize,
-    // The place after the lines.
-    pub at: usize,
-    // Whether the stream has ended, by refusal 1 or 2.
-    pub ended: bool,
-    // Whether the text has no room for another call.
-    pub full: bool,
-}
 
 // The row of an antenna's lane; the first where there is no such antenna.
 fn row_of(i: usize) -> usize
@@ -293,7 +257,8 @@ fn row_of(i: usize) -> usize
 
 // The turns of a block of bytes: each command's as soon as its own last byte is there, until the
 // next waits for more, the text has no room, or the stream ends. `last` says that no byte will come
-// after the block.
+// after the block. As in `calls::block`, a turn goes on by as many bytes as its commands take: no index is
+// counted.
 pub fn block(
     first: [Lane; 16],
     s: &[u8],
@@ -301,12 +266,13 @@ pub fn block(
     ook: &mut [[u32; 4096]; 16],
     fsk: &mut [[u32; 4096]; 16],
     text: &mut [u8],
-) -> Ran
+) -> ([Lane; 16], Ran)
     requires { AllSound first × Sized (first, ook.old, fsk.old) }
-    ensures { Streamed machine (first, ook.old, fsk.old) s.now last (left_by result) (result.lanes, ook.new, fsk.new) text.new × AllSound result.lanes × Sized (result.lanes, ook.new, fsk.new) }
+    ensures streamed { Streamed machine (first, ook.old, fsk.old) s.now last result.1 (result.0, ook.new, fsk.new) text.new }
+    ensures sound { AllSound result.0 × Sized (result.0, ook.new, fsk.new) }
 {
     let mut lanes = first;
-    let mut out = among::count_out(lanes);
+    let mut out = among::count_out(&lanes);
     let mut used = 0;
     let mut at = 0;
     let mut ended = false;
@@ -320,7 +286,13 @@ pub fn block(
         let antenna = addressed::antenna_at(s, used);
         let j = row_of(antenna);
         let lane = lanes[j];
-        let others = out - among::out_of(lane);
+        let len = text.len();
+        let room = has_room_for(lane, &ook[j], &fsk[j], len, at);
+        if !room {
+            full = true;
+            break;
+        }
+        let others = out - u32::from(among::is_out(&lane));
         let q = Asked {
             lane,
             others,
@@ -328,12 +300,8 @@ pub fn block(
             command,
         };
         let t = turn_in_row(q, j, s, used, ook, fsk, text, at);
-        if t.full {
-            full = true;
-            break;
-        }
         let m = t.lane;
-        out = others + among::out_of(m);
+        out = others + u32::from(among::is_out(&m));
         lanes[j] = m;
         at = t.at;
         if t.used == used {
@@ -342,11 +310,11 @@ pub fn block(
         }
         used = t.used;
     }
-    Ran {
-        lanes,
+    let ran = Ran {
         used,
         at,
         ended,
         full,
-    }
+    };
+    (lanes, ran)
 }

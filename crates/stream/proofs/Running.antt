@@ -8,8 +8,9 @@ use native.Mathlib.Omega.{arith}
 use lib.ListN.{length, take, drop, drop_of_length-le}
 use lib.Dec.{eqb}
 use borrow.Author.Tests.{eq-eqb, ne_eqb}
+use Rattle.stream.specs.declared.Ran.{Ran}
 use Rattle.stream.specs.Machine.{Machine, May, Orderly, printed_of, Turns, none}
-use Rattle.stream.specs.Blocks.{Passed, Left, Stopped, ends, waiting, no_room, Streamed}
+use Rattle.stream.specs.Blocks.{Passed, Stopped, ends, waiting, no_room, Streamed}
 
 -- so many bytes of s are used, and so many of the text y written
 pub record Running (M : Machine) (p₀ : M.State) (s : List ℕ) (last : Bool) (used at : ℕ) (q : M.State) (y : List ℕ) : Type 0 where
@@ -21,7 +22,7 @@ pub record Running (M : Machine) (p₀ : M.State) (s : List ℕ) (last : Bool) (
 pub begins : (M : Machine) (p : M.State) (s : List ℕ) (last : Bool) (y : List ℕ) → Running M p s last 0 0 p y
 begins M p s last y = record { inside = omega arith; room = omega arith; printed = λ t may. refl; left = λ t may. none }
 
-abbrev leaves : ℕ → ℕ → Bool → Bool → Left
+abbrev leaves : ℕ → ℕ → Bool → Bool → Ran
 leaves used at ended full = record { used = used; at = at; ended = ended; full = full }
 
 -- ---- where the turns stop

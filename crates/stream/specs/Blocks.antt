@@ -1,6 +1,7 @@
 -- What is said of the commands of a block of bytes, and that block after block prints the lines of the unbroken stream (`program_prints` in
 -- proofs/Printed).
 use Rattle.std.specs.Prelude.{ℕ, ◌+◌, ◌<◌, ◌≤◌, Bool, true, false, cond, ◌≡◌, ◌⊎◌, List, [], ◌++◌, length, take, drop, eqb}
+use Rattle.stream.specs.declared.Ran.{Ran}
 use Rattle.stream.specs.Machine.{Machine, May, Settled, printed_of, Turns}
 
 -- ---- commands of a block
@@ -18,26 +19,18 @@ pub record Passed (M : Machine) (p : M.State) (s : List ℕ) (from used : ℕ) (
   pub ended : used ≡ from → (M.size (drop from s) ≡ 0) × (q ≡ p)
   pub same : (t : List ℕ) → Seen M s from t → w ++ cond (eqb used from) [] (printed_of M q (drop used s ++ t)) ≡ printed_of M p (drop from s ++ t)
 
--- ---- a block
-
--- how a block was left: the bytes that its commands took, the place after its lines, whether the stream has ended, and whether the text has
--- no room for another call
-pub record Left : Type 0 where
-  pub used : ℕ
-  pub at : ℕ
-  pub ended : Bool
-  pub full : Bool
+-- ---- a block, and how it was left: `Ran` of src/lib.rt
 
 -- where the turns of a block stop: at bytes that no command begins with, or at a beginning of one that no more will come of, which ends
 -- the stream; where the next command waits for bytes; or where the text has too few bytes left for its lines
-pub data Stopped (M : Machine) (s : List ℕ) (last : Bool) (r : Left) (q : M.State) (y : List ℕ) : Type 0 where
+pub data Stopped (M : Machine) (s : List ℕ) (last : Bool) (r : Ran) (q : M.State) (y : List ℕ) : Type 0 where
   ends : r.ended ≡ true → r.full ≡ false → M.waits last (drop r.used s) ≡ false → M.size (drop r.used s) ≡ 0 → Stopped M s last r q y
   waiting : r.ended ≡ false → r.full ≡ false → M.waits last (drop r.used s) ≡ true → Stopped M s last r q y
   no_room : r.ended ≡ false → r.full ≡ true → M.waits last (drop r.used s) ≡ false → length y < r.at + M.most q (drop r.used s) → Stopped M s last r q y
 
 -- what the turns of a block say: whatever comes after it, the lines printed and those of what is left are the lines of the whole; the
 -- commands of the bytes used lead to the state that is left; and where they stop
-pub record Streamed (M : Machine) (p : M.State) (s : List ℕ) (last : Bool) (r : Left) (q : M.State) (y : List ℕ) : Type 0 where
+pub record Streamed (M : Machine) (p : M.State) (s : List ℕ) (last : Bool) (r : Ran) (q : M.State) (y : List ℕ) : Type 0 where
   pub inside : r.used ≤ length s
   pub room : r.at ≤ length y
   pub printed : (t : List ℕ) → May last t → take r.at y ++ cond r.ended [] (printed_of M q (drop r.used s ++ t)) ≡ printed_of M p (s ++ t)
@@ -51,7 +44,7 @@ pub record Streamed (M : Machine) (p : M.State) (s : List ℕ) (last : Bool) (r 
 -- left and the bytes c that came since, if any: none once no byte will come
 pub data Blocks (M : Machine) (p : M.State) : (last ended : Bool) → (u w : List ℕ) → (q : M.State) → (v : List ℕ) → Type 0 where
   none : Blocks M p false false [] [] p []
-  more : {q o : M.State} {u w v c x y : List ℕ} {last end : Bool} {r : Left}
+  more : {q o : M.State} {u w v c x y : List ℕ} {last end : Bool} {r : Ran}
       → Blocks M p last false u w q v → May last c → (last ≡ true → end ≡ true) → Streamed M q (v ++ c) end r o y → x ≡ drop r.used (v ++ c)
       → Blocks M p end r.ended (u ++ c) (w ++ take r.at y) o x
 

@@ -2,16 +2,9 @@
 #![tactic(auto)]
 
 ghost use Rattle.std.specs.Prelude.{◌≡◌, ◌+◌, ◌*◌, ◌%◌, ◌<◌, ◌≤◌, length, eqb};
-ghost use Rattle.words.specs.Words.{joined, u32_at, u64_at, f32_at, decode, encode, put_at, read_of, written_of};
+ghost use Rattle.words.specs.Words.{u32_at, u64_at, f32_at, decode, encode, put_at, read_of, written_of};
 
 // ---- a number at a place
-
-// Four bytes as a number, the least significant first.
-fn join(a: u8, b: u8, c: u8, d: u8) -> u32
-    ensures { result ≡ joined a b c d }
-{
-    a as u32 + (b as u32) * 0x100 + (c as u32) * 0x1_0000 + (d as u32) * 0x100_0000
-}
 
 // The four bytes from i on. Whoever reads a number has measured its bytes, so that none is tested
 // again.
@@ -19,7 +12,7 @@ pub fn u32_at(o: &[u8], i: usize) -> u32
     requires { i + 4 ≤ length o.now }
     ensures { result ≡ u32_at o.now i }
 {
-    join(o[i], o[i + 1], o[i + 2], o[i + 3])
+    u32::from_le_bytes([o[i], o[i + 1], o[i + 2], o[i + 3]])
 }
 
 // The eight bytes from i on.
@@ -47,10 +40,8 @@ fn read_all(bytes: &[u8], buf: &mut [u32])
     requires { length bytes.now ≡ 4 * length buf.old }
     ensures { buf.new ≡ decode bytes.now }
 {
-    let mut i = 0;
-    while i < buf.len() {
+    for i in 0..buf.len() {
         buf[i] = u32_at(bytes, 4 * i);
-        i += 1;
     }
 }
 
@@ -70,22 +61,16 @@ pub fn read_words(bytes: &[u8], buf: &mut [u32])
     }
 }
 
-// The lowest byte.
-fn low(v: u32) -> u8
-    ensures { result ≡ v % 256 }
-{
-    (v % 256) as u8
-}
-
 // The four bytes of v at p, the least significant first.
 fn put_word(bytes: &mut [u8], p: usize, v: u32)
     requires { p + 3 < length bytes.old }
     ensures { bytes.new ≡ put_at bytes.old p v }
 {
-    bytes[p] = low(v);
-    bytes[p + 1] = low(v / 0x100);
-    bytes[p + 2] = low(v / 0x1_0000);
-    bytes[p + 3] = low(v / 0x100_0000);
+    let [a, b, c, d] = v.to_le_bytes();
+    bytes[p] = a;
+    bytes[p + 1] = b;
+    bytes[p + 2] = c;
+    bytes[p + 3] = d;
 }
 
 // The bytes of the words, into a buffer of exactly that many.
@@ -93,10 +78,8 @@ fn write_all(bytes: &mut [u8], buf: &[u32])
     requires { length bytes.old ≡ 4 * length buf.now }
     ensures { bytes.new ≡ encode buf.now }
 {
-    let mut i = 0;
-    while i < buf.len() {
+    for i in 0..buf.len() {
         put_word(bytes, 4 * i, buf[i]);
-        i += 1;
     }
 }
 

@@ -2,13 +2,14 @@
 -- with one slip would answer otherwise, and the right answer; its comment names the rule's place and the slip. Slips that other tables rule out:
 -- `lead_len` 16 from min_steps 4 on, a power of two off in `a_gain`, and max_pulses 0 (Worked, M5, M4 and M10); a lane never opened that has
 -- max_pulses (Limits); a serial spent only above 2^48, and an opening that does not go on from the lane's serial (Serials).
-use Rattle.std.specs.Prelude.{ℕ, ◌-◌, ◌*◌, Bool, true, false, ◌≡◌, List, [], ◌∷◌, map, take, replicate, pos, Float}
+use Rattle.std.specs.Prelude.{ℕ, ◌-◌, ◌*◌, Bool, true, false, ◌≡◌, List, [], ◌∷◌, map, take, replicate, pos, Float, Ok}
 use Rattle.std.specs.Float.{nan, binary32, binary64}
 use Rattle.std.specs.Float.Ieee.{of_bits, to_bits, of_int}
 use Rattle.ieee.specs.Constants.{zero32, one32, zero64}
 use Rattle.arith.specs.Leaves.{step_of, gain_of}
 use Rattle.grid.specs.Widths.{fsk_widths_of}
 use Rattle.shared.specs.Counts.{bit, zero_c32}
+use Rattle.shared.specs.declared.Next.TheVariants.{Stay, Idle}
 use Rattle.shared.specs.declared.Out.{Out}
 use Rattle.shared.specs.declared.Settings.{Settings}
 use Rattle.shared.specs.declared.Carrier.TheVariants.{Angle}
@@ -28,7 +29,6 @@ use Rattle.presence.specs.Presence.{in_window_of}
 use Rattle.burst.specs.Lead.{lead_add_of, begin_burst_of, lead_full_of}
 use Rattle.burst.specs.Sample.{sample_of}
 use Rattle.refusals.specs.Domain.{factor_ok, room_ok}
-use Rattle.lane.specs.declared.Reply.TheVariants.{Stay, Idle}
 use Rattle.lane.specs.Idle.{no_train, no_out, none_done, no_burst, no_lead}
 use Rattle.lines.specs.Line.{written_call}
 use Rattle.calls.specs.Turn.{slots_of, answer_text}
@@ -120,11 +120,11 @@ level a b c =
 
 -- the first n bytes that a call prints with both records
 abbrev printed : ℕ → List ℕ
-printed n = take n (written_call Stay (decided 1) [] (decided 0) [] 0 0 (replicate 368 0)).1
+printed n = take n (written_call (Ok Stay) (decided 1) [] (decided 0) [] 0 0 (replicate 368 0)).1
 
 -- the phase line of a lane with this last index and this serial
 abbrev phase_line : ℕ → ℕ → List ℕ
-phase_line index n = answer_text Idle (lane_of (changed ((last, index) ∷ (serial, n) ∷ []))) [] []
+phase_line index n = answer_text (Ok Idle) (lane_of (changed ((last, index) ∷ (serial, n) ∷ []))) [] []
 
 -- ---- the table
 

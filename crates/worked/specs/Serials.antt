@@ -1,6 +1,6 @@
 -- Document 02, R-6 and R-13, in rows: which calls refusal 13 meets and in which order, the serials that an accepted call leaves, and which record
 -- gives its part to which lane.
-use Rattle.std.specs.Prelude.{ℕ, ◌+◌, ◌-◌, ◌^◌, ◌≡◌, List, [], ◌∷◌, map, replicate}
+use Rattle.std.specs.Prelude.{ℕ, ◌+◌, ◌-◌, ◌^◌, ◌≡◌, List, [], ◌∷◌, map, replicate, ⊤, Result, Ok, Err}
 use Rattle.std.specs.Float.Ieee.{neg, le, of_bits, to_bits}
 use Rattle.ieee.specs.Constants.{zero32}
 use Rattle.shared.specs.Counts.{zero_c32, inc}
@@ -10,7 +10,8 @@ use Rattle.shared.specs.declared.Settings.{Settings}
 use Rattle.shared.specs.declared.Carrier.TheVariants.{Angle}
 use Rattle.burst.specs.Lead.{lead_add_of}
 use Rattle.refusals.specs.Domain.{settings_ok, unset_ok}
-use Rattle.refusals.specs.Order.{first_failed}
+use Rattle.refusals.specs.declared.Refusal.{Refusal}
+use Rattle.refusals.specs.Order.{number_of, first_failed}
 use Rattle.refusals.specs.State.{frame_ok, burst_ok, lead_ok, cand_ok}
 use Rattle.lane.specs.declared.Answer.{Answer}
 use Rattle.lane.specs.declared.BeginArgs.{BeginArgs}
@@ -134,10 +135,15 @@ calls =
 abbrev decided : ℕ → Out
 decided n = numbered n (record { index = 0; end = 0; state = 1; cut = 0; pairs = 2; level = zero32; fsk = 0; carrier = Angle zero32; serial = 0 })
 
+-- the number of a refused fetch, 0 for none
+abbrev fetch_number : Result ⊤ Refusal → ℕ
+fetch_number (Ok u) = 0
+fetch_number (Err k) = number_of k
+
 -- the refusal's number and the slots of the part, for a lane and a record of these serials
 unfoldable pub fetched : ℕ × ℕ → List ℕ × ℕ
 unfolding lane_of front named_of part_of
-fetched k = (part_of (lane_of (changed (at k.0))) (decided k.1) (3 ∷ 2 ∷ 4 ∷ 0 ∷ 9 ∷ []) [], part_refusal (lane_of (changed (at k.0))) (decided k.1))
+fetched k = (part_of (lane_of (changed (at k.0))) (decided k.1) (3 ∷ 2 ∷ 4 ∷ 0 ∷ 9 ∷ []) [], fetch_number (part_refusal (lane_of (changed (at k.0))) (decided k.1)))
 
 abbrev pub parts : List ((ℕ × ℕ) × (List ℕ × ℕ))
 parts =

@@ -14,4 +14,4 @@ pub returns-then-u-lt2 : goal.returns-then-u-lt2
 returns-then-u-lt2 c = (past _ _ c.after-u.ensures c.if-u-lt2.true, search rules)
 
 pub returns : goal.returns
-returns c = (c.wide.ensures.0 ∙ ap (λ (u : List ℕ). get_or u 1 0) c.after-u.ensures, c.wide.ensures.1)
+returns c = (c.from.ensures ∙ ap (λ (u : List ℕ). get_or u 1 0) c.after-u.ensures, search rules)

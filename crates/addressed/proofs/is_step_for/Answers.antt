@@ -4,6 +4,7 @@ use mathlib.Core.Bool.{true, false, ◌&&◌}
 use mathlib.Core.Path.{◌≡◌, sym, ◌∙◌}
 use mathlib.Core.List.{List}
 use lib.Dec.{eqb}
+use borrow.Author.Tests.{eq-eqb, ne_eqb}
 use Rattle.commands.specs.Command.{is_step_of}
 use Rattle.addressed.specs.Addressed.{addressed_of, antenna_of}
 use Rattle.addressed.proofs.Laws.{short_front, long_front}
@@ -19,10 +20,12 @@ a_step u v i k e r q = simp (← e, r, q)
 pub returns-then-u-lt26 : goal.returns-then-u-lt26
 returns-then-u-lt26 c = no_step _ _ _ c.after-u.ensures (short_front _ c.if-u-lt26.true)
 
-pub returns-then-steps : goal.returns-then-steps
-returns-then-steps c =
-    a_step _ _ _ _ c.after-u.ensures c.wide.ensures.0
-    (sym (long_front _ c.if-u-lt26.false) ∙ c.if-steps.true-raw)
+pub returns-then-u-eq3 : goal.returns-then-u-eq3
+returns-then-u-eq3 c =
+    a_step _ _ _ _ c.after-u.ensures c.from.ensures
+    (sym (long_front _ c.if-u-lt26.false) ∙ eq-eqb _ _ c.if-u-eq3.true)
 
-pub returns : goal.returns
-returns c = no_step _ _ _ c.after-u.ensures (sym (long_front _ c.if-u-lt26.false) ∙ c.if-steps.false-raw)
+pub returns-else-u-eq3 : goal.returns-else-u-eq3
+returns-else-u-eq3 c =
+    ne_eqb _ _ c.if-u-eq3.false
+    ∙ no_step _ _ _ c.after-u.ensures (sym (long_front _ c.if-u-lt26.false) ∙ ne_eqb _ _ c.if-u-eq3.false)

@@ -1,11 +1,7 @@
-use Prim.Native.Nat.{◌+◌, ◌-◌, ◌≤◌}
-use mathlib.Core.Path.{◌≡◌}
-use lib.ListN.{drop}
+use Rattle.std.proofs.Common.{◌+◌, ◌≤◌, ◌≡◌, drop}
 use Rattle.among.specs.Among.{outs}
 use Rattle.among.proofs.count_out.Given as goal
 
-abbrev pub invariant-loop-i : goal.invariant-loop-i
-invariant-loop-i l = (l.n + outs (drop l.i l.lanes) ≡ outs l.lanes) × (l.n ≤ l.i) × (l.i ≤ 16)
-
-abbrev pub decreases-loop-i : goal.decreases-loop-i
-decreases-loop-i l = 16 - l.i
+-- what is counted, with what is left, is the whole
+abbrev pub invariant-loop-l : goal.invariant-loop-l
+invariant-loop-l l = (l.n + outs (drop l.l-index l.lanes) ≡ outs l.lanes) × (l.n ≤ l.l-index)

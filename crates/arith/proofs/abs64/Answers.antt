@@ -1,7 +1,14 @@
--- A number's pattern without the sign's digit is the magnitude's.
-use lib.Ieee.{binary64}
-use Rattle.arith.proofs.Magnitude.{abs_bits}
+-- std's magnitude is the definition's, case by case.
+use Rattle.std.proofs.Common.{◌≡◌, false, refl, ◌∙◌}
+use Rattle.std.specs.Float.{Float, nan, inf, fin, float_with_sign}
+use Rattle.arith.specs.Leaves.{abs_of}
 use Rattle.arith.proofs.abs64.Goals as goal
 
+by_cases : (x : Float) → float_with_sign false x ≡ abs_of x
+unfolding float_with_sign abs_of
+by_cases nan = refl
+by_cases (inf s) = refl
+by_cases (fin s m e) = refl
+
 pub returns : goal.returns
-returns c = simp (c.f64_of_bits.ensures, c.bits_of_f64.ensures) (abs_bits binary64 c.args.x c.well_formed.0.1)
+returns c = c.abs.ensures.value ∙ by_cases c.args.x

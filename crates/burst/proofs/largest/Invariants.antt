@@ -5,6 +5,3 @@ use Rattle.burst.proofs.largest.Given as goal
 
 abbrev pub invariant-loop-i : goal.invariant-loop-i
 invariant-loop-i l = (largest_from l.es (l.len - l.i) l.i l.m ≡ largest_from l.es l.len 0 zero32) × (l.i ≤ l.len)
-
-abbrev pub decreases-loop-i : goal.decreases-loop-i
-decreases-loop-i l = l.len - l.i

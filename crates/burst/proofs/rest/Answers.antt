@@ -4,7 +4,7 @@ use Rattle.std.proofs.Common.{◌≡◌, ℕ, Bool, true, false, cond, eqb, List
 use lib.Ieee.{Float}
 use Rattle.shared.specs.Answers.{is_stay_of}
 use Rattle.shared.specs.declared.Settings.{Settings}
-use Rattle.ook.specs.declared.Done.{Done}
+use Rattle.ook.specs.Types.{Done}
 use Rattle.presence.specs.Presence.{presence_of}
 use Rattle.envelope.specs.Tail.{tail_of}
 use Rattle.envelope.specs.declared.At.{At}
@@ -13,8 +13,8 @@ use Rattle.burst.specs.Makers.{body_in, done_in}
 use Rattle.burst.specs.Sample.{absence_of, inputs_of, last_of, present_of, rest_of}
 use Rattle.burst.specs.Lead.{staying}
 use Rattle.burst.specs.Core.{beside_by, beside_of}
-use Rattle.burst.specs.declared.Burst.{Burst}
-use Rattle.burst.specs.declared.Sampled.{Sampled}
+use Rattle.burst.specs.Types.{Burst}
+use Rattle.burst.specs.Types.{Sampled}
 use Rattle.burst.proofs.rest.Goals as goal
 
 -- the end of the burst, unless presence has ended it

@@ -10,7 +10,7 @@ use Rattle.envelope.specs.declared.At.{At}
 use Rattle.burst.specs.Sample.{sample_of}
 use Rattle.burst.specs.Lead.{onward}
 use Rattle.burst.specs.Core.{samples_from}
-use Rattle.burst.specs.declared.Sampled.{Sampled}
+use Rattle.burst.specs.Types.{Sampled}
 use Rattle.burst.proofs.samples.Goals as goal
 
 module _ (p : Settings) (at : ℕ → At) (ring : List Float) where

@@ -46,14 +46,14 @@ loop-used-preserved c =
 
 -- all bytes are used
 pub returns-after-loop-used : goal.returns-after-loop-used
-returns-after-loop-used c = let v = c.loop-used.invariant in (all_there machine v.6 v.3 orderly v.4 (omega (arith, c.loop-used-test.false)), v.5)
+returns-after-loop-used c = let v = c.loop-used.invariant in record { streamed = all_there machine v.6 v.3 orderly v.4 (omega (arith, c.loop-used-test.false)); sound = v.5 }
 
 -- the next command waits
 pub returns-then-waiting : goal.returns-then-waiting
 returns-then-waiting c =
     let v = c.loop-used.invariant in
     let last = c.args.last in
-    (waits_there machine v.6 v.3 v.4 (ap (waits last) (sym c.decode_at-k.ensures) ∙ sym c.waits-waiting.ensures ∙ c.if-waiting.true), v.5)
+    record { streamed = waits_there machine v.6 v.3 v.4 (ap (waits last) (sym c.decode_at-k.ensures) ∙ sym c.waits-waiting.ensures ∙ c.if-waiting.true); sound = v.5 }
 
 -- the text has no room
 pub returns-then-not-room : goal.returns-then-not-room
@@ -64,7 +64,7 @@ returns-then-not-room c =
     let few =
     too_few_left (v.l, v.ook, v.fsk) (length v.text) v.at v.invariant.6.room
     (ap (λ (n : ℕ). has_room n (length v.text) v.at) (sym c.most_of-most.ensures) ∙ sym c.has_room-room.ensures ∙ not-true _ c.if-not-room.true-raw) in
-    (full_there machine v.invariant.6 v.invariant.3 refl ready few, v.invariant.5)
+    record { streamed = full_there machine v.invariant.6 v.invariant.3 refl ready few; sound = v.invariant.5 }
 
 pub shape_of-ook-then-t-used : goal.shape_of-ook-then-t-used
 shape_of-ook-then-t-used c = omega (arith, c.turn-t.auto.ook, c.loop-used.invariant.1)
@@ -81,7 +81,8 @@ returns-then-t-used c =
     let v = c.loop-used in
     let turn = c.turn-t in
     let last = c.args.last in
-    let ready = ap (waits last) (sym c.decode_at-k.ensures) ∙ sym c.waits-waiting.ensures ∙ c.if-waiting.false in (
-      ends_there machine orderly v.invariant.6 ready turn.ensures.passes _ _ (omega (arith, turn.ensures.near, turn.auto.text)) turn.ensures.puts c.if-t-used.true v.invariant.4,
-      turn.ensures.sound,
-    )
+    let ready = ap (waits last) (sym c.decode_at-k.ensures) ∙ sym c.waits-waiting.ensures ∙ c.if-waiting.false in
+    record {
+      streamed = ends_there machine orderly v.invariant.6 ready turn.ensures.passes _ _ (omega (arith, turn.ensures.near, turn.auto.text)) turn.ensures.puts c.if-t-used.true v.invariant.4;
+      sound = turn.ensures.sound;
+    }

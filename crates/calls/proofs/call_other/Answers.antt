@@ -13,14 +13,13 @@ use Rattle.commands.specs.Command.{is_step_of}
 use Rattle.calls.specs.Turn.{Called, called}
 use Rattle.calls.proofs.call_other.Goals as goal
 
--- a begin and a close are made on the lane made anew
-begins : (l m : Lane) (k : Command) (b : BeginArgs) (ook fsk : List ℕ) (r : Answer) → m ≡ l → k ≡ Begin b → r ≡ begun m b ook fsk → ◌≡◌ {A = Called} (r, ook, fsk) (called (l, ook, fsk) k)
+begins : (l : Lane) (k : Command) (b : BeginArgs) (ook fsk : List ℕ) (r : Answer) → k ≡ Begin b → r ≡ begun l b ook fsk → ◌≡◌ {A = Called} (r, ook, fsk) (called (l, ook, fsk) k)
 unfolding called
-begins l m k b ook fsk r same is h = ap (λ (a : Answer). (a, ook, fsk)) (h ∙ ap (λ (x : Lane). begun x b ook fsk) same) ∙ ap (called (l, ook, fsk)) (sym is)
+begins l k b ook fsk r is h = ap (λ (a : Answer). (a, ook, fsk)) h ∙ ap (called (l, ook, fsk)) (sym is)
 
-closes : (l m : Lane) (k : Command) (ook fsk x : List ℕ) (r : Answer) → m ≡ l → k ≡ Close → ◌≡◌ {A = Called} (r, x, fsk) (closed m ook fsk) → ◌≡◌ {A = Called} (r, x, fsk) (called (l, ook, fsk) k)
+closes : (l : Lane) (k : Command) (ook fsk x : List ℕ) (r : Answer) → k ≡ Close → ◌≡◌ {A = Called} (r, x, fsk) (closed l ook fsk) → ◌≡◌ {A = Called} (r, x, fsk) (called (l, ook, fsk) k)
 unfolding called
-closes l m k ook fsk x r same is h = h ∙ ap (λ (y : Lane). closed y ook fsk) same ∙ ap (called (l, ook, fsk)) (sym is)
+closes l k ook fsk x r is h = h ∙ ap (called (l, ook, fsk)) (sym is)
 
 pub returns-in-End : goal.returns-in-End
 unfolding called
@@ -31,7 +30,7 @@ unfolding called
 returns-in-Open c = λ h. simp (c.in-Open.is, ← c.open.ensures)
 
 pub returns-in-Begin : goal.returns-in-Begin
-returns-in-Begin c = λ h. begins _ _ _ _ _ _ _ c.anew-m.ensures c.in-Begin.is c.begin.ensures
+returns-in-Begin c = λ h. begins _ _ _ _ _ _ c.in-Begin.is c.begin.ensures
 
 pub returns-in-Step : goal.returns-in-Step
 returns-in-Step c = λ h. let z : ◌≡◌ {A = Bool} true false = sym (ap is_step_of c.in-Step.is) ∙ h in absurd (let y : ◌≡◌ {A = ℕ} 0 1 = cc in omega arith)
@@ -45,4 +44,4 @@ unfolding called
 returns-in-Short c = λ h. simp c.in-Short.is
 
 pub returns-in-Close : goal.returns-in-Close
-returns-in-Close c = λ h. closes _ _ _ _ _ _ _ c.anew-m.ensures c.in-Close.is c.close.ensures
+returns-in-Close c = λ h. closes _ _ _ _ _ _ c.in-Close.is c.close.ensures

@@ -1,9 +1,9 @@
-use Prim.Native.Nat.{ℕ, ◌*◌}
+use Prim.Native.Nat.{ℕ, ◌*◌, min}
 use mathlib.Core.Path.{ap, ◌∙◌}
 use Rattle.lines.specs.Line.{max_slots}
-use Rattle.calls.specs.Turn.{smaller_of, slots_of}
+use Rattle.calls.specs.Turn.{slots_of}
 use Rattle.calls.proofs.most_of.Goals as goal
 
 pub returns : goal.returns
 unfolding slots_of
-returns c = c.smaller.ensures ∙ ap (λ (n : ℕ). smaller_of n max_slots) (c.smaller-held.ensures ∙ ap (λ (n : ℕ). smaller_of (2 * c.args.pulses) n) c.larger.ensures)
+returns c = c.min-2.ensures ∙ ap (λ (n : ℕ). min n max_slots) (c.min.ensures ∙ ap (λ (n : ℕ). min (2 * c.args.pulses) n) c.max.ensures)

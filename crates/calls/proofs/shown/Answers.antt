@@ -1,7 +1,7 @@
 use Rattle.calls.proofs.shown.Goals as goal
 
-pub returns-then-refused : goal.returns-then-refused
-returns-then-refused c = simp (← c.is_refused-refused.ensures, c.if-refused.true) (cc)
+pub returns-then-is_err : goal.returns-then-is_err
+returns-then-is_err g c = simp (← c.is_err.ensures.value, c.if-is_err.true) (cc)
 
 pub returns : goal.returns
-returns c = simp (← c.is_refused-refused.ensures, c.if-refused.false) c.part.ensures
+returns g c = simp (← c.is_err.ensures.value, c.if-is_err.false) c.part.ensures

@@ -9,7 +9,7 @@ use lib.ListN.{length, drop}
 use borrow.Author.Tests.{not-true, not-false}
 use Rattle.commands.specs.Command.{decoded, is_step_of}
 use Rattle.lane.specs.declared.Lane.{Lane}
-use Rattle.lane.specs.declared.Reply.{Reply}
+use Rattle.lane.specs.Answers.{Reply}
 use Rattle.shared.proofs.Tests.{clash}
 use Rattle.step.specs.Core.{joined_of}
 use Rattle.reached.specs.Reached.{Sound}

@@ -37,7 +37,7 @@ pub returns-then-o-lt38 : goal.returns-then-o-lt38
 returns-then-o-lt38 c = carry_short _ _ c.if-carries.true c.if-o-lt38.true
 
 pub returns-then-carries : goal.returns-then-carries
-returns-then-carries c = carried _ _ _ _ c.if-carries.true c.if-o-lt38.false c.settings_of-p.ensures c.wide-carry.ensures.0
+returns-then-carries c = carried _ _ _ _ c.if-carries.true c.if-o-lt38.false c.settings_of-p.ensures c.from-carry.ensures
 
 pub returns : goal.returns
 returns c = plain _ _ _ c.if-carries.false c.if-o-lt37.false c.settings_of-p.ensures

@@ -1,6 +1,11 @@
+use Rattle.std.proofs.Common.{rules}
 use Rattle.fit.specs.Fit.{check_step}
 use Rattle.fit.proofs.check_step.Goals as goal
 
+pub returns-in_err-k : goal.returns-in_err-k
+unfolding check_step
+returns-in_err-k c = search rules
+
 pub returns : goal.returns
 unfolding check_step
-returns c = simp (← c.run_after-run.ensures, ← c.abs64-near.ensures, ← c.both.ensures, ← c.both-ok.ensures)
+returns c = search rules

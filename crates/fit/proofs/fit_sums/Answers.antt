@@ -1,15 +1,13 @@
--- The loop over the slots is the fold.
-use Rattle.fit.proofs.Passes.{left_start, left_turn, left_end}
-use Rattle.fit.specs.Fit.{sums_of}
+use Rattle.std.proofs.Common.{rules}
+use Rattle.fit.proofs.Passes.{callable, folded}
+use Rattle.fit.specs.Fit.{fit_step, sums_of}
 use Rattle.fit.proofs.fit_sums.Goals as goal
 
-pub loop-i-preserved : goal.loop-i-preserved
-loop-i-preserved c = left_turn c.loop-i.invariant c.loop-i-test.true c.requires c.fit_turn-s.ensures
-
-pub loop-i-init : goal.loop-i-init
-unfolding sums_of
-loop-i-init c = left_start _ _ _ _
+pub transitions-requires : goal.transitions-requires
+transitions-requires c = callable _ _ (λ s x. search rules) _ _
 
 pub returns : goal.returns
 unfolding sums_of
-returns c = left_end c.loop-i.invariant c.loop-i-test.false
+returns c =
+    let f = folded _ (fit_step c.args.t) (λ s x r h. search rules) _ _ _ c.transitions.ensures in
+    search rules

@@ -1,18 +1,19 @@
--- The loop over the slots is the fold, and a check that failed stays failed.
-use Rattle.fit.proofs.Passes.{left_start, left_turn, check_fails, check_passes}
-use mathlib.Core.Path.{refl}
+use Rattle.std.proofs.Common.{rules}
+use Rattle.fit.proofs.Passes.{callable, tried}
+use Rattle.fit.specs.Fit.{check_step, answer_of, check_of}
 use Rattle.fit.proofs.grid_check.Goals as goal
 
-pub returns-else-ok : goal.returns-else-ok
-returns-else-ok c =
-    check_fails _ _ c.loop-i.invariant.0 c.loop-i-test.true c.requires c.check_turn-c.ensures c.if-ok.false
+pub try_transitions-requires : goal.try_transitions-requires
+try_transitions-requires c = callable _ _ (λ s x. search rules) _ _
 
-pub loop-i-preserved : goal.loop-i-preserved
-loop-i-preserved c =
-    (left_turn c.loop-i.invariant.0 c.loop-i-test.true c.requires c.check_turn-c.ensures, c.if-ok.true)
-
-pub loop-i-init : goal.loop-i-init
-loop-i-init c = (left_start _ _ _ _, refl)
+pub returns-in_err-c : goal.returns-in_err-c
+unfolding check_of answer_of
+returns-in_err-c c =
+    let f = tried (check_step c.args.a c.args.t) _ (λ s x r h. search rules) _ _ _ c.try_transitions.ensures in
+    search rules
 
 pub returns : goal.returns
-returns c = check_passes _ _ c.loop-i.invariant.0 c.loop-i-test.false c.loop-i.invariant.1
+unfolding check_of answer_of
+returns c =
+    let f = tried (check_step c.args.a c.args.t) _ (λ s x r h. search rules) _ _ _ c.try_transitions.ensures in
+    search rules

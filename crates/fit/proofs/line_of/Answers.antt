@@ -1,10 +1,10 @@
 use Rattle.fit.specs.Fit.{line_of}
 use Rattle.fit.proofs.line_of.Goals as goal
 
-pub returns-then-flat : goal.returns-then-flat
+pub returns-then-det : goal.returns-then-det
 unfolding line_of
-returns-then-flat c = simp c.if-flat.true
+returns-then-det c = simp c.if-det.true
 
 pub returns : goal.returns
 unfolding line_of
-returns c = simp (c.if-flat.false, ← c.line_with.ensures)
+returns c = simp (c.if-det.false, ← c.line_with.ensures)

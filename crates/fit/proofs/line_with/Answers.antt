@@ -1,10 +1,10 @@
 use Rattle.fit.specs.Fit.{line_with}
 use Rattle.fit.proofs.line_with.Goals as goal
 
-pub returns-then-rising : goal.returns-then-rising
+pub returns-then-t : goal.returns-then-t
 unfolding line_with
-returns-then-rising c = simp c.if-rising.true
+returns-then-t c = simp c.if-t.true
 
 pub returns : goal.returns
 unfolding line_with
-returns c = simp c.if-rising.false
+returns c = simp c.if-t.false

@@ -1,8 +1,11 @@
-use Rattle.fit.proofs.Cases.{run_at, run_unset}
+use Rattle.std.proofs.Common.{rules}
+use Rattle.fit.specs.Fit.{k_after, run_near, run_after}
 use Rattle.fit.proofs.run_after.Goals as goal
 
-pub returns-in-At : goal.returns-in-At
-returns-in-At c = run_at _ _ _ _ _ _ _ c.in-At.is c.symbols-n.ensures c.abs64.ensures
+pub returns-in_default : goal.returns-in_default
+unfolding k_after run_near run_after
+returns-in_default c = search rules
 
-pub returns-in-Unset : goal.returns-in-Unset
-returns-in-Unset c = run_unset _ _ _ _ c.in-Unset.is
+pub returns : goal.returns
+unfolding k_after run_near run_after
+returns c = search rules

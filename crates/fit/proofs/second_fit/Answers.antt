@@ -1,12 +1,15 @@
-use Rattle.fit.proofs.Cases.{no_first, no_second, both_fits}
+use Rattle.std.proofs.Common.{rules}
+use Rattle.fit.specs.Fit.{check_line, second_of}
 use Rattle.fit.proofs.second_fit.Goals as goal
 
+pub returns-in_err-first : goal.returns-in_err-first
+unfolding second_of check_line
+returns-in_err-first c = search rules
+
+pub returns-in_err-second : goal.returns-in_err-second
+unfolding second_of check_line
+returns-in_err-second c = search rules
+
 pub returns : goal.returns
-returns c =
-    both_fits _ _ _ _ _ _ _ _ c.in-Rising.is c.fit_with-second.ensures c.in-Rising-second.is c.grid_check.ensures
-
-pub returns-in_default : goal.returns-in_default
-returns-in_default c = no_first _ _ c.in_default.is
-
-pub returns-in_default-second : goal.returns-in_default-second
-returns-in_default-second c = no_second _ _ _ _ _ c.in-Rising.is c.fit_with-second.ensures c.in_default-second.is
+unfolding second_of check_line
+returns c = search rules

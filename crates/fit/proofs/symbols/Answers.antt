@@ -3,4 +3,4 @@ use Rattle.fit.proofs.symbols.Goals as goal
 
 pub returns : goal.returns
 unfolding symbols_of
-returns c = simp (← c.round.ensures, ← c.max64.ensures)
+returns c = simp (← c.round.ensures, ← c.max.ensures)

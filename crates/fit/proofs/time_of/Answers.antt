@@ -1,4 +1,4 @@
-use mathlib.Core.Path.{refl}
+use Rattle.std.proofs.Common.{refl}
 use Rattle.fit.specs.Slots.{time_of}
 use Rattle.fit.proofs.time_of.Goals as goal
 

@@ -4,6 +4,3 @@ use Rattle.frame_end.proofs.keep_before.Given as goal
 
 abbrev pub invariant-loop-k : goal.invariant-loop-k
 invariant-loop-k l = keep_from l.ook l.n l.limit (l.total - l.k) l.k l.s ≡ keep_before_of l.ook l.n l.total l.from l.limit
-
-abbrev pub decreases-loop-k : goal.decreases-loop-k
-decreases-loop-k l = l.total - l.k

@@ -7,11 +7,11 @@ use Rattle.fsk.proofs.first_past.Goals as goal
 pub loop-j-init : goal.loop-j-init
 loop-j-init c = simp unary_clauses
 
-pub returns-then-over : goal.returns-then-over
-returns-then-over c = sym (first_found _ _ _ _ _ _ _ c.loop-j-test.true c.past-over.ensures c.if-over.true) ∙ c.loop-j.invariant
+pub returns-then-past : goal.returns-then-past
+returns-then-past c = sym (first_found _ _ _ _ _ _ _ c.loop-j-test.true c.past.ensures c.if-past.true) ∙ c.loop-j.invariant
 
 pub loop-j-preserved : goal.loop-j-preserved
-loop-j-preserved c = sym (first_next _ _ _ _ _ _ _ c.loop-j-test.true c.past-over.ensures c.if-over.false) ∙ c.loop-j.invariant
+loop-j-preserved c = sym (first_next _ _ _ _ _ _ _ c.loop-j-test.true c.past.ensures c.if-past.false) ∙ c.loop-j.invariant
 
 pub returns : goal.returns
 returns c = sym (first_end _ _ _ _ _ _ c.loop-j-test.false) ∙ c.loop-j.invariant

@@ -4,6 +4,3 @@ use Rattle.fsk.proofs.first_past.Given as goal
 
 abbrev pub invariant-loop-j : goal.invariant-loop-j
 invariant-loop-j l = first_past_of l.first_upper l.thr l.cs l.other (l.n - l.j) l.j ≡ first_past_of l.first_upper l.thr l.cs l.other l.n 0
-
-abbrev pub decreases-loop-j : goal.decreases-loop-j
-decreases-loop-j l = l.n - l.j

@@ -1,26 +1,21 @@
 -- The widths written so far and those of the rest are the whole list's.
-use Rattle.grid.proofs.Writes.{write_start, write_turn, write_end}
+use Rattle.std.proofs.Common.{rules}
+use Rattle.grid.proofs.Writes.{write_turn, write_end}
 use Rattle.arith.specs.declared.Steps.{Steps}
 use Rattle.arith.specs.Leaves.{width_of}
-use native.Mathlib.Omega.{arith}
-use lib.ListN.{length-set}
-use mathlib.Core.Path.{refl, ap}
-use Rattle.grid.specs.Widths.{place_of, on_grid_of}
+use mathlib.Core.Path.{◌≡◌, refl, ap, ◌∙◌}
+use Rattle.grid.specs.Widths.{place_of, on_grid_of, at_start}
 use Rattle.grid.specs.declared.Place.{Place}
 use Rattle.grid.proofs.on_grid.Goals as goal
 
-pub loop-i-smaller : goal.loop-i-smaller
-loop-i-smaller c = simp length-set (omega arith)
-
-pub loop-i-preserved : goal.loop-i-preserved
+pub loop-v-preserved : goal.loop-v-preserved
 unfolding on_grid_of
-loop-i-preserved c =
-    write_turn c.loop-i.invariant (place_of _) (λ (p q : Place). (width_of p.before q.before).0) (λ v vs. refl)
-    c.loop-i-test.true c.place_at-p.ensures (ap (λ (s : Steps). s.0) c.width.ensures)
+loop-v-preserved c =
+    write_turn c.loop-v.invariant (place_of _) (λ (p q : Place). (width_of p.before q.before).0) (λ v vs. refl)
+    c.loop-v-test.true c.place_at-p.ensures (ap (λ (s : Steps). s.0) c.width.ensures)
 
 pub returns : goal.returns
 unfolding on_grid_of
-returns c = write_end c.loop-i.invariant refl c.loop-i-test.false
-
-pub loop-i-init : goal.loop-i-init
-loop-i-init c = write_start _ _ _
+returns c =
+    let start : c.default-p.result ≡ at_start = search rules in
+    write_end c.loop-v.invariant refl c.loop-v-test.false ∙ ap (λ (p : Place). on_grid_of c.args.c p c.args.slots.now) start

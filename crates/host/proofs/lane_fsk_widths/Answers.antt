@@ -11,4 +11,4 @@ pub returns-then-n-gt-MAX_SLOTS : goal.returns-then-n-gt-MAX_SLOTS
 returns-then-n-gt-MAX_SLOTS c = refuse_many _ c.if-bytes-ne0.false c.if-n-ne0.false c.if-n-gt-MAX_SLOTS.true
 
 pub returns : goal.returns
-returns c = accept _ _ c.if-bytes-ne0.false c.if-n-ne0.false c.if-n-gt-MAX_SLOTS.false c.in_small.ensures
+returns c = accept _ _ c.if-bytes-ne0.false c.if-n-ne0.false c.if-n-gt-MAX_SLOTS.false c.widths_in.ensures

@@ -1,22 +1,22 @@
 -- The pattern's fields (`Fields.antt`), narrowed below the sign.
 use Rattle.ieee.proofs.Fields.{by_fields, top_plain, narrow_of_nan}
-use Rattle.ieee.proofs.Nan.{told, is_nan_lem, no_nan, zero_by_zero}
+use Rattle.ieee.proofs.Nan.{told, is_nan_lem, nan_read}
 use Rattle.ieee.proofs.Values.{plain_bits_plus, plain_bits_minus}
 use Rattle.ieee.specs.Rounding.{narrow_of}
 use lib.Ieee.{binary32, binary64, of_bits, to_bits}
 use Rattle.std.proofs.Common.{◌^◌, true, false, sym, ap, ◌∙◌, zero-add, arith, le-leb}
+use Rattle.std.proofs.lemmas.Float.{T_from_false}
 use borrow.Author.Tests.{lt-leb}
 use Rattle.ieee.proofs.narrow.Goals as goal
 
-pub returns-then-x : goal.returns-then-x
-returns-then-x c = zero_by_zero binary32 ∙ sym (ap narrow_of (is_nan_lem c.args.x c.if-x.true) ∙ narrow_of_nan)
-
-pub float_to_bits-b : goal.float_to_bits-b
-float_to_bits-b c = no_nan c.args.x c.if-x.false
+pub returns-then-is_nan : goal.returns-then-is_nan
+returns-then-is_nan c =
+    let e = is_nan_lem c.args.x (sym c.is_nan.ensures.value ∙ c.if-is_nan.true) in
+    nan_read binary32 0x7fc0_0000 (omega arith) ∙ sym (ap narrow_of e ∙ narrow_of_nan)
 
 pub narrow_fields-r-requires : goal.narrow_fields-r-requires
 narrow_fields-r-requires c =
-    (omega arith, omega arith, top_plain c.args.x (told c.well_formed.0.1) (no_nan c.args.x c.if-x.false))
+    (omega arith, omega arith, top_plain c.args.x (told c.well_formed.0.1) (T_from_false _ (sym c.is_nan.ensures.value ∙ c.if-is_nan.false)))
 
 pub float_from_bits-result : goal.float_from_bits-result
 float_from_bits-result c = plain_bits_plus c.narrow_fields-r.result c.narrow_fields-r.ensures.1

@@ -1,24 +1,22 @@
 -- Whole already from the field 1075 on, and else the whole number below the sign.
 use Rattle.ieee.proofs.Integral.{round_of_nan, whole_already, neg_round}
 use Rattle.ieee.proofs.Fields.{by_fields}
-use Rattle.ieee.proofs.Nan.{told, is_nan_lem, no_nan}
+use Rattle.ieee.proofs.Nan.{told, is_nan_lem}
 use Rattle.ieee.specs.Rounding.{round_of}
 use lib.Ieee.{binary64, to_bits, in_float, of_int}
 use Rattle.std.proofs.Common.{◌^◌, true, false, sym, ap, ◌∙◌, le→leb, le-leb}
+use Rattle.std.proofs.lemmas.Float.{T_from_false}
 use borrow.Author.Tests.{lt-leb}
 use Rattle.ieee.proofs.round.Goals as goal
 
-pub returns-then-x : goal.returns-then-x
-returns-then-x c =
-    let e = is_nan_lem c.args.x c.if-x.true in
+pub returns-then-is_nan : goal.returns-then-is_nan
+returns-then-is_nan c =
+    let e = is_nan_lem c.args.x (sym c.is_nan.ensures.value ∙ c.if-is_nan.true) in
     e ∙ sym (ap round_of e ∙ round_of_nan)
-
-pub float_to_bits-b : goal.float_to_bits-b
-float_to_bits-b c = no_nan c.args.x c.if-x.false
 
 pub returns-then-e-ge-WHOLE : goal.returns-then-e-ge-WHOLE
 returns-then-e-ge-WHOLE c =
-    sym (whole_already c.args.x (told c.well_formed.0.1) (no_nan c.args.x c.if-x.false) c.if-e-ge-WHOLE.true)
+    sym (whole_already c.args.x (told c.well_formed.0.1) (T_from_false _ (sym c.is_nan.ensures.value ∙ c.if-is_nan.false)) c.if-e-ge-WHOLE.true)
 
 pub int_to_float-r : goal.int_to_float-r
 unfolding in_float

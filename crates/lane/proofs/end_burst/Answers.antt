@@ -5,12 +5,12 @@ use mathlib.Core.List.{List}
 use Rattle.shared.specs.Core.{whole_out, numbered}
 use Rattle.ook.specs.Core.{whole_ended}
 use Rattle.ook.specs.Train.{end_train_of}
-use Rattle.ook.specs.declared.Ended.{Ended}
-use Rattle.ook.specs.declared.EndedCore.{EndedCore}
+use Rattle.ook.specs.Types.{Ended}
+use Rattle.ook.specs.Types.{EndedCore}
 use Rattle.shared.specs.declared.Out.{Out}
 use Rattle.shared.specs.declared.OutCore.{OutCore}
 use Rattle.burst.specs.Makers.{with_train, with_serials}
-use Rattle.burst.specs.declared.Burst.{Burst}
+use Rattle.burst.specs.Types.{Burst}
 use Rattle.lane.specs.Begin.{cleared_of}
 use Rattle.lane.specs.Close.{ended_by, end_burst_of}
 use Rattle.lane.specs.Idle.{no_out}

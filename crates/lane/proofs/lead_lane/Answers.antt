@@ -4,4 +4,4 @@ use Rattle.lane.proofs.lead_lane.Goals as goal
 
 pub returns : goal.returns
 unfolding lead_lane stamp_of
-returns c = simp (← c.ring_with-ring1.ensures, ← c.fill_history-ring.ensures, ← c.begin_lead-lead.ensures, c.clear_records-burst.ensures)
+returns c = simp (← c.ring_put.ensures, ← c.fill_history-ring.ensures, ← c.begin_lead-lead.ensures, c.clear_records-burst.ensures)

@@ -1,43 +1,7 @@
-use mathlib.Core.Path.{refl, sym, subst}
-use Rattle.lane.specs.Step.{new_lane}
+use Rattle.std.proofs.Common.{ap, sym, subst}
 use Rattle.reached.specs.Reached.{Sound, unopened}
-use Rattle.calls.specs.Stream.{machine}
-use Rattle.calls.proofs.Orderly.{orderly}
-use Rattle.feed.specs.Rest.{rest_of}
-use Rattle.input.specs.Passes.{Carried}
-use Rattle.input.proofs.Laws.{first_false, second_false}
-use Rattle.input.proofs.Passes.{begins, goes_on, stops, ends_so, stands, stands_so}
-use Rattle.listing.specs.declared.Passed.{Passed}
+use Rattle.calls.specs.Turn.{State}
 use Rattle.listing.proofs.run.Goals as goal
 
-pub loop-passes-init : goal.loop-passes-init
-loop-passes-init g c =
-    let a = c.args in
-    let r = g.R.Read.remaining a.from.now in
-    let w = g.W.Write.contents a.to.now in
-    subst
-    (λ (p : Passed). Sound p.fed.lane × Carried machine (new_lane, a.ook.now, a.fsk.now) (p.fed.lane, a.ook.now, a.fsk.now) (rest_of p.fed) p.last a.buf.now r r w w)
-    (sym c.start-p.ensures) (unopened, begins machine _ _ _ r w refl)
-
-pub loop-passes-preserved : goal.loop-passes-preserved
-loop-passes-preserved g c =
-    let e = c.pass-p.ensures in
-    (e.passes.1, goes_on machine c.loop-passes.invariant.1 e.carries (first_false _ _ c.if-p.false) (second_false _ _ c.if-p.false))
-
-pub returns-then-p : goal.returns-then-p
-returns-then-p g c =
-    let r = c.pass-p.result in
-    let e = c.pass-p.ensures in
-    let v = c.loop-passes.invariant.1 in
-    record {
-      ends = record { lane = r.fed.lane; runs = stops machine v.standing e.passes.0 orderly r.failed };
-      writes = ends_so machine v e.carries orderly;
-    }
-
-pub returns : goal.returns
-returns g c =
-    let v = c.loop-passes.invariant.1 in
-    record {
-      ends = record { lane = c.loop-passes.p.fed.lane; runs = stands machine v.standing };
-      writes = stands_so machine orderly v;
-    }
+pub run-requires : goal.run-requires
+run-requires g c = subst Sound (sym (ap (λ (p : State). p.0) c.new_channel-channel.ensures)) unopened

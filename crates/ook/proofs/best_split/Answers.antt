@@ -1,26 +1,17 @@
--- The invariant: the turns that are left from step j give the whole split; a turn and the end are `split_turn` and `split_end`.
-use mathlib.Core.Path.{◌∙◌, sym}
-use lib.Ieee.{nan_bits}
-use borrow.Author.Rules.{rules}
-use Rattle.ook.proofs.RefineLaws.{split_turn, split_end}
+-- The invariant: the turns that are left from step `below` give the whole split; a turn and the end are laws of RefineLaws.
+use Rattle.std.proofs.Common.{◌≡◌, ◌+◌, ◌-◌, ◌∙◌, sym, arith}
+use Rattle.ook.proofs.RefineLaws.{split_better, split_worse, split_end}
 use Rattle.ook.proofs.best_split.Goals as goal
 
-pub float_from_bits-best : goal.float_from_bits-best
-unfolding nan_bits
-float_from_bits-best c = search rules
+pub loop-below-preserved-then-sum-best : goal.loop-below-preserved-then-sum-best
+loop-below-preserved-then-sum-best c =
+    let e : c.loop-below.below - 1 + 1 ≡ c.loop-below.below = omega arith in
+    rw e (split_better _ _ _ _ _ _ _ _ c.loop-below-test.true _ (rw e at c.excess-sum.ensures) c.if-sum-best.true ∙ c.loop-below.invariant)
 
-pub loop-j-init : goal.loop-j-init
-unfolding nan_bits
-loop-j-init c = search rules
-
-pub loop-j-smaller : goal.loop-j-smaller
-unfolding nan_bits
-loop-j-smaller c = search rules
-
-pub loop-j-preserved : goal.loop-j-preserved
-unfolding nan_bits
-loop-j-preserved c = simp (c.best_at-best.ensures, c.split_at-split.ensures, c.excess-sum.ensures) (sym (split_turn _ _ _ _ _ _ _ _ c.loop-j-test.true) ∙ c.loop-j.invariant)
+pub loop-below-preserved : goal.loop-below-preserved
+loop-below-preserved c =
+    let e : c.loop-below.below - 1 + 1 ≡ c.loop-below.below = omega arith in
+    split_worse _ _ _ _ _ _ _ _ c.loop-below-test.true _ (rw e at c.excess-sum.ensures) c.if-sum-best.false ∙ c.loop-below.invariant
 
 pub returns : goal.returns
-unfolding nan_bits
-returns c = sym (split_end _ _ _ _ _ _ _ _ c.loop-j-test.false) ∙ c.loop-j.invariant
+returns c = sym (split_end _ _ _ _ _ _ _ _ c.loop-below-test.false) ∙ c.loop-below.invariant

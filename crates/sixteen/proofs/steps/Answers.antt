@@ -9,7 +9,7 @@ use lib.ListN.{length, drop}
 use lib.Dec.{eqb}
 use borrow.Author.Tests.{eq-eqb, not-true, not-false}
 use Rattle.lane.specs.declared.Lane.{Lane}
-use Rattle.lane.specs.declared.Reply.{Reply}
+use Rattle.lane.specs.Answers.{Reply}
 use Rattle.step.specs.Core.{joined_of}
 use Rattle.reached.specs.Reached.{Sound}
 use Rattle.commands.specs.Command.{is_step_of}

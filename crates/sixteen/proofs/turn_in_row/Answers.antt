@@ -5,4 +5,4 @@ pub turn-requires : goal.turn-requires
 turn-requires c = (c.requires.0, c.requires.1, c.requires.2, c.requires.3, c.requires.4)
 
 pub returns : goal.returns
-returns c = record { ook_row = _; fsk_row = _; ook_set = refl; fsk_set = refl; spoken = c.turn.ensures }
+returns c = record { ook_row = _; fsk_row = _; ook_set = refl; fsk_set = refl; told = c.turn.ensures }

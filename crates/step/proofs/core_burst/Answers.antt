@@ -3,10 +3,10 @@ use Rattle.shared.specs.Core.{whole_out, numbered}
 use Rattle.shared.specs.declared.Out.{Out}
 use Rattle.shared.specs.declared.OutCore.{OutCore}
 use Rattle.fsk.specs.Core.{whole_frame}
-use Rattle.fsk.specs.declared.Frame.{Frame}
-use Rattle.fsk.specs.declared.FrameCore.{FrameCore}
+use Rattle.fsk.specs.Types.{Frame}
+use Rattle.fsk.specs.Types.{FrameCore}
 use Rattle.burst.specs.Makers.{burst_of}
-use Rattle.burst.specs.declared.Burst.{Burst}
+use Rattle.burst.specs.Types.{Burst}
 use Rattle.step.proofs.core_burst.Goals as goal
 
 -- a burst is made of its own parts

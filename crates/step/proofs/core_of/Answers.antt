@@ -2,7 +2,7 @@ use mathlib.Core.Path.{◌≡◌, ap, ◌∙◌}
 use mathlib.Core.List.{List}
 use lib.Ieee.{Float}
 use Rattle.arith.specs.declared.C32.{C32}
-use Rattle.burst.specs.declared.Burst.{Burst}
+use Rattle.burst.specs.Types.{Burst}
 use Rattle.burst.specs.Core.{whole_burst}
 use Rattle.burst.specs.Makers.{with_serials}
 use Rattle.step.specs.Core.{zip_of}

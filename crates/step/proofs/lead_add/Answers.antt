@@ -25,7 +25,9 @@ unfolding lead_add_of
 lead_full at n r es re im e x h a b d q = simp (q, set_out es n e (omega (arith, h, a)), set_out (zip_of re im) (n + 1) x (omega (arith, h, b, zip_length re im (b ∙ sym d))))
 
 pub returns-then-i-lt16 : goal.returns-then-i-lt16
-returns-then-i-lt16 c = (λ at. lead_adds at _ _ _ _ _ _ _ c.inc.ensures, simp length-set, simp length-set, simp length-set)
+unfolding inc
+returns-then-i-lt16 c = (λ at. lead_adds at _ _ _ _ _ _ _ refl, simp length-set, simp length-set, simp length-set)
 
 pub returns : goal.returns
-returns c = (λ at. lead_full at _ _ _ _ _ _ _ c.if-i-lt16.false c.requires.0 c.requires.1 c.requires.2 c.inc-2.ensures, refl, refl, refl)
+unfolding inc
+returns c = (λ at. lead_full at _ _ _ _ _ _ _ c.if-i-lt16.false c.requires.0 c.requires.1 c.requires.2 refl, refl, refl, refl)

@@ -18,8 +18,8 @@ use Rattle.refusals.proofs.Order.{none_failed}
 use Rattle.step.specs.declared.Core.{Core}
 use Rattle.lane.specs.declared.StepArgs.{StepArgs}
 use Rattle.lane.specs.declared.Lane.{Lane}
-use Rattle.lane.specs.declared.Reply.{Reply}
-use Rattle.lane.specs.declared.Reply.TheVariants as reply
+use Rattle.std.specs.Prelude.{⊤, Result, Ok}
+use Rattle.refusals.specs.declared.Refusal.{Refusal}
 use Rattle.lane.proofs.Refusals.{opened_tells, lane_passes}
 use Rattle.lane.specs.Refusals.{lane_ok, follows_of, step_floats_ok, step_refusal_by, step_refusal}
 use Rattle.lane.specs.Begin.{cleared_of}
@@ -27,7 +27,7 @@ use Rattle.lane.specs.Advance.{settle_of, fill_of, replay_step, lead_step, burst
 use Rattle.lane.specs.Serial.{stamp_of}
 use Rattle.lane.specs.Step.{stepped_by, stepped}
 use Rattle.step.specs.Core.{zip_of, reals_of, imaginaries_of, joined_of}
-use Rattle.lane.specs.Answers.{answer_of}
+use Rattle.lane.specs.Answers.{Reply, answer_of}
 use Rattle.step.proofs.Zips.{zip_parts}
 use Rattle.step.proofs.step.Goals as goal
 
@@ -60,29 +60,25 @@ serial_core l c holds parts =
     subst (λ (x : Lane). x.serial ≤ max_serial) (sym (joined_core l c parts)) (leb-true l.serial max_serial (lane_passes l holds).counted)
 
 -- an accepted step reads no record
-reads_none : (l : Lane) (s : StepArgs) (ook fsk : List ℕ) → stepped_by 0 (stamp_of l.serial l) s ook fsk ≡ stepped_by 0 l s ook fsk
+reads_none : (l : Lane) (s : StepArgs) (ook fsk : List ℕ) → stepped_by (Ok tt) (stamp_of l.serial l) s ook fsk ≡ stepped_by (Ok tt) l s ook fsk
 unfolding stamp_of advance_of lead_step fill_of replay_step burst_step settle_of cleared_of
 reads_none l s ook fsk = refl
 
-module _ (l : Lane) (s : StepArgs) (ook fsk : List ℕ) (sound : Bool) (k : ℕ) (asked : sound ≡ lane_ok l)
+module _ (l : Lane) (s : StepArgs) (ook fsk : List ℕ) (sound : Bool) (k : Result ⊤ Refusal) (asked : sound ≡ lane_ok l)
     (num : k ≡ step_refusal_by sound l.settings l.phase l.last s (length ook) (length fsk)) where
   refusal_is : k ≡ step_refusal l s (length ook) (length fsk)
   unfolding step_refusal
   refusal_is = num ∙ ap (λ (b : Bool). step_refusal_by b l.settings l.phase l.last s (length ook) (length fsk)) asked
 
-  step_refused : eqb k 0 ≡ false → (answer_of (reply.Refused k) l, ook, fsk) ≡ stepped l s ook fsk
-  unfolding stepped
-  step_refused h = simp (← refusal_is, h)
-
-  module _ (ok : eqb k 0 ≡ true) where
+  module _ (ok : k ≡ Ok tt) where
     passes : sound ≡ true
-    passes = (none_failed true sound (not (eqb l.phase 0)) true (index_ok s.index && follows_of l.last s.index) (step_floats_ok s) (room_ok l.settings (length ook) (length fsk)) (sym num ∙ eqb-true k 0 ok)).lane_ok
+    passes = (none_failed true sound (not (eqb l.phase 0)) true (index_ok s.index && follows_of l.last s.index) (step_floats_ok s) (room_ok l.settings (length ook) (length fsk)) (sym num ∙ ok)).lane_ok
 
     holds : lane_ok l ≡ true
     holds = sym asked ∙ passes
 
-    none : step_refusal_by true l.settings l.phase l.last s (length ook) (length fsk) ≡ 0
-    none = ap (λ (b : Bool). step_refusal_by b l.settings l.phase l.last s (length ook) (length fsk)) (sym passes) ∙ sym num ∙ eqb-true k 0 ok
+    none : step_refusal_by true l.settings l.phase l.last s (length ook) (length fsk) ≡ Ok tt
+    none = ap (λ (b : Bool). step_refusal_by b l.settings l.phase l.last s (length ook) (length fsk)) (sym passes) ∙ sym num ∙ ok
 
     step_by_core : (c : Core) (es re im : List Float) (r : Reply) (lane whole : Lane) (ook' fsk' : List ℕ) → Joins l c
         → es ≡ l.lead.lead_e → re ≡ reals_of l.lead.lead_x → im ≡ imaginaries_of l.lead.lead_x → lane ≡ whole
@@ -96,14 +92,14 @@ module _ (l : Lane) (s : StepArgs) (ook fsk : List ℕ) (sound : Bool) (k : ℕ)
         ∙ gives
         ∙ ap (λ (x : List Float). stepped_by (step_refusal_by true c.settings c.phase c.last s (length ook) (length fsk)) (joined_of c x re im l.ring l.burst.frame.cand.cand_f) s ook fsk) is-es
         ∙ ap (λ (x : Lane). stepped_by (step_refusal_by true x.settings x.phase x.last s (length ook) (length fsk)) x s ook fsk) (parts re im zips)
-        ∙ ap (λ (j : ℕ). stepped_by j (stamp_of l.serial l) s ook fsk) none
+        ∙ ap (λ (j : Result ⊤ Refusal). stepped_by j (stamp_of l.serial l) s ook fsk) none
         ∙ reads_none l s ook fsk
-        ∙ ap (λ (j : ℕ). stepped_by j l s ook fsk) (sym (eqb-true k 0 ok) ∙ refusal_is)
+        ∙ ap (λ (j : Result ⊤ Refusal). stepped_by j l s ook fsk) (sym ok ∙ refusal_is)
 
 pub step_core-a-requires : goal.step_core-a-requires
 step_core-a-requires c =
     let args = c.args in
-    let fine = holds args.l args.s args.ook.now args.fsk.now _ _ c.lane_ok-sound.ensures c.step_refusal-k.ensures c.if-ok.true-raw in (
+    let fine = holds args.l args.s args.ook.now args.fsk.now _ _ c.lane_ok-sound.ensures c.step_refusal.ensures c.in_default.is in (
       c.envelopes-es.ensures.1,
       c.reals-re.ensures.1,
       c.imaginaries-im.ensures.1,
@@ -111,13 +107,10 @@ step_core-a-requires c =
       serial_core args.l c.core_of-c.result fine c.core_of-c.ensures,
     )
 
-pub returns-then-ok : goal.returns-then-ok
-returns-then-ok c =
+pub returns : goal.returns
+returns c =
     let args = c.args in
-    step_by_core args.l args.s args.ook.now args.fsk.now c.lane_ok-sound.result _ c.lane_ok-sound.ensures c.step_refusal-k.ensures c.if-ok.true-raw
+    step_by_core args.l args.s args.ook.now args.fsk.now c.lane_ok-sound.result _ c.lane_ok-sound.ensures c.step_refusal.ensures c.in_default.is
     c.core_of-c.result c.envelopes-es.result c.reals-re.result c.imaginaries-im.result _ _ _ _ _
     c.core_of-c.ensures c.envelopes-es.ensures.0 c.reals-re.ensures.0 c.imaginaries-im.ensures.0
     c.joined-lane.ensures c.step_core-a.ensures.0
-
-pub returns : goal.returns
-returns c = step_refused c.args.l c.args.s _ _ _ _ c.lane_ok-sound.ensures c.step_refusal-k.ensures c.if-ok.false-raw

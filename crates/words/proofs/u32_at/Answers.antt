@@ -1,6 +1,7 @@
-use mathlib.Core.Path.{refl}
-use Rattle.words.proofs.Places.{four_at}
+use Rattle.std.proofs.Common.{arith}
+use Rattle.words.specs.Words.{u32_at}
 use Rattle.words.proofs.u32_at.Goals as goal
 
 pub returns : goal.returns
-returns c = four_at _ _ _ _ _ _ refl refl refl refl refl refl refl refl c.join.ensures
+unfolding u32_at
+returns c = omega (arith, c.from_le_bytes.ensures)

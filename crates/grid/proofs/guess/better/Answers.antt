@@ -1,11 +1,15 @@
-use Rattle.grid.proofs.Cases.{better_none, better_first, better_on}
+use Rattle.std.proofs.Common.{rules}
+use Rattle.grid.specs.Guess.{better_of}
 use Rattle.grid.proofs.guess.better.Goals as goal
 
-pub returns-in-NoGrid : goal.returns-in-NoGrid
-returns-in-NoGrid c = better_none _ _ c.in-NoGrid.is
+pub returns-in_default : goal.returns-in_default
+unfolding better_of
+returns-in_default c = search rules
 
-pub returns-in-NoGrid-grid : goal.returns-in-NoGrid-grid
-returns-in-NoGrid-grid c = better_first _ _ _ _ _ c.in-NoGrid-grid.is c.in-On.is
+pub returns-then-new-best : goal.returns-then-new-best
+unfolding better_of
+returns-then-new-best c = search rules
 
-pub returns-in-On-grid : goal.returns-in-On-grid
-returns-in-On-grid c = better_on _ _ _ _ _ _ _ _ _ c.in-On-grid.is c.in-On.is c.pick_grid.ensures
+pub returns-else-new-best : goal.returns-else-new-best
+unfolding better_of
+returns-else-new-best c = search rules

@@ -1,10 +1,11 @@
+use Rattle.std.proofs.Common.{rules}
 use Rattle.grid.specs.Guess.{grid_of}
 use Rattle.grid.proofs.guess.grid_of.Goals as goal
 
-pub returns-then-enough : goal.returns-then-enough
+pub returns-then-m : goal.returns-then-m
 unfolding grid_of
-returns-then-enough c = simp (← c.mean_of-m.ensures, ← c.both-enough.ensures, c.if-enough.true, ← c.search.ensures)
+returns-then-m c = search rules
 
-pub returns : goal.returns
+pub returns-else-runs-ge-GRID_MIN : goal.returns-else-runs-ge-GRID_MIN
 unfolding grid_of
-returns c = simp (← c.mean_of-m.ensures, ← c.both-enough.ensures, c.if-enough.false)
+returns-else-runs-ge-GRID_MIN c = search rules

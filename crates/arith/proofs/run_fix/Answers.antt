@@ -1,4 +1,0 @@
-use Rattle.arith.proofs.run_fix.Goals as goal
-
-pub returns : goal.returns
-returns c = cc

@@ -1,4 +1,0 @@
-use Rattle.arith.proofs.width.Goals as goal
-
-pub returns : goal.returns
-returns c = cc

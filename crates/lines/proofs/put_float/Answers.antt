@@ -1,8 +1,0 @@
-use Rattle.lines.specs.Line.{hex8}
-use Rattle.lines.proofs.Laws.{said}
-use Rattle.lines.proofs.put_float.Goals as goal
-
-pub returns : goal.returns
-unfolding hex8
-returns c =
-    said (simp (← c.bits_of_f32-n.ensures, ← c.glyph-a.ensures, ← c.glyph-b.ensures, ← c.glyph-c.ensures, ← c.glyph-d.ensures, ← c.glyph-e.ensures, ← c.glyph-f.ensures, ← c.glyph-g.ensures, ← c.glyph-h.ensures)) c.put_bytes.ensures

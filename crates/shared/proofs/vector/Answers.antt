@@ -1,7 +1,0 @@
-use Rattle.std.proofs.Common.{refl}
-use Rattle.shared.specs.Core.{carrier_in}
-use Rattle.shared.proofs.vector.Goals as goal
-
-pub returns : goal.returns
-unfolding carrier_in
-returns c = refl
