@@ -61,8 +61,8 @@ fn of_doubles(op: u32, a: f64, b: f64) -> u64
     match op {
         0 => ieee::bits_of_f64(ieee::round(a)),
         1 => bits_of(ieee::narrow(a)),
-        2 => arith::to_u32(a) as u64,
-        3 => arith::to_u64(a),
+        2 => std::num::saturating_f64_to_u32(a) as u64,
+        3 => std::num::saturating_f64_to_u64(a),
         4 => arith::whole(a) as u64,
         5 => arith::step_of(a),
         6 => arith::width(a, b).0 as u64,
@@ -77,8 +77,8 @@ fn of_numbers(op: u32, n: u64, frac: f64) -> u64
     ensures { result ≡ leaf_at (numbers n frac) op }
 {
     match op {
-        0 => bits_of(arith::u32_to_f32(low(n))),
-        1 => ieee::bits_of_f64(arith::u64_to_f64(n)),
+        0 => bits_of(std::num::nearest_u32_to_f32(low(n))),
+        1 => ieee::bits_of_f64(std::num::nearest_u64_to_f64(n)),
         2 => arith::lead_len(low(n)) as u64,
         3 => ieee::bits_of_f64(arith::edge(n, frac)),
         _ => 0,

@@ -18,6 +18,7 @@ const RUN_TOL: f64 = 0.4;
 // ---- the transitions
 
 // The 64ths of a slot as steps.
+#[tactic(auto, unfolding(crate::specs::Slots::time_of))]
 pub fn time_of(v: arith::Fix64) -> f64
     ensures { result ≡ time_of v }
 {
@@ -72,6 +73,7 @@ fn try_transitions<S, F: Fn(S, f64) -> Option<S>>(ends: &[u32], first: S, step: 
 // ---- the fit of a line
 
 // How many symbols of t steps a run of d steps stands for, to the nearest and at least one.
+#[tactic(auto, unfolding(crate::specs::Fit::symbols_of))]
 pub fn symbols(d: f64, t: f64) -> f64
     ensures { result ≡ symbols_of d t }
 {
@@ -110,6 +112,7 @@ pub struct Sums {
 }
 
 // The transition x is one more, for the symbol t steps long.
+#[tactic(auto, unfolding(crate::specs::Fit::fit_step))]
 fn fit_step(s: Sums, x: f64, t: f64) -> Sums
     ensures { result ≡ fit_step t s x }
 {
@@ -132,19 +135,18 @@ pub struct Line {
 }
 
 // The line of the symbol t through the sums: none where t is not above 0.
+#[tactic(auto, unfolding(crate::specs::Fit::line_with))]
 fn line_with(s: Sums, t: f64) -> Option<Line>
     ensures { result ≡ line_with s t }
 {
-    if t > 0.0 {
-        return Some(Line {
-            a: (s.st - t * s.sk) / s.n,
-            t,
-        });
-    }
-    None
+    (t > 0.0).then_some(Line {
+        a: (s.st - t * s.sk) / s.n,
+        t,
+    })
 }
 
 // The least-squares line through the sums, where it rises.
+#[tactic(auto, unfolding(crate::specs::Fit::line_of))]
 fn line_of(s: Sums) -> Option<Line>
     ensures { result ≡ line_of s }
 {
@@ -163,6 +165,7 @@ pub fn fit_sums(ends: &[u32], t: f64) -> Sums
 }
 
 // The line of the transitions, their runs counted in symbols of t steps.
+#[tactic(auto, unfolding(crate::specs::Fit::fit_of))]
 pub fn fit_with(ends: &[u32], t: f64) -> Option<Line>
     ensures { result ≡ fit_of (times 0 ends.now) t }
 {
@@ -181,6 +184,7 @@ pub struct Grid {
 
 // The symbol number at the transition x, where the run that ends there is near its whole number of symbols of t steps; at the first
 // transition no run ends.
+#[tactic(auto, using(arith::proofs::Magnitude::is_magnitude), unfolding(crate::specs::Fit::k_after, crate::specs::Fit::run_near, crate::specs::Fit::run_after))]
 fn run_after(last: Last, x: f64, t: f64) -> Option<f64>
     ensures { result ≡ run_after last.prev last.k x t }
 {
@@ -189,7 +193,7 @@ fn run_after(last: Last, x: f64, t: f64) -> Option<f64>
     };
     let d = x - tp;
     let n = symbols(d, t);
-    (arith::abs64(d - n * t) <= RUN_TOL * t).then_some(last.k + n)
+    ((d - n * t).abs() <= RUN_TOL * t).then_some(last.k + n)
 }
 
 // What the check of a grid found so far: the sum of the squared distances in symbols, and the last transition.
@@ -200,12 +204,13 @@ pub struct Check {
 }
 
 // The transition x, where the run before it is near its whole number of symbols and x is near its grid point.
+#[tactic(auto, using(arith::proofs::Magnitude::is_magnitude), unfolding(crate::specs::Fit::check_step))]
 fn check_step(c: Check, x: f64, a: f64, t: f64) -> Option<Check>
     ensures { result ≡ check_step a t c x }
 {
     let k = run_after(c.last, x, t)?;
     let r = (x - (a + k * t)) / t;
-    (arith::abs64(r) <= GRID_TOL).then_some(Check {
+    (r.abs() <= GRID_TOL).then_some(Check {
         cost: c.cost + r * r,
         last: Last { k, prev: Some(x) },
     })
@@ -222,6 +227,7 @@ fn grid_check(ends: &[u32], a: f64, t: f64) -> Option<Grid>
 // ---- the grid of a guess
 
 // The check of the fit with the first fit's symbol.
+#[tactic(auto, unfolding(crate::specs::Fit::second_of, crate::specs::Fit::check_line))]
 pub fn second_fit(ends: &[u32], first: Option<Line>) -> Option<Grid>
     ensures { result ≡ second_of (times 0 ends.now) first }
 {

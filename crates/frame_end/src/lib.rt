@@ -204,8 +204,8 @@ fn keep_next(s: Kept, k: u32, pulse: u32, gap: u32) -> Kept
     requires { k < 4294967295 }
     ensures { result ≡ keep_next_of s k pulse gap }
 {
-    let w = arith::u64_to_f64(u64::from(pulse));
-    let g = arith::u64_to_f64(u64::from(gap));
+    let w = f64::from(pulse);
+    let g = f64::from(gap);
     let e = arith::step_of(s.t + w);
     Kept {
         t: s.t + (w + g),
@@ -218,7 +218,7 @@ fn keep_next(s: Kept, k: u32, pulse: u32, gap: u32) -> Kept
 fn start_kept(from: u64) -> Kept
     ensures { result ≡ start_kept_of from }
 {
-    let t = arith::u64_to_f64(from);
+    let t = std::num::nearest_u64_to_f64(from);
     Kept {
         t,
         keep: 0,

@@ -69,7 +69,7 @@ fn average(m: Mean, f: f32) -> Mean
     ensures { result ≡ average_of m f }
 {
     let k = m.fsk_cnt.wrapping_add(1);
-    let n = arith::u32_to_f32(k.min(16));
+    let n = std::num::nearest_u32_to_f32(k.min(16));
     Mean {
         f_ref: m.f_ref + (f - m.f_ref) / n,
         fsk_cnt: k,

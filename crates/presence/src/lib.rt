@@ -284,7 +284,7 @@ fn end_carrier(
 {
     let mut m = b;
     m.frame.done.fsk_full = 1;
-    let end = arith::u64_to_f64(a.idx) + 1.0;
+    let end = std::num::nearest_u64_to_f64(a.idx) + 1.0;
     let pac = a.pac;
     let n = frame_end::frame_done(p, m, a.high, pac, t_run, end, ook, fsk);
     let t = n.train;

@@ -368,7 +368,7 @@ fn first_burst(lead_at: u64, es: &[f32; 16], n: usize, b: BurstCore) -> BurstCor
     ensures { (cs : List Float) → whole_burst cs result ≡ begin_burst_of (largest_of es.now n) (of_int binary64 (pos lead_at)) (get_or es.now 0 nan) (whole_burst cs b) }
 {
     let high = burst::largest(es, n);
-    let t = arith::u64_to_f64(lead_at);
+    let t = std::num::nearest_u64_to_f64(lead_at);
     burst::begin_burst(high, t, es[0], b)
 }
 
