@@ -252,6 +252,7 @@ fn pattern(t: f64) -> u64
 // The grid by least squares: the guess tells how many symbols each run has, a line through the transitions gives a better symbol, and with
 // that one the runs are counted and fitted again. Where the first fit has the symbol of the mean's first fit, the second is the mean's
 // too, and its grid is known.
+#[tactic(auto, unfolding(crate::specs::Fit::grid_fit_of))]
 pub fn grid_fit(ends: &[u32], mean: Fitted, guess: f64) -> Option<Grid>
     requires { Known ends.now mean }
     ensures { result ≡ grid_fit_of (times 0 ends.now) guess }
