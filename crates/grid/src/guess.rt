@@ -16,7 +16,7 @@ const GRID_CAND: usize = 8;
 // ---- how many transitions there are, and the shortest run between two
 
 // How many transitions there are, the shortest run between two, and the last transition, where there is one.
-#[derive(Clone, Copy)]
+#[derive(Clone, Copy, Default)]
 pub struct Runs {
     pub count: usize,
     pub shortest: f64,
@@ -24,6 +24,7 @@ pub struct Runs {
 }
 
 // The transition x is one more, and the run before it may be the shortest.
+#[tactic(auto, unfolding(crate::specs::Guess::shorter_of, crate::specs::Guess::runs_step))]
 fn runs_step(s: Runs, x: f64) -> Runs
     requires { s.count < 0xffff_ffff_ffff_ffff }
     ensures { result ≡ runs_step s x }
@@ -42,9 +43,8 @@ pub fn runs_of(ends: &[u32]) -> Runs
     ensures { result ≡ runs_of (times 0 ends.now) }
 {
     let none = Runs {
-        count: 0,
         shortest: f64::INFINITY,
-        prev: None,
+        ..Runs::default()
     };
     fit::transitions(ends, none, runs_step)
 }
@@ -56,6 +56,7 @@ const ONE_SYMBOL: f64 = 1.5;
 
 // The length of the run from the transition before to the transition x, where it is one symbol long. At the first transition no run
 // ends.
+#[tactic(auto, unfolding(crate::specs::Guess::run_to))]
 fn run_to(shortest: f64, prev: Option<f64>, x: f64) -> Option<f64>
     ensures { result ≡ run_to shortest prev x }
 {
@@ -72,6 +73,7 @@ pub struct Mean {
 }
 
 // The run to the transition x is added where it is one symbol long.
+#[tactic(auto, unfolding(crate::specs::Guess::added_of, crate::specs::Guess::mean_step))]
 fn mean_step(s: Mean, x: f64, shortest: f64) -> Mean
     ensures { result ≡ mean_step shortest s x }
 {
@@ -95,6 +97,7 @@ fn mean_of(ends: &[u32], shortest: f64) -> Mean
 // ---- the grid of the smallest cost
 
 // The grid of the smaller cost, the first of two alike.
+#[tactic(auto, unfolding(crate::specs::Guess::better_of))]
 fn better(grid: Option<Grid>, g: Option<Grid>) -> Option<Grid>
     ensures { result ≡ better_of grid g }
 {
@@ -105,7 +108,7 @@ fn better(grid: Option<Grid>, g: Option<Grid>) -> Option<Grid>
 }
 
 // How many runs of one symbol were tried, the best grid so far, and the last transition, where there is one.
-#[derive(Clone, Copy)]
+#[derive(Clone, Copy, Default)]
 pub struct Tries {
     pub tried: usize,
     pub grid: Option<Grid>,
@@ -113,6 +116,7 @@ pub struct Tries {
 }
 
 // The run to the transition x is tried as a guess where it is one symbol long, while fewer than GRID_CAND were.
+#[tactic(auto, unfolding(crate::specs::Guess::tried_of, crate::specs::Guess::try_step))]
 fn try_step(ends: &[u32], mean: Fitted, shortest: f64, s: Tries, x: f64) -> Tries
     requires { Known ends.now mean }
     ensures { result ≡ try_step (times 0 ends.now) shortest s x }
@@ -135,14 +139,14 @@ fn search(ends: &[u32], shortest: f64, m: Mean) -> Option<Grid>
     let grid = fit::second_fit(ends, line);
     let mean = Fitted { line, grid };
     let none = Tries {
-        tried: 0,
         grid,
-        prev: None,
+        ..Tries::default()
     };
     fit::transitions(ends, none, |s, x| try_step(ends, mean, shortest, s, x)).grid
 }
 
 // The grid of a frame: none where it has fewer than GRID_MIN transitions or no run of one symbol.
+#[tactic(auto, unfolding(crate::specs::Guess::grid_of))]
 pub fn grid_of(ends: &[u32], runs: Runs) -> Option<Grid>
     ensures { result ≡ grid_of (times 0 ends.now) runs }
 {

@@ -48,6 +48,7 @@ pub struct Place {
 }
 
 // The time of the frame's end.
+#[tactic(auto, unfolding(crate::specs::Widths::end_of))]
 fn end_of(slots: &[u32]) -> f64
     ensures { result ≡ end_of slots.now }
 {
@@ -56,6 +57,7 @@ fn end_of(slots: &[u32]) -> f64
 
 // The frame's own two ends come from the envelope, which tells them less well than the tone does: each is put a whole number of
 // symbols, one or more, from the nearest transition.
+#[tactic(auto, unfolding(crate::specs::Widths::clock_of))]
 fn clock_of(ends: &[u32], end: f64, g: Grid, n_tr: usize) -> Clock
     ensures { result ≡ clock_of g.a g.t n_tr (times 0 ends.now) end }
 {
@@ -71,6 +73,7 @@ fn clock_of(ends: &[u32], end: f64, g: Grid, n_tr: usize) -> Clock
 }
 
 // The boundary after the slot v.
+#[tactic(auto, unfolding(crate::specs::Widths::place_of))]
 fn place_at(c: Clock, p: Place, v: u32) -> Place
     ensures { result ≡ place_of c p v }
 {

@@ -42,6 +42,8 @@ pub fn f32_at(o: &[u8], i: usize) -> f32
 
 // ---- lists of words
 
+// Both loops count the words: of what a `zip` with the chunks of four bytes writes, by way of an adapter of `iter_mut`, a proof is told nothing.
+
 // The words of the bytes, into a buffer of exactly that many.
 fn read_all(bytes: &[u8], buf: &mut [u32])
     requires { length bytes.now ≡ 4 * length buf.old }
