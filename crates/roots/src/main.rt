@@ -13,17 +13,12 @@ use lines::Text;
 use std::io::Write;
 use std::process::ExitCode;
 
-// The number of i, looked for from 255 down.
+// The number of i: the first whose next one has a square above 64 * i.
 fn rule(i: u64) -> u64
     requires { i < 1024 }
     ensures { result ≡ rule_of i }
 {
-    for r in (1..256).rev() {
-        if r * r <= 64 * i {
-            return r;
-        }
-    }
-    0
+    (0..255).find(|r| (r + 1) * (r + 1) > 64 * i).unwrap_or(255)
 }
 
 fn put_line(n: u64, text: &mut Text)
