@@ -6,8 +6,8 @@ use mathlib.Core.List.{List, ◌++◌}
 use native.Mathlib.Omega.{arith}
 use lib.ListN.{length, take, length-take}
 use lib.Seq.{sets}
-use lib.Dec.{eqb, ltb, leb}
-use borrow.Author.Tests.{ltb-false, leb-false, le-ltb, le-leb}
+use lib.Dec.{eqb, leb}
+use borrow.Author.Tests.{leb-false, le-ltb, le-leb}
 use Rattle.std.specs.Prelude.{Result, Ok, Err, is_ok, IsErrAnd, MatchResult}
 use Rattle.shared.specs.declared.Next.TheVariants.{Stay, Idle, IdleAt}
 use Rattle.shared.specs.declared.Next.{Next}

@@ -1,6 +1,6 @@
 -- What is said of commands that were taken (`Took`), of one and of steps one after another, and of their lines (`Turn`).
 use Prim.Native.Nat.{ℕ, ◌+◌, ◌≤◌, ◌<◌}
-use mathlib.Core.Bool.{true, false, not}
+use mathlib.Core.Bool.{Bool, true, false, not}
 use mathlib.Core.Path.{◌≡◌, refl, ap, sym, ◌∙◌, subst}
 use mathlib.Core.List.{List, []}
 use native.Mathlib.Omega.{arith}
@@ -18,17 +18,17 @@ use Rattle.reached.specs.Reached.{Sound}
 use Rattle.commands.specs.declared.Command.{Command}
 use Rattle.commands.specs.declared.Command.TheVariants.{Step}
 use Rattle.commands.specs.Command.{decoded, size_of, is_step_of}
-use Rattle.commands.proofs.Stream.{step_there, a_step}
+use Rattle.commands.proofs.Stream.{step_there}
 use Rattle.lines.specs.Line.{record_line, call_text, has_room, put}
 use Rattle.lines.proofs.Room.{room_there}
-use Rattle.stream.specs.Blocks.{Passed}
+use Rattle.stream.specs.declared.Stop.TheVariants.{Waiting, NoRoom}
+use Rattle.stream.specs.Blocks.{waiting, no_room, Turn, Stays}
 use Rattle.stream.proofs.Taken.{stored, passed_one, passed_then}
-use Rattle.calls.specs.declared.Turned.{Turned}
 use Rattle.calls.specs.Turn.{State, Called, called, next, answer_text, called_text, text_of, waits, most_of, Shown}
-use Rattle.calls.specs.Steps.{quiet_of, Took, Turn}
+use Rattle.calls.specs.Steps.{quiet_of, Took}
 use Rattle.calls.specs.Stream.{machine}
-use Rattle.calls.proofs.Laws.{there, shown_most, called_short}
-use Rattle.calls.proofs.Orderly.{orderly, step_settled}
+use Rattle.calls.proofs.Laws.{there, shown_most, called_short, too_few_left}
+use Rattle.calls.specs.Orderly.{orderly, step_settled}
 use Rattle.calls.proofs.Silent.{call_sound, kept_room, Steps, none, some, steps_sound, core_step, gave}
 
 -- ---- a step among the commands
@@ -94,18 +94,31 @@ module _ {p : State} {s : List ℕ} {from used : ℕ} {r : Reply} {q : State} (a
 
 -- ---- commands with their lines
 
-pub turn_made : (p : State) (s : List ℕ) (from at : ℕ) (x y : List ℕ) (used : ℕ) (r : Reply) (q : State) (z : Turned) → z.used ≡ used → Took p s from used r q → has_room (most_of p) (length x) at ≡ true
-    → ◌≡◌ {A = ℕ × List ℕ} (z.at, y) (put (called_text (answer_of r q.0, q.1, q.2)) (at, x)) → Turn p s from at x z q y
+pub turn_made : (p : State) (s : List ℕ) (last : Bool) (from at : ℕ) (x y : List ℕ) (used e : ℕ) (r : Reply) (q : State) → waits last (decoded (drop from s)) ≡ false
+    → Took p s from used r q → has_room (most_of p) (length x) at ≡ true
+    → ◌≡◌ {A = ℕ × List ℕ} (e, y) (put (called_text (answer_of r q.0, q.1, q.2)) (at, x)) → Turn machine p s last from at x (record { used = used; at = e }) q y
 unfolding put
-turn_made p s from at x y used r q z is_used h room puts =
+turn_made p s last from at x y used e r q ready h room puts =
     let c : Called = (answer_of r q.0, q.1, q.2) in
     let w : List ℕ = called_text c in
-    let is_at : z.at ≡ at + length w = ap (λ (e : ℕ × List ℕ). e.0) puts in
+    let is_at : e ≡ at + length w = ap (λ (e : ℕ × List ℕ). e.0) puts in
     let fits : at + length w ≤ length x = omega (arith, called_short c (most_of p) h.shown, (room_there (most_of p) (length x) at room).1) in
     record {
+      ready = ready;
       near = omega (arith, fits, is_at);
-      sound = h.sound;
       text = w;
       puts = ap (λ (e : ℕ × List ℕ). take e.0 e.1) puts ∙ stored x w at fits;
-      passes = subst (λ (n : ℕ). Passed machine p s from n w q) (sym is_used) h.passes;
+      passes = h.passes;
     }
+
+-- ---- no turn
+
+-- the command waits for bytes
+pub turn_waits : (p : State) (s : List ℕ) (last : Bool) (from at : ℕ) (x : List ℕ) → waits last (decoded (drop from s)) ≡ true → Stays machine p s last from at x Waiting p x
+turn_waits p s last from at x w = record { stopped = waiting refl w; on = refl; same = refl; kept = refl }
+
+-- the text has no room
+pub turn_full : (p : State) (s : List ℕ) (last : Bool) (from at : ℕ) (x : List ℕ) → waits last (decoded (drop from s)) ≡ false → at ≤ length x → has_room (most_of p) (length x) at ≡ false
+    → Stays machine p s last from at x NoRoom p x
+turn_full p s last from at x w near few =
+    record { stopped = no_room refl w (too_few_left p (length x) at near few); on = refl; same = refl; kept = refl }

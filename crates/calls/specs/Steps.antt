@@ -1,11 +1,11 @@
--- What `calls::steps`, `calls::pass` and `calls::turn` say: commands of a stream, taken one after another, up to the first that prints.
-use Rattle.std.specs.Prelude.{ℕ, ◌≤◌, Bool, false, not, ◌&&◌, ◌≡◌, List, ◌++◌, length, take, eqb, Result, Ok, Err}
+-- What `calls::steps` and `calls::pass` say: commands of a stream, taken one after another, up to the first that prints.
+use Rattle.std.specs.Prelude.{ℕ, Bool, false, not, ◌&&◌, List, [], ◌∷◌, eqb, Result, Ok, Err}
 use Rattle.shared.specs.declared.Next.{Next}
 use Rattle.shared.specs.declared.Next.TheVariants as next
 use Rattle.lane.specs.Answers.{Reply, answer_of}
 use Rattle.reached.specs.Reached.{Sound}
 use Rattle.stream.specs.Blocks.{Passed}
-use Rattle.calls.specs.declared.Turned.{Turned}
+use Rattle.calls.specs.declared.Lent.{Lent}
 use Rattle.calls.specs.Turn.{State, called_text, most_of, Shown}
 use Rattle.calls.specs.Stream.{machine}
 
@@ -25,10 +25,11 @@ pub record Took (p : State) (s : List ℕ) (from used : ℕ) (reply : Reply) (q 
   pub shown : Shown (answer_of reply q.0, q.1, q.2) (most_of p)
   pub passes : Passed machine p s from used (called_text (answer_of reply q.0, q.1, q.2)) q
 
--- the lines of the commands taken stand in the text from `at` on: x before the turn, y after it
-pub record Turn (p : State) (s : List ℕ) (from at : ℕ) (x : List ℕ) (z : Turned) (q : State) (y : List ℕ) : Type 0 where
-  pub near : z.at ≤ length x
-  pub sound : Sound q.0
-  pub text : List ℕ
-  pub puts : take z.at y ≡ take at x ++ text
-  pub passes : Passed machine p s from z.used text q
+-- ---- a lane with its buffers, which are lent
+
+abbrev pub state_of : Lent → State
+state_of l = (l.lane, l.ook.now, l.fsk.now)
+
+-- which buffers they are
+abbrev pub buffers_of : Lent → List ℕ
+buffers_of l = l.ook.ghost_name ∷ l.fsk.ghost_name ∷ []

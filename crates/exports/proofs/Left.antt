@@ -12,7 +12,7 @@ use Rattle.commands.specs.declared.Command.TheVariants.{End, Open, Begin, Step, 
 use Rattle.calls.specs.Turn.{State, Called, called, next, waits}
 use Rattle.stream.specs.declared.Ran.{Ran}
 use Rattle.stream.specs.Machine.{Turns, more}
-use Rattle.stream.specs.Blocks.{Streamed, Stopped, ends, waiting, no_room as full}
+use Rattle.stream.specs.Blocks.{is_over, Streamed, Stopped, ends, waiting, no_room as full}
 use Rattle.calls.specs.Stream.{machine, listing}
 use Rattle.exports.specs.Left.{EndsAt, LeftWhole, Stops, ended, no_room, LeftWithin}
 
@@ -32,12 +32,12 @@ module _ (s ook fsk x y text : List ℕ) (m : Lane) (r : Ran) where
   p = (new_lane, ook, fsk)
 
   stops_at : Streamed machine p s true r (m, x, y) text → Stopped machine s true r (m, x, y) text → Stops p (m, x, y) s r.used text
-  stops_at b (ends e f w z) = ended z
-  stops_at b (waiting e f w) = ended (waits_none (decoded (drop r.used s)) w)
-  stops_at b (full e f w z) =
+  stops_at b (ends e w z) = ended z
+  stops_at b (waiting e w) = ended (waits_none (decoded (drop r.used s)) w)
+  stops_at b (full e w z) =
       no_room r.at b.room
       (ap (λ (v : List ℕ). take r.at text ++ listing (m, x, y) v) (sym (append-nil (drop r.used s)))
-      ∙ ap (λ (d : Bool). take r.at text ++ cond d [] (listing (m, x, y) (drop r.used s ++ []))) (sym e)
+      ∙ ap (λ (d : Bool). take r.at text ++ cond d [] (listing (m, x, y) (drop r.used s ++ []))) (sym (ap is_over e))
       ∙ b.printed [] (λ q. refl) ∙ ap (listing p) (append-nil s))
       z
 

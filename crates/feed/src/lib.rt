@@ -5,7 +5,7 @@
 ghost use Rattle.std.specs.Prelude.{◌≤◌, ◌≡◌, length, take, drop};
 ghost use Rattle.stream.specs.Feeds.{Feeds};
 
-use stream::{Fed, Station};
+use stream::{Fed, Station, Stop};
 
 // Moves the bytes from `from` to `end` to the front, and answers how many they are.
 pub fn shift(buf: &mut [u8], from: usize, end: usize) -> usize
@@ -29,12 +29,15 @@ pub fn feed<S: Station>(
     ensures sound { S.is_sound station.new }
 {
     let n = end.min(buf.len());
-    let r = station.block(&buf[..n], last, text);
+    let r = stream::block(station, &buf[..n], last, text);
+    let stop = match r.stop {
+        Stop::Waiting if last => Stop::Ended,
+        stop => stop,
+    };
     let left = shift(buf, r.used, n);
     Fed {
         left,
         at: r.at,
-        full: r.full,
-        done: r.ended | (last & !r.full),
+        stop,
     }
 }

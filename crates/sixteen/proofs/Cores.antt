@@ -13,7 +13,6 @@ use Rattle.lane.specs.declared.Lane.{Lane}
 use Rattle.lane.specs.Answers.{Reply}
 use Rattle.lane.specs.declared.StepArgs.{StepArgs}
 use Rattle.lane.specs.Answers.{answer_of}
-use Rattle.lane.specs.Step.{new_lane}
 use Rattle.reached.specs.Reached.{Sound}
 use Rattle.commands.specs.declared.Command.TheVariants.{Step}
 use Rattle.commands.specs.Command.{is_step_of}
@@ -30,13 +29,13 @@ abbrev pub StepsFor : ℕ → State → List ℕ → ℕ → ℕ → Reply → S
 StepsFor i p s from used r q = (a : Asked) → a.antenna ≡ i → is_step_of a.command ≡ true → StepsHeard a p s from used r q
 
 abbrev pub HeardFor : ℕ → State → List ℕ → ℕ → ℕ → Reply → State → Type 0
-HeardFor i p s from used r q = (a : Asked) → a.antenna ≡ i → is_step_of a.command ≡ true → Heard a p s from (past_of q.0 used r) q
+HeardFor i p s from used r q = (a : Asked) → a.antenna ≡ i → is_step_of a.command ≡ true → Heard a p s from (past_of used r) q
 
 abbrev no_args : StepArgs
 no_args = record { index = 0; noise = zero_c32.re; envelope = zero_c32.re; x = zero_c32 }
 
 abbrev someone : ℕ → Asked
-someone i = record { lane = new_lane; others = 0; antenna = i; command = Step no_args }
+someone i = record { others = 0; antenna = i; command = Step no_args }
 
 module _ {i : ℕ} {p : State} {s : List ℕ} {from used : ℕ} {r : Reply} {q : State} (so : StepsFor i p s from used r q) where
   pub for_sound : Sound p.0 → Sound q.0
@@ -63,6 +62,6 @@ module _ {i : ℕ} {p : State} {s : List ℕ} {from used : ℕ} {r : Reply} {q :
 
 -- of the lanes themselves
 pub of_lanes : {a : Asked} {l k m n : Lane} {s ook₀ fsk₀ ook fsk : List ℕ} {from used : ℕ} {r : Reply} → k ≡ l → n ≡ m
-    → Heard a (k, ook₀, fsk₀) s from (past_of m used r) (m, ook, fsk) → Heard a (l, ook₀, fsk₀) s from (past_of n used r) (n, ook, fsk)
+    → Heard a (k, ook₀, fsk₀) s from (past_of used r) (m, ook, fsk) → Heard a (l, ook₀, fsk₀) s from (past_of used r) (n, ook, fsk)
 of_lanes {a} {l} {k} {m} {n} {s} {ook₀} {fsk₀} {ook} {fsk} {from} {used} {r} e d h =
-    subst (λ (x : Lane). Heard a (x, ook₀, fsk₀) s from (past_of n used r) (n, ook, fsk)) e (subst (λ (x : Lane). Heard a (k, ook₀, fsk₀) s from (past_of x used r) (x, ook, fsk)) (sym d) h)
+    subst (λ (x : Lane). Heard a (x, ook₀, fsk₀) s from (past_of used r) (n, ook, fsk)) e (subst (λ (x : Lane). Heard a (k, ook₀, fsk₀) s from (past_of used r) (x, ook, fsk)) (sym d) h)

@@ -32,7 +32,7 @@ use Rattle.calls.specs.Turn.{State, Called, unchanged, called, next, shown_of, b
 use Rattle.calls.specs.Turn.{Shown}
 use Rattle.calls.proofs.Laws.{shown_most, too_few_left}
 use Rattle.calls.specs.Steps.{quiet_of}
-use Rattle.calls.proofs.Orderly.{step_whole}
+use Rattle.calls.specs.Orderly.{step_whole}
 use Rattle.calls.proofs.Silent.{Quiet, Kept, kept_room, Steps, none, some, steps_sound, core_step, gave}
 use Rattle.addressed.specs.Addressed.{addressed_of, antenna_of, addressed_size}
 use Rattle.addressed.proofs.Laws.{size_fits, step_there}
@@ -44,14 +44,14 @@ use Rattle.stream.specs.Blocks.{Seen, Passed}
 use Rattle.stream.proofs.Taken.{stored, passed_one, passed_then}
 use Rattle.sixteen.specs.declared.Asked.{Asked}
 use Rattle.calls.specs.declared.Past.{Past}
-use Rattle.calls.specs.declared.Turned.{Turned}
+use Rattle.stream.specs.declared.Turned.{Turned}
 use Rattle.sixteen.specs.Sixteen.{heard_text, is_heard_of, none_text, spoken_text, row_of, machine}
 use Rattle.sixteen.specs.Spoken.{Among, one_of, Heard, spoken_room, has_tagged_room, Told}
-use Rattle.sixteen.proofs.Rows.{put_own, put_again, among_after}
-use Rattle.sixteen.proofs.Orderly.{orderly, whole_settled}
+use Rattle.sixteen.proofs.Rows.{put_again, among_after}
+use Rattle.sixteen.specs.Orderly.{put_own, orderly, whole_settled}
 
-abbrev pub past_of : Lane → ℕ → Reply → Past
-past_of l used r = record { lane = l; used = used; reply = r }
+abbrev pub past_of : ℕ → Reply → Past
+past_of used r = record { used = used; reply = r }
 
 -- ---- the answer to one command
 
@@ -217,7 +217,7 @@ step_text i k c h = simp (step_heard k h)
 
 -- the steps so far, from p on
 abbrev pub StepsHeard : Asked → State → List ℕ → ℕ → ℕ → Reply → State → Type 0
-StepsHeard a p s from used r q = Steps (λ (u : ℕ) (z : Reply) (n : State). Heard a p s from (past_of n.0 u z) n) p from used r q
+StepsHeard a p s from used r q = Steps (λ (u : ℕ) (z : Reply) (n : State). Heard a p s from (past_of u z) n) p from used r q
 
 -- the bytes of a step are there
 pub step_room : (s : List ℕ) (used : ℕ) (b : StepArgs) → Step b ≡ addressed_of (drop used s) → used + 26 ≤ length s
@@ -228,14 +228,14 @@ module _ (a : Asked) (p : State) (s : List ℕ) (from used : ℕ) (r : Reply) (q
     (inside : used < length s) (is_b : Step b ≡ addressed_of (drop used s)) (is_i : a.antenna ≡ antenna_of (drop used s)) (is_end : end ≡ used + 26)
     (gives : (answer_of z n.0, n.1, n.2) ≡ core_step q.0 b q.1 q.2) (is_ook : length n.1 ≡ length q.1) (is_fsk : length n.2 ≡ length q.2) where
   abbrev asked : Asked
-  asked = record { lane = q.0; others = a.others; antenna = a.antenna; command = Step b }
+  asked = record { others = a.others; antenna = a.antenna; command = Step b }
 
   lone : called q (Step b) ≡ one_of asked q
   unfolding one_of called_among
   lone = simp here
 
-  one : Heard asked q s used (past_of n.0 end z) n
-  one = heard_one asked q s used (past_of n.0 end z) n 26 (omega arith) (steps_sound sound so) is_b is_i refl refl is_end (gave b end z n sound so gives is_ook is_fsk ∙ lone) is_ook is_fsk
+  one : Heard asked q s used (past_of end z) n
+  one = heard_one asked q s used (past_of end z) n 26 (omega arith) (steps_sound sound so) is_b is_i refl refl is_end (gave b end z n sound so gives is_ook is_fsk ∙ lone) is_ook is_fsk
 
   sees : (t : List ℕ) → Seen machine s used t
   sees t = whole_settled (drop used s) t (step_whole (addressed_of (drop used s)) (ap is_step_of (sym is_b)))
@@ -245,15 +245,15 @@ module _ (a : Asked) (p : State) (s : List ℕ) (from used : ℕ) (r : Reply) (q
   same_lines c = sym (step_text a.antenna a.command c steps)
 
   -- one step more
-  pub step_on : Heard a p s from (past_of n.0 end z) n
+  pub step_on : Heard a p s from (past_of end z) n
   step_on = go so
     where
       c : Called
       c = (answer_of z n.0, n.1, n.2)
 
-      first : used ≡ from → q ≡ p → Heard a p s from (past_of n.0 end z) n
+      first : used ≡ from → q ≡ p → Heard a p s from (past_of end z) n
       first e d =
-          let f : Heard asked p s from (past_of n.0 end z) n = subst (λ (o : State). Heard asked o s from (past_of n.0 end z) n) d (subst (λ (m : ℕ). Heard asked q s m (past_of n.0 end z) n) e one) in
+          let f : Heard asked p s from (past_of end z) n = subst (λ (o : State). Heard asked o s from (past_of end z) n) d (subst (λ (m : ℕ). Heard asked q s m (past_of end z) n) e one) in
           record {
             onward = f.onward;
             inside = f.inside;
@@ -262,7 +262,7 @@ module _ (a : Asked) (p : State) (s : List ℕ) (from used : ℕ) (r : Reply) (q
             passes = λ all A. subst (λ (w : List ℕ). Passed machine all s from end w (put_at all (row_of a.antenna) n)) (same_lines c) (f.passes all A);
           }
 
-      further : from < used → Quiet r q → Kept p q → Heard a p s from (past_of q.0 used r) q → Heard a p s from (past_of n.0 end z) n
+      further : from < used → Quiet r q → Kept p q → Heard a p s from (past_of used r) q → Heard a p s from (past_of end z) n
       further up quiet keeps h =
           record {
             onward = omega (arith, is_end);
@@ -277,7 +277,7 @@ module _ (a : Asked) (p : State) (s : List ℕ) (from used : ℕ) (r : Reply) (q
                 (one.passes (put_at all (row_of a.antenna) q) (among_after all a.antenna a.others p q A))));
           }
 
-      go : StepsHeard a p s from used r q → Heard a p s from (past_of n.0 end z) n
+      go : StepsHeard a p s from used r q → Heard a p s from (past_of end z) n
       go (none e d) = first e d
       go (some up quiet keeps still h) = further up quiet keeps h
 

@@ -33,7 +33,7 @@ loop-used-init c =
       re.ensures.1,
       im.ensures.1,
       omega (arith, c.requires.0),
-      subst Sound (sym (joined_back c.args.lane core.result es.result re.result im.result c.requires.2 core.ensures es.ensures.0 re.ensures.0 im.ensures.0)) c.requires.2,
+      subst Sound (sym (joined_back c.args.lane.now core.result es.result re.result im.result c.requires.2 core.ensures es.ensures.0 re.ensures.0 im.ensures.0)) c.requires.2,
       none refl refl,
     )
 
@@ -69,9 +69,9 @@ returns c =
     let a = c.args in
     let es = c.envelopes-es in
     let re = c.reals-re in
-    let back = joined_back a.lane c.core_of-c.result es.result re.result c.imaginaries-im.result c.requires.2 c.core_of-c.ensures es.ensures.0 re.ensures.0 c.imaginaries-im.ensures.0 in
-    let Out : Lane → ℕ → Reply → List ℕ → List ℕ → Type 0 = λ l used r o f. Took (joined_of c.core_of-c.result es.result re.result c.imaginaries-im.result a.lane.ring a.lane.burst.frame.cand.cand_f, a.ook.now, a.fsk.now) a.s.now a.from used r (l, o, f) in
-    of_lanes back c.joined-l.ensures
+    let back = joined_back a.lane.now c.core_of-c.result es.result re.result c.imaginaries-im.result c.requires.2 c.core_of-c.ensures es.ensures.0 re.ensures.0 c.imaginaries-im.ensures.0 in
+    let Out : Lane → ℕ → Reply → List ℕ → List ℕ → Type 0 = λ l used r o f. Took (joined_of c.core_of-c.result es.result re.result c.imaginaries-im.result a.lane.now.ring a.lane.now.burst.frame.cand.cand_f, a.ook.now, a.fsk.now) a.s.now a.from used r (l, o, f) in
+    of_lanes back c.joined.ensures
     (elim c.loop-used-test.branch [
       | else-loop-used-test w ↦ met Out w.ook-is w.fsk-is w.c-is w.es-is w.re-is w.im-is w.ring-is w.cs-is w.used-is w.reply-is
           (steps_end v.invariant.5 (λ e. omega (arith, e, w.loop-used-test.false, c.requires.0)))

@@ -37,8 +37,8 @@ loop-used-init c =
     let re = c.reals-re in
     let im = c.imaginaries-im in
     let core = c.core_of-c in
-    let back = joined_back c.args.q.lane core.result es.result re.result im.result c.requires.5 core.ensures es.ensures.0 re.ensures.0 im.ensures.0 in
-    (es.ensures.1, re.ensures.1, im.ensures.1, omega (arith, c.requires.0), subst Sound (sym back) c.requires.5, λ a is steps. none refl refl)
+    let back = joined_back c.args.lane.now core.result es.result re.result im.result c.requires.3 core.ensures es.ensures.0 re.ensures.0 im.ensures.0 in
+    (es.ensures.1, re.ensures.1, im.ensures.1, omega (arith, c.requires.0.inside), subst Sound (sym back) c.requires.3, λ a is steps. none refl refl)
 
 pub step_at-b-requires : goal.step_at-b-requires
 step_at-b-requires c =
@@ -69,7 +69,7 @@ loop-used-preserved c =
       step.ensures.3 ∙ v.invariant.2,
       step_room _ _ _ c.step_at-b.ensures,
       v.invariant.4,
-      for_more c.step_at-b.result _ _ _ c.requires.4 v.invariant.4 v.invariant.5 c.loop-used-test.true c.step_at-b.ensures own refl step.ensures.0 ook fsk (sym c.is_quiet-quiet.ensures ∙ not-false _ c.if-not-quiet.false-raw),
+      for_more c.step_at-b.result _ _ _ c.requires.2 v.invariant.4 v.invariant.5 c.loop-used-test.true c.step_at-b.ensures own refl step.ensures.0 ook fsk (sym c.is_quiet-quiet.ensures ∙ not-false _ c.if-not-quiet.false-raw),
     )
 
 pub returns : goal.returns
@@ -79,17 +79,18 @@ returns c =
     let es = c.envelopes-es in
     let re = c.reals-re in
     let a : Asked = c.args.q in
+    let l₀ : Lane = c.args.lane.now in
     let s : List ℕ = c.args.s.now in
-    let back = joined_back a.lane core.result es.result re.result c.imaginaries-im.result c.requires.5 core.ensures es.ensures.0 re.ensures.0 c.imaginaries-im.ensures.0 in
-    let Out : Lane → ℕ → Reply → List ℕ → List ℕ → Type 0 = λ l used r o f. Heard a (joined_of core.result es.result re.result c.imaginaries-im.result a.lane.ring a.lane.burst.frame.cand.cand_f, c.args.ook.now, c.args.fsk.now) s c.args.from (past_of l used r) (l, o, f) in
-    let steps : is_step_of (addressed_of (drop c.args.from s)) ≡ true = ap is_step_of (sym c.requires.1) ∙ c.requires.3 in
-    of_lanes back c.joined-l.ensures
+    let back = joined_back l₀ core.result es.result re.result c.imaginaries-im.result c.requires.3 core.ensures es.ensures.0 re.ensures.0 c.imaginaries-im.ensures.0 in
+    let Out : Lane → ℕ → Reply → List ℕ → List ℕ → Type 0 = λ l used r o f. Heard a (joined_of core.result es.result re.result c.imaginaries-im.result l₀.ring l₀.burst.frame.cand.cand_f, c.args.ook.now, c.args.fsk.now) s c.args.from (past_of used r) (l, o, f) in
+    let steps : is_step_of (addressed_of (drop c.args.from s)) ≡ true = ap is_step_of (sym c.requires.0.command_is) ∙ c.requires.1 in
+    of_lanes back c.joined.ensures
     (elim c.loop-used-test.branch [
       | else-loop-used-test w ↦ met Out w.ook-is w.fsk-is w.c-is w.es-is w.re-is w.im-is w.ring-is w.cs-is w.used-is w.reply-is
-          (steps_end (v.invariant.5 a refl c.requires.3) (λ e. omega (arith, e, w.loop-used-test.false, c.requires.0)))
+          (steps_end (v.invariant.5 a refl c.requires.1) (λ e. omega (arith, e, w.loop-used-test.false, c.requires.0.inside)))
       | then-loop-used-test+then-not-is w ↦ met Out w.ook-is w.fsk-is w.c-is w.es-is w.re-is w.im-is w.ring-is w.cs-is w.used-is w.reply-is
-          (steps_end (v.invariant.5 a refl c.requires.3) (λ e. first_is s c.args.from v.used a.antenna _ e steps c.requires.2 w.is_step_for-is.ensures (not-true _ w.if-not-is.true-raw)))
+          (steps_end (v.invariant.5 a refl c.requires.1) (λ e. first_is s c.args.from v.used a.antenna _ e steps c.requires.0.antenna_is w.is_step_for-is.ensures (not-true _ w.if-not-is.true-raw)))
       | then-loop-used-test+else-not-is+then-not-quiet w ↦ met Out w.ook-is w.fsk-is w.c-is w.es-is w.re-is w.im-is w.ring-is w.cs-is w.used-is w.reply-is
-          (for_on w.step_at-b.result _ _ _ c.requires.4 v.invariant.4 v.invariant.5 w.loop-used-test.true w.step_at-b.ensures (step_of _ s v.used a.antenna w.is_step_for-is.ensures (not-false _ w.if-not-is.false-raw)).1 refl w.step_core-a.ensures.0
-          (omega (arith, w.step_core-a.auto.ook)) (omega (arith, w.step_core-a.auto.fsk)) a refl c.requires.3)
+          (for_on w.step_at-b.result _ _ _ c.requires.2 v.invariant.4 v.invariant.5 w.loop-used-test.true w.step_at-b.ensures (step_of _ s v.used a.antenna w.is_step_for-is.ensures (not-false _ w.if-not-is.false-raw)).1 refl w.step_core-a.ensures.0
+          (omega (arith, w.step_core-a.auto.ook)) (omega (arith, w.step_core-a.auto.fsk)) a refl c.requires.1)
     ])

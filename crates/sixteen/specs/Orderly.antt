@@ -6,25 +6,30 @@ use mathlib.Core.Path.{◌≡◌, refl, sym, ◌∙◌, ap}
 use mathlib.Core.List.{List, [], ◌∷◌, ◌++◌}
 use native.Mathlib.Omega.{arith}
 use lib.ListN.{length, drop}
+use lib.Seq.{set-get_or}
 use lib.Dec.{eqb, ltb}
 use borrow.Author.Tests.{eqb-true, eqb-false}
 use Rattle.std.specs.Prelude.{Ok, Err}
 use Rattle.shared.specs.declared.Next.TheVariants.{Stay}
 use Rattle.refusals.specs.declared.Refusal.TheVariants as refusal
 use Rattle.lane.specs.Answers.{Reply}
+use Rattle.lane.specs.Step.{new_lane}
 use Rattle.commands.specs.declared.Command.{Command}
 use Rattle.commands.specs.declared.Command.TheVariants.{End, Open, Begin, Step, Unknown, Short, Close}
 use Rattle.commands.specs.Command.{size_of}
 use Rattle.commands.specs.Stream.{whole}
 use Rattle.calls.specs.Turn.{Called, unchanged, called, waits}
-use Rattle.calls.proofs.Orderly.{waits_whole, only_end}
+use Rattle.calls.specs.Orderly.{waits_whole, only_end}
 use Rattle.addressed.specs.Addressed.{addressed_of, antenna_of, addressed_size}
 use Rattle.addressed.proofs.Laws.{size_fits, addressed_more, antenna_more, some_there, none_there}
 use Rattle.among.specs.Among.{antennas, called_among, Lanes, put_at, lane_at, answer_to, after_call}
 use Rattle.stream.specs.Machine.{Settled, Orderly}
 use Rattle.stream.proofs.Taken.{settles, some_left}
 use Rattle.sixteen.specs.Sixteen.{is_heard_of, spoken_text, machine}
-use Rattle.sixteen.proofs.Rows.{put_own}
+
+-- a lane put back where it was
+pub put_own : (all : Lanes) (i : ℕ) → put_at all i (lane_at all i) ≡ all
+put_own all i = simp (set-get_or all.0 i new_lane, set-get_or all.1 i [], set-get_or all.2 i [])
 
 -- what is no command changes nothing
 stays_put : (all : Lanes) (i : ℕ) (r : Reply) (b : Bool) → (let c : Called = cond {A = Called} b (unchanged r (lane_at all i)) (unchanged r (lane_at all i)) in cond b (put_at all i (c.0.lane, c.1, c.2)) all) ≡ all

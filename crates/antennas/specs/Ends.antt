@@ -3,11 +3,6 @@ use Rattle.std.specs.Prelude.{Bool}
 use Rattle.among.specs.Among.{Lanes}
 use Rattle.input.specs.Passes.{Runs}
 use Rattle.sixteen.specs.Sixteen.{machine, at_first}
-use Rattle.antennas.specs.declared.Antennas.{Antennas}
-
--- the lanes with their buffers
-abbrev pub state_of : Antennas → Lanes
-state_of a = (a.lanes, a.ook, a.fsk)
 
 -- after the last pass: some lanes are left, with their buffers
 pub record Ends (whole : Bool) : Type 0 where

@@ -3,11 +3,6 @@ use Rattle.std.specs.Prelude.{Bool}
 use Rattle.calls.specs.Turn.{State}
 use Rattle.calls.specs.Stream.{machine, at_first}
 use Rattle.input.specs.Passes.{Runs}
-use Rattle.listing.specs.declared.Channel.{Channel}
-
--- the lane with its buffers
-abbrev pub state_of : Channel → State
-state_of c = (c.lane, c.ook, c.fsk)
 
 -- after the last pass: some lane is left, with its buffers
 pub record Ends (whole : Bool) : Type 0 where
