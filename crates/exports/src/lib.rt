@@ -34,7 +34,7 @@ fn single_at(x: u64) -> f32
 fn bits_of(x: f32) -> u64
     ensures { result ≡ to_bits binary32 x }
 {
-    ieee::bits_of_f32(x) as u64
+    u64::from(ieee::bits_of_f32(x))
 }
 
 // The leaves of f32 operands, by number.
@@ -61,13 +61,13 @@ fn of_doubles(op: u32, a: f64, b: f64) -> u64
     match op {
         0 => ieee::bits_of_f64(ieee::round(a)),
         1 => bits_of(ieee::narrow(a)),
-        2 => std::num::saturating_f64_to_u32(a) as u64,
+        2 => u64::from(std::num::saturating_f64_to_u32(a)),
         3 => std::num::saturating_f64_to_u64(a),
-        4 => arith::whole(a) as u64,
+        4 => u64::from(arith::whole(a)),
         5 => arith::step_of(a),
-        6 => arith::width(a, b).0 as u64,
-        7 => arith::fsk_width(a, b).0 as u64,
-        8 => arith::run_fix(a).0 as u64,
+        6 => u64::from(arith::width(a, b).0),
+        7 => u64::from(arith::fsk_width(a, b).0),
+        8 => u64::from(arith::run_fix(a).0),
         _ => 0,
     }
 }
@@ -79,7 +79,7 @@ fn of_numbers(op: u32, n: u64, frac: f64) -> u64
     match op {
         0 => bits_of(std::num::nearest_u32_to_f32(low(n))),
         1 => ieee::bits_of_f64(std::num::nearest_u64_to_f64(n)),
-        2 => arith::lead_len(low(n)) as u64,
+        2 => u64::from(arith::lead_len(low(n))),
         3 => ieee::bits_of_f64(arith::edge(n, frac)),
         _ => 0,
     }
@@ -88,6 +88,7 @@ fn of_numbers(op: u32, n: u64, frac: f64) -> u64
 // The leaf of the number op on operands by bit pattern; 0 where there is none. The upper digit of op, to the base 16, says what the
 // operands are: f32, f64 or a whole number.
 #[unsafe(no_mangle)]
+#[tactic(auto, unfolding(crate::specs::Leaf::leaf_of))]
 pub extern "C" fn leaf(op: u32, x: u64, y: u64, z: u64) -> u64
     ensures { result ≡ leaf_of op x y z }
 {
@@ -113,8 +114,7 @@ pub extern "C" fn lane_buffers(
 ) -> usize
     ensures { LeftWithin commands.now result ook.old fsk.old ook.new fsk.new text.new }
 {
-    let l = lane::new_lane();
-    let (_, r) = calls::block(l, commands, true, ook, fsk, text);
+    let (_, r) = calls::block(lane::new_lane(), commands, true, ook, fsk, text);
     r.used
 }
 
