@@ -29,12 +29,10 @@ pub fn time_of(v: arith::Fix64) -> f64
 pub fn last_rise(slots: &[u32]) -> usize
     ensures { (result ≡ last_rise slots.now) × (result ≤ length slots.now) }
 {
-    for i in (1..slots.len()).rev() {
-        if slots[i - 1] < slots[i] {
-            return i;
-        }
-    }
-    0
+    (1..slots.len())
+        .rev()
+        .find(|&i| slots[i - 1] < slots[i])
+        .unwrap_or(0)
 }
 
 // `step` over the transitions: a slot that is above the one before it ends a run, and its time is a transition.

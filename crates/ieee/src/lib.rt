@@ -105,8 +105,8 @@ fn narrow_fields(e: u64, t: u64) -> u32
     }
 }
 
-// convertFormat (5.4.2) to the narrower format, rounded to nearest, a tie to even. std's `nearest_f64_to_f32_with_nan` gives the same and takes
-// a third longer.
+// convertFormat (5.4.2) to the narrower format, rounded to nearest, a tie to even. std's `nearest_f64_to_f32_with_nan` gives the same; with it
+// a call of a listing takes 4 to 5 % more instructions.
 pub fn narrow(x: f64) -> f32
     ensures { result ≡ narrow_of x }
 {
@@ -115,8 +115,7 @@ pub fn narrow(x: f64) -> f32
     }
     let b = x.to_bits();
     let e = b % SIGN_64 / LEADING;
-    let t = b % LEADING;
-    let r = narrow_fields(e, t);
+    let r = narrow_fields(e, b % LEADING);
     if b < SIGN_64 {
         f32::from_bits(r)
     } else {
@@ -143,7 +142,7 @@ fn whole_fields(e: u64, t: u64) -> u64
 }
 
 // roundToIntegralTiesToAway (5.9): `libm::round`. A zero keeps x's sign (6.3). std's `f64::round` gives the same; with it the FSK widths of a
-// frame take a twelfth more instructions.
+// frame take 9 % more instructions.
 pub fn round(x: f64) -> f64
     ensures { result ≡ round_of x }
 {
