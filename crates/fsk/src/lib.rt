@@ -167,16 +167,16 @@ fn upper_run(max: u32, c: Committed, b: f64, fsk: &mut [u32]) -> Committed
 
 // The second slot of the pair, which is whole then.
 #[tactic(auto, unfolding(shared::specs::Counts::inc))]
-fn close_pair(c: Committed, b: f64, fsk: &mut [u32]) -> Committed
+pub fn close_pair(c: Committed, b: f64, fsk: &mut [u32]) -> Committed
     ensures { (result, fsk.new) ≡ close_pair_of c b fsk.old }
 {
     put_end(fsk, 2 * (c.fsk_n as usize) + 1, c.f_origin, b);
-    let n = c.fsk_n.wrapping_add(1);
-    let mut d = c;
-    d.fsk_n = n;
-    d.fsk_open = 0;
-    d.f_last = b;
-    d
+    Committed {
+        fsk_n: c.fsk_n.wrapping_add(1),
+        fsk_open: 0,
+        f_last: b,
+        ..c
+    }
 }
 
 #[tactic(auto, unfolding(crate::specs::Commit::lower_run_of))]
