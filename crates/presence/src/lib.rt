@@ -66,9 +66,10 @@ fn pres_thr(up: bool, noise: f32, factor: f32) -> f32
     ensures { result ≡ pres_thr_of up noise factor }
 {
     if up {
-        return noise * factor * 0.875;
+        noise * factor * 0.875
+    } else {
+        noise * factor * 1.125
     }
-    noise * factor * 1.125
 }
 
 // The run of the presence after a sample of this level.
@@ -97,13 +98,11 @@ fn move_pres(same: bool, short: bool, s: Pres, level: u32, c: Crossing) -> Pres
 
 // The carrier was away only for a glitch: the frequency run goes on through those samples.
 #[tactic(auto, unfolding(crate::specs::Move::extend_of, shared::specs::Counts::sat_add_of))]
-fn extend(fr: FrameCore, n: u32) -> FrameCore
+fn extend(mut fr: FrameCore, n: u32) -> FrameCore
     ensures { (cs : List Float) → whole_frame cs result ≡ extend_of (whole_frame cs fr) n }
 {
-    let k = fr.runs.run.run_len.saturating_add(n);
-    let mut q = fr;
-    q.runs.run.run_len = k;
-    q
+    fr.runs.run.run_len = fr.runs.run.run_len.saturating_add(n);
+    fr
 }
 
 // What the move of the presence does to the frame: an absence of n samples that was a glitch extends its run, and a presence that
@@ -276,26 +275,21 @@ fn end_carrier(
     p: Settings,
     a: Inputs,
     t_run: f64,
-    b: BodyCore,
+    mut b: BodyCore,
     ook: &mut [u32],
     fsk: &mut [u32],
 ) -> BodyCore
     ensures { (cs : List Float) → (whole_body cs result, ook.new, fsk.new) ≡ end_carrier_of p a t_run (whole_body cs b) ook.old fsk.old }
 {
-    let mut m = b;
-    m.frame.done.fsk_full = 1;
+    b.frame.done.fsk_full = 1;
     let end = arith::u64_to_f64(a.idx) + 1.0;
-    let pac = a.pac;
-    let n = frame_end::frame_done(p, m, a.high, pac, t_run, end, ook, fsk);
-    let t = n.train;
-    let o = n.out_ook;
-    let e = ook::end_train(t, a.high, o, ook);
-    let et = e.train;
-    let eo = e.out;
-    let mut k = n;
-    k.train = et;
-    k.out_ook = eo;
-    k
+    let n = frame_end::frame_done(p, b, a.high, a.pac, t_run, end, ook, fsk);
+    let e = ook::end_train(n.train, a.high, n.out_ook, ook);
+    BodyCore {
+        train: e.train,
+        out_ook: e.out,
+        ..n
+    }
 }
 
 #[tactic(auto, unfolding(crate::specs::Presence::carrier_if_of))]
