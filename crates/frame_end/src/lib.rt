@@ -97,6 +97,7 @@ fn close_pair(c: Committed, fsk: &mut [u32]) -> Committed
 }
 
 // The first n slots become widths; none where there are not so many. A test of the length, as in shared::put.
+#[tactic(auto, unfolding(crate::specs::End::widths_in_of))]
 fn widths_in(fsk: &mut [u32], n: usize)
     ensures { fsk.new ≡ widths_in_of n fsk.old }
 {
