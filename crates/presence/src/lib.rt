@@ -263,10 +263,7 @@ fn end_if(
 fn long_of(on: bool, run: u32, long_steps: u32) -> bool
     ensures { result ≡ long_of on run long_steps }
 {
-    if on {
-        return run > long_steps;
-    }
-    false
+    on && run > long_steps
 }
 
 // A carrier: the frame so far is kept, cut, and the train ends too.
@@ -362,21 +359,13 @@ pub type SnappedCore = SnappedOf<CandCore>;
 
 // `begin_run` of the envelope, at a rise: a frame that presence has only just begun starts at the envelope's edge instead.
 #[tactic(auto, unfolding(crate::specs::Presence::snap_of))]
-pub fn snap(s: Pres, fr: FrameCore, tc: f64) -> SnappedCore
+pub fn snap(mut s: Pres, mut fr: FrameCore, tc: f64) -> SnappedCore
     ensures { (cs : List Float) → whole_snapped cs result ≡ snap_of s (whole_frame cs fr) tc }
 {
-    let near = near_start(
-        s.run.level,
-        fr.fsk_phase,
-        fr.done.fsk_runs,
-        tc - s.run.t_run,
-    );
-    if near {
-        let mut q = s;
-        q.run.t_run = tc;
-        let mut f = fr;
-        f.runs.run.t_run = tc;
-        return SnappedCore { pres: q, frame: f };
+    let lead = tc - s.run.t_run;
+    if near_start(s.run.level, fr.fsk_phase, fr.done.fsk_runs, lead) {
+        s.run.t_run = tc;
+        fr.runs.run.t_run = tc;
     }
     SnappedCore { pres: s, frame: fr }
 }
@@ -385,17 +374,5 @@ pub fn snap(s: Pres, fr: FrameCore, tc: f64) -> SnappedCore
 fn near_start(level: u32, phase: u32, runs: u32, lead: f64) -> bool
     ensures { result ≡ near_start_of level phase runs lead }
 {
-    let present = level == 1;
-    if present {
-        let first = phase == 0;
-        if first {
-            let none = runs == 0;
-            if none {
-                return in_window(lead);
-            }
-            return false;
-        }
-        return false;
-    }
-    false
+    level == 1 && phase == 0 && runs == 0 && in_window(lead)
 }
