@@ -138,8 +138,7 @@ fn slice_if(
     ensures { (whole_frame cs.new result, fsk.new) ≡ slice_if_of p a on (whole_frame cs.old fr) fsk.old }
 {
     if on {
-        let d = a.d;
-        return fsk_sample::fsk_sample(p, fr, a.high, d, a.e, a.idx, cs, fsk);
+        return fsk_sample::fsk_sample(p, fr, a.high, a.d, a.e, a.idx, cs, fsk);
     }
     fr
 }
@@ -213,11 +212,7 @@ const EDGE_WINDOW: f64 = 4.0;
 fn in_window(x: f64) -> bool
     ensures { result ≡ in_window_of x }
 {
-    let low = 0.0 <= x;
-    if low {
-        return x <= EDGE_WINDOW;
-    }
-    false
+    0.0 <= x && x <= EDGE_WINDOW
 }
 
 // Where the envelope fell right before, its edge tells the frame's end better than presence does.
@@ -334,16 +329,14 @@ pub fn presence(
 {
     let fr = b.frame;
     let l = advance(p, a, s, fr, cs, fsk);
-    let s1 = l.pres;
-    let r1 = s1.run;
-    let f1 = l.frame;
-    let mut b1 = b;
-    b1.frame = f1;
-    let due = r1.due(p.min_steps);
-    let ends = ends_of(due, l.on, r1.prev_len, p.min_steps);
-    let s2 = sure_if(due, s1);
-    let b2 = end_if(ends, p, a, r1, b1, ook, fsk);
-    carrier_if(p, a, l.on, s2, b2, ook, fsk)
+    let run = l.pres.run;
+    let mut body = b;
+    body.frame = l.frame;
+    let due = run.due(p.min_steps);
+    let ends = ends_of(due, l.on, run.prev_len, p.min_steps);
+    let sure = sure_if(due, l.pres);
+    let ended = end_if(ends, p, a, run, body, ook, fsk);
+    carrier_if(p, a, l.on, sure, ended, ook, fsk)
 }
 
 // The presence and the frame with their start.
