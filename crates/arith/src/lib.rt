@@ -18,15 +18,15 @@ pub use boundaries::{carried_at, width_by};
 // ---- units and types
 
 // Whole steps.
-#[derive(Clone, Copy)]
+#[derive(Clone, Copy, Default)]
 pub struct Steps(pub u32);
 
 // 64ths of a step.
-#[derive(Clone, Copy)]
+#[derive(Clone, Copy, Default)]
 pub struct Fix64(pub u32);
 
 // A complex sample: real and imaginary part.
-#[derive(Clone, Copy)]
+#[derive(Clone, Copy, Default)]
 pub struct C32 {
     pub re: f32,
     pub im: f32,
