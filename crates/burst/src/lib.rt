@@ -275,7 +275,7 @@ pub fn begin_burst(high: f32, t: f64, e: f32, b: BurstCore) -> BurstCore
     let v = b.env;
     let env = ook::begin_env(t, v);
     let t0 = b.train;
-    let train = ook::empty_train(t0);
+    let train = t0.emptied();
     let pac = C32 { re: 0.0, im: 0.0 };
     let absent = Run::start_run(t);
     let pres = Pres {

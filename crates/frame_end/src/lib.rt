@@ -5,7 +5,7 @@ ghost use Rattle.std.specs.Prelude.{◌≡◌, ◌+◌, ◌-◌, ◌*◌, ◌<�
 ghost use Rattle.frame_end.specs.End.{is_split_of, enough_runs_of, is_frame_of, last_run_of, close_pair_of, widths_in_of, carrier_of, out_of, end_frame_of};
 ghost use Rattle.frame_end.specs.Cut.{gap_at_of, keep_next_of, keep_before_of, start_kept_of, cut_train_of};
 ghost use Rattle.frame_end.specs.Done.{frame_done_of};
-ghost use Rattle.shared.specs.Core.{carrier_in, whole_out};
+ghost use Rattle.shared.specs.Core.{whole_out};
 ghost use Rattle.ook.specs.Core.{whole_ended};
 ghost use Rattle.fsk.specs.Core.{whole_frame};
 ghost use Rattle.frame_end.specs.Core.{whole_framed, whole_body};
@@ -13,7 +13,7 @@ ghost use Rattle.frame_end.specs.Core.{whole_framed, whole_body};
 use arith::C32;
 use fsk::{Cand, CandCore, Committed, FrameCore, FrameOf, Runs};
 use ook::{EndedCore, Train};
-use shared::{Flat, Out, OutCore, Settings};
+use shared::{Carrier, Out, OutCore, Settings};
 
 // Whether a presence was a frame, the frame, and the record of frames.
 #[derive(Clone, Copy)]
@@ -77,14 +77,14 @@ fn last_run(max: u32, phase: u32, r: Runs, c: Committed, end: f64, fsk: &mut [u3
 {
     let first = phase == 0;
     if first {
-        return fsk::fsk_commit(max, c, true, r.run.t_run, end, fsk);
+        return c.commit(max, true, r.run.t_run, end, fsk);
     }
     let upper = r.run.level == 1;
     let has = r.fsk_has_prev == 1;
     if has {
-        return fsk::fsk_commit(max, c, !upper, r.run.t_prev, end, fsk);
+        return c.commit(max, !upper, r.run.t_prev, end, fsk);
     }
-    fsk::fsk_commit(max, c, upper, r.run.t_run, end, fsk)
+    c.commit(max, upper, r.run.t_run, end, fsk)
 }
 
 #[tactic(auto, unfolding(crate::specs::End::close_pair_of, shared::specs::Counts::inc))]
@@ -113,20 +113,20 @@ fn widths_in(fsk: &mut [u32], n: usize)
 }
 
 #[tactic(auto, unfolding(crate::specs::End::carrier_of))]
-fn carrier_of(phase: u32, hi: f32, lo: f32, pac: C32) -> Flat
-    ensures { carrier_in result ≡ carrier_of phase hi lo pac }
+fn carrier_of(phase: u32, hi: f32, lo: f32, pac: C32) -> Carrier
+    ensures { result ≡ carrier_of phase hi lo pac }
 {
     let after = phase == 1;
     if after {
         let m = arith::midpoint(hi, lo);
-        return Flat::angle(m);
+        return Carrier::Angle(m);
     }
-    Flat::vector(pac.re, pac.im)
+    Carrier::Vector(pac.re, pac.im)
 }
 
 #[tactic(auto, unfolding(crate::specs::End::out_of))]
-fn out_of(start: f64, end: f64, c: Committed, high: f32, carrier: Flat) -> OutCore
-    ensures { whole_out result ≡ out_of start end c high (carrier_in carrier) }
+fn out_of(start: f64, end: f64, c: Committed, high: f32, carrier: Carrier) -> OutCore
+    ensures { whole_out result ≡ out_of start end c high carrier }
 {
     let i = arith::step_of(start);
     let e = arith::step_of(end);
@@ -250,7 +250,7 @@ pub fn cut_train(t: Train, high: f32, out: OutCore, start: f64, ook: &mut [u32])
     let k = keep_before(ook, t.ook_n, total, t.start, start - 2.0);
     let none = k.keep == 0;
     if none {
-        let z = ook::empty_train(t);
+        let z = t.emptied();
         return EndedCore { train: z, out };
     }
     let m = k.keep.saturating_sub(1);
@@ -258,7 +258,7 @@ pub fn cut_train(t: Train, high: f32, out: OutCore, start: f64, ook: &mut [u32])
     n.ook_n = m;
     n.open = 1;
     n.pulse_end = k.end;
-    ook::end_train(n, high, out, ook)
+    EndedCore { train: n, out }.end_train(high, ook)
 }
 
 #[tactic(auto, unfolding(crate::specs::Done::frame_done_of, shared::specs::Counts::sat_add_of))]

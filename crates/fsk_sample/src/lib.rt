@@ -168,8 +168,7 @@ fn far_from(f: f32, f_ref: f32, delta: f32) -> bool
 fn seek_frame(fr: FrameCore, t: Tone, mean: Mean, c: CandCore, e: Early) -> FrameCore
     ensures { (old cs : List Float) → whole_frame cs result ≡ seek_frame_of (whole_frame old fr) t mean (whole_cand cs c) e }
 {
-    let r0 = fr.runs;
-    let runs = fsk::lengthen(r0);
+    let runs = fr.runs.lengthen();
     let mut n = fr;
     n.tone = t;
     n.runs = runs;
@@ -260,7 +259,7 @@ fn track(p: Settings, m: u32, fr: FrameCore, t: Tone, idx: u64, fsk: &mut [u32])
     let l0 = fr.levels;
     let d0 = fr.done;
     let up = r0.run.level == 1;
-    let thr = fsk::slice_thr(up, l0.f_hi, l0.f_lo);
+    let thr = l0.slice_thr(up);
     let upper = run::is_high(up, f, thr);
     let l = follow(upper, l0, f);
     let c = Crossing {

@@ -12,7 +12,7 @@ ghost use Rattle.presence.specs.Core.{whole_advanced, whole_present, whole_snapp
 use arith::C32;
 use frame_end::{BodyCore, BodyOf};
 use fsk::{Cand, CandCore, FrameCore, FrameOf};
-use run::{Crossing, Run};
+use run::{Crossing, Move, Run};
 use shared::{Next, Out, OutCore, Settings};
 
 // The run of the presence, which is high while the envelope is above the trigger, and the trigger as a factor of the noise.
@@ -72,27 +72,17 @@ fn pres_thr(up: bool, noise: f32, factor: f32) -> f32
 }
 
 // The run of the presence after a sample of this level.
-#[tactic(auto, unfolding(crate::specs::Move::move_pres_of, run::specs::Run::moved_of))]
-fn move_pres(same: bool, short: bool, s: Pres, level: u32, c: Crossing) -> Pres
-    ensures { result ≡ move_pres_of same short s level (edge_at c) }
+#[tactic(auto, unfolding(crate::specs::Move::move_pres_of))]
+fn move_pres(m: Move, s: Pres, level: u32, c: Crossing) -> Pres
+    ensures { result ≡ move_pres_of m s level (edge_at c) }
 {
     let r = s.run;
-    if same {
-        let n = r.lengthen();
-        let mut q = s;
-        q.run = n;
-        return q;
-    }
-    if short {
-        let n = r.rejoin(level);
-        let mut q = s;
-        q.run = n;
-        return q;
-    }
-    let n = r.begin_run(level, c.edge_at());
-    let mut q = s;
-    q.run = n;
-    q
+    let run = match m {
+        Move::Same => r.lengthen(),
+        Move::Glitch => r.rejoin(level),
+        Move::Begins => r.begin_run(level, c.edge_at()),
+    };
+    Pres { run, ..s }
 }
 
 // The carrier was away only for a glitch: the frequency run goes on through those samples.
@@ -108,23 +98,20 @@ fn extend(fr: FrameCore, n: u32) -> FrameCore
 
 // What the move of the presence does to the frame: an absence of n samples that was a glitch extends its run, and a presence that
 // begins begins a frame.
-#[tactic(auto, unfolding(crate::specs::Move::move_frame_of))]
-fn move_frame(same: bool, short: bool, on: bool, n: u32, c: Crossing, fr: FrameCore) -> FrameCore
-    ensures { (cs : List Float) → whole_frame cs result ≡ move_frame_of same short on n (edge_at c) (whole_frame cs fr) }
+fn move_frame(m: Move, on: bool, n: u32, c: Crossing, fr: FrameCore) -> FrameCore
+    ensures { (cs : List Float) → whole_frame cs result ≡ move_frame_of m on n (edge_at c) (whole_frame cs fr) }
 {
-    if same {
-        return fr;
-    }
-    if short {
-        if on {
-            return extend(fr, n);
+    match m {
+        Move::Same => fr,
+        Move::Glitch => { if on { extend(fr, n) } else { fr } }
+        Move::Begins => {
+            if on {
+                fsk::begin_frame(fr, c.edge_at())
+            } else {
+                fr
+            }
         }
-        return fr;
     }
-    if on {
-        return fsk::begin_frame(fr, c.edge_at());
-    }
-    fr
 }
 
 #[tactic(auto, unfolding(crate::specs::Presence::slice_if_of))]
@@ -168,10 +155,9 @@ fn advance(
         at: a.e,
         thr,
     };
-    let same = level == r.level;
-    let short = r.confirmed == 0;
-    let q = move_pres(same, short, s, level, c);
-    let f = move_frame(same, short, on, r.run_len, c, fr);
+    let m = r.meets(level);
+    let q = move_pres(m, s, level, c);
+    let f = move_frame(m, on, r.run_len, c, fr);
     let g = slice_if(p, a, on, f, cs, fsk);
     AdvancedCore {
         on,
@@ -289,7 +275,7 @@ fn end_carrier(
     let n = frame_end::frame_done(p, m, a.high, pac, t_run, end, ook, fsk);
     let t = n.train;
     let o = n.out_ook;
-    let e = ook::end_train(t, a.high, o, ook);
+    let e = ook::EndedCore { train: t, out: o }.end_train(a.high, ook);
     let et = e.train;
     let eo = e.out;
     let mut k = n;
