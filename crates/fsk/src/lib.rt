@@ -28,8 +28,8 @@ pub struct Mean {
     pub fsk_cnt: u32,
 }
 
-// The candidates of the first transition, and the frequency before the first of them.
-#[derive(Clone, Copy)]
+// The candidates of the first transition, and the frequency before the first of them. The count fsk_cand is a lane's number, as in shared::Settings.
+#[derive(Clone, Copy, Default)]
 pub struct Cand {
     pub cand_f: [f32; 8],
     pub cand_before: f32,
@@ -44,7 +44,7 @@ pub struct CandCore {
     pub fsk_cand: u32,
 }
 
-// Flags in the structs below are numbers, as in shared::Settings.
+// Flags and counts in the structs below are numbers, as in shared::Settings.
 
 // The mean before the last restart of the first level, its time, and whether there was one.
 #[derive(Clone, Copy, Default)]
@@ -62,14 +62,14 @@ pub struct Levels {
 }
 
 // The frequency run under way, and 1 where the run before it waits for this one to count: only then is it committed.
-#[derive(Clone, Copy)]
+#[derive(Clone, Copy, Default)]
 pub struct Runs {
     pub run: Run,
     pub fsk_has_prev: u32,
 }
 
 // The committed frequency runs of a frame: the slots hold their ends, in 64ths of a step after f_origin.
-#[derive(Clone, Copy)]
+#[derive(Clone, Copy, Default)]
 pub struct Committed {
     pub f_origin: f64,
     pub f_last: f64,
@@ -80,7 +80,7 @@ pub struct Committed {
 }
 
 // The frame under way, a caller's or the core's (ook::EndedOf); fsk_phase is 0 before its first transition, and 1 after.
-#[derive(Clone, Copy)]
+#[derive(Clone, Copy, Default)]
 pub struct FrameOf<C> {
     pub tone: Tone,
     pub fsk_phase: u32,

@@ -17,7 +17,7 @@ use shared::{Carrier, Next, Out, OutCore, Settings};
 // ---- what the run and the train are
 
 // The run of the envelope (flags are numbers, as in shared::Settings), whose edge t_run is refined once the run is long enough, and what that needs.
-#[derive(Clone, Copy)]
+#[derive(Clone, Copy, Default)]
 pub struct Env {
     pub run: Run,
     // The edges of the run and of the one before as the envelope crossed: by them a train starts and ends, refined or not.
@@ -28,7 +28,7 @@ pub struct Env {
     pub ref_pending: u32,
 }
 
-// The train of the pulses so far (flags are numbers, as in shared::Settings); origin is the first pulse's edge, bound the last boundary in 64ths of a step after it.
+// The train of the pulses so far (flags and counts are numbers, as in shared::Settings); origin is the first pulse's edge, bound the last boundary in 64ths of a step after it.
 #[derive(Clone, Copy, Default)]
 pub struct Train {
     pub start: u64,

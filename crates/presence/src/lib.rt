@@ -16,7 +16,7 @@ use run::{Crossing, Move, Run};
 use shared::{Next, Out, OutCore, Settings};
 
 // The run of the presence, which is high while the envelope is above the trigger, and the trigger as a factor of the noise.
-#[derive(Clone, Copy)]
+#[derive(Clone, Copy, Default)]
 pub struct Pres {
     pub run: Run,
     pub p_factor: f32,

@@ -8,7 +8,7 @@ ghost use Rattle.run.specs.Run.{edge_at, is_high_of, meets_of, begins_of, length
 // A run under way (flags are numbers, as in shared::Settings), with what a glitch needs to go back to the run before. The Rust has these six for each of the three, as
 // level, run_len, confirmed, prev_len, t_run, t_prev (envelope), p_level, p_run, p_confirmed, p_prev, p_t_run, p_t_prev (presence) and
 // fsk_level, fsk_run, fsk_confirmed, fsk_prev, ft_run, ft_prev (frequency).
-#[derive(Clone, Copy)]
+#[derive(Clone, Copy, Default)]
 pub struct Run {
     // 1 where the run is high, 0 where it is low.
     pub level: u32,

@@ -2,6 +2,7 @@
 #![tactic(auto)]
 
 ghost use Rattle.std.specs.Prelude.{◌≡◌, ◌+◌, ◌-◌, ◌<◌, slice_set};
+ghost use Rattle.ieee.specs.Constants.{zero32};
 ghost use Rattle.shared.specs.Answers.{next_number_of, next_envelope_of, is_stay_of, carrier_kind_of, carrier_first_of, carrier_second_of};
 ghost use Rattle.shared.specs.Core.{whole_out, numbered};
 ghost use Rattle.shared.specs.declared.Carrier.TheVariants as Carrier;
@@ -11,7 +12,7 @@ ghost use Rattle.shared.specs.Params.{fsk_min_of, refine_at_of};
 
 // mode: 0 OOK, 1 FSK, 2 Auto. carry: 1 where widths are taken by boundaries. Numbers, here and in the structs of a lane: what a caller
 // hands in may hold any number, and refusal 3 or 4 names one that is none of these; a bool or an enum would ask more of the caller.
-#[derive(Clone, Copy)]
+#[derive(Clone, Copy, Default)]
 pub struct Settings {
     pub mode: u32,
     pub min_steps: u32,
@@ -43,7 +44,7 @@ pub enum Carrier {
 
 // The record of a train or a frame; state is 1 where it decides one, cut is 0 or 1, fsk is its kind. The serial
 // is that of the call that returned it; 0, in a record of no call, matches no lane.
-#[derive(Clone, Copy)]
+#[derive(Clone, Copy, Default)]
 pub struct Out {
     pub index: u64,
     pub end: u64,
@@ -108,6 +109,14 @@ impl Next {
         ensures { result ≡ is_stay_of self }
     {
         matches!(self, Next::Stay)
+    }
+}
+
+impl Default for Carrier {
+    ghost is_default = { λ c. c ≡ Carrier.Angle zero32 };
+
+    fn default() -> Carrier {
+        Carrier::Angle(0.0)
     }
 }
 
