@@ -12,11 +12,12 @@ ghost use Rattle.presence.specs.Core.{whole_advanced, whole_present, whole_snapp
 use arith::C32;
 use frame_end::{BodyCore, BodyOf};
 use fsk::{Cand, CandCore, FrameCore, FrameOf};
-use run::{Crossing, Run};
+use ook::EndedCore;
+use run::{Crossing, Move, Run};
 use shared::{Next, Out, OutCore, Settings};
 
 // The run of the presence, which is high while the envelope is above the trigger, and the trigger as a factor of the noise.
-#[derive(Clone, Copy)]
+#[derive(Clone, Copy, Default)]
 pub struct Pres {
     pub run: Run,
     pub p_factor: f32,
@@ -73,27 +74,17 @@ fn pres_thr(up: bool, noise: f32, factor: f32) -> f32
 }
 
 // The run of the presence after a sample of this level.
-#[tactic(auto, unfolding(crate::specs::Move::move_pres_of, run::specs::Run::moved_of))]
-fn move_pres(same: bool, short: bool, s: Pres, level: u32, c: Crossing) -> Pres
-    ensures { result ≡ move_pres_of same short s level (edge_at c) }
+#[tactic(auto, unfolding(crate::specs::Move::move_pres_of))]
+fn move_pres(m: Move, s: Pres, level: u32, c: Crossing) -> Pres
+    ensures { result ≡ move_pres_of m s level (edge_at c) }
 {
     let r = s.run;
-    if same {
-        let n = r.lengthen();
-        let mut q = s;
-        q.run = n;
-        return q;
-    }
-    if short {
-        let n = r.rejoin(level);
-        let mut q = s;
-        q.run = n;
-        return q;
-    }
-    let n = r.begin_run(level, c.edge_at());
-    let mut q = s;
-    q.run = n;
-    q
+    let run = match m {
+        Move::Same => r.lengthen(),
+        Move::Glitch => r.rejoin(level),
+        Move::Begins => r.begin_run(level, c.edge_at()),
+    };
+    Pres { run, ..s }
 }
 
 // The carrier was away only for a glitch: the frequency run goes on through those samples.
@@ -107,23 +98,20 @@ fn extend(mut fr: FrameCore, n: u32) -> FrameCore
 
 // What the move of the presence does to the frame: an absence of n samples that was a glitch extends its run, and a presence that
 // begins begins a frame.
-#[tactic(auto, unfolding(crate::specs::Move::move_frame_of))]
-fn move_frame(same: bool, short: bool, on: bool, n: u32, c: Crossing, fr: FrameCore) -> FrameCore
-    ensures { (cs : List Float) → whole_frame cs result ≡ move_frame_of same short on n (edge_at c) (whole_frame cs fr) }
+fn move_frame(m: Move, on: bool, n: u32, c: Crossing, fr: FrameCore) -> FrameCore
+    ensures { (cs : List Float) → whole_frame cs result ≡ move_frame_of m on n (edge_at c) (whole_frame cs fr) }
 {
-    if same {
-        return fr;
-    }
-    if short {
-        if on {
-            return extend(fr, n);
+    match m {
+        Move::Same => fr,
+        Move::Glitch => { if on { extend(fr, n) } else { fr } }
+        Move::Begins => {
+            if on {
+                fsk::begin_frame(fr, c.edge_at())
+            } else {
+                fr
+            }
         }
-        return fr;
     }
-    if on {
-        return fsk::begin_frame(fr, c.edge_at());
-    }
-    fr
 }
 
 #[tactic(auto, unfolding(crate::specs::Presence::slice_if_of))]
@@ -166,28 +154,21 @@ fn advance(
         at: a.e,
         thr,
     };
-    let same = level == r.level;
-    let short = r.confirmed == 0;
-    let q = move_pres(same, short, s, level, c);
-    let f = move_frame(same, short, on, r.run_len, c, fr);
-    let g = slice_if(p, a, on, f, cs, fsk);
-    AdvancedCore {
-        on,
-        pres: q,
-        frame: g,
-    }
+    let m = r.meets(level);
+    let pres = move_pres(m, s, level, c);
+    let moved = move_frame(m, on, r.run_len, c, fr);
+    let frame = slice_if(p, a, on, moved, cs, fsk);
+    AdvancedCore { on, pres, frame }
 }
 
 #[tactic(auto, unfolding(crate::specs::Presence::sure_if_of))]
 fn sure_if(due: bool, s: Pres) -> Pres
     ensures { result ≡ sure_if_of due s }
 {
-    if due {
-        let mut q = s;
-        q.run.confirmed = 1;
-        return q;
+    Pres {
+        run: s.run.confirm_if(due),
+        ..s
     }
-    s
 }
 
 #[tactic(auto, unfolding(crate::specs::Presence::ends_of))]
@@ -276,7 +257,11 @@ fn end_carrier(
     b.frame.done.fsk_full = 1;
     let end = arith::u64_to_f64(a.idx) + 1.0;
     let n = frame_end::frame_done(p, b, a.high, a.pac, t_run, end, ook, fsk);
-    let e = ook::end_train(n.train, a.high, n.out_ook, ook);
+    let kept = EndedCore {
+        train: n.train,
+        out: n.out_ook,
+    };
+    let e = kept.end_train(a.high, ook);
     BodyCore {
         train: e.train,
         out_ook: e.out,
