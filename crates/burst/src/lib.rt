@@ -22,7 +22,7 @@ use run::Run;
 use shared::{Next, Out, OutCore, Settings};
 
 // The burst under way; what an earlier burst left stands in it too.
-#[derive(Clone, Copy)]
+#[derive(Clone, Copy, Default)]
 pub struct BurstOf<C, O> {
     pub high: f32,
     pub e_prev: f32,
@@ -40,8 +40,8 @@ pub type Burst = BurstOf<Cand, Out>;
 
 pub type BurstCore = BurstOf<CandCore, OutCore>;
 
-// The lead-in: its samples wait until there are lead_len of them; lead_x[0] is the sample before.
-#[derive(Clone, Copy)]
+// The lead-in: its samples wait until there are lead_len of them; lead_x[0] is the sample before. The count lead_n is a lane's number, as in shared::Settings.
+#[derive(Clone, Copy, Default)]
 pub struct Lead {
     pub lead_at: u64,
     pub lead_n: u32,
@@ -248,7 +248,7 @@ pub fn begin_burst(high: f32, t: f64, e: f32, b: BurstCore) -> BurstCore
         e_prev: e,
         env: ook::begin_env(t, b.env),
         pac: C32::default(),
-        train: ook::empty_train(b.train),
+        train: b.train.emptied(),
         frames: 0,
         pres: Pres {
             run: Run::start_run(t),

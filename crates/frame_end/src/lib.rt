@@ -5,7 +5,7 @@ ghost use Rattle.std.specs.Prelude.{◌≡◌, ◌+◌, ◌-◌, ◌*◌, ◌<�
 ghost use Rattle.frame_end.specs.End.{is_split_of, enough_runs_of, is_frame_of, last_run_of, close_pair_of, widths_in_of, carrier_of, out_of, end_frame_of};
 ghost use Rattle.frame_end.specs.Cut.{gap_at_of, keep_next_of, keep_before_of, start_kept_of, cut_train_of};
 ghost use Rattle.frame_end.specs.Done.{frame_done_of};
-ghost use Rattle.shared.specs.Core.{carrier_in, whole_out};
+ghost use Rattle.shared.specs.Core.{whole_out};
 ghost use Rattle.ook.specs.Core.{whole_ended};
 ghost use Rattle.fsk.specs.Core.{whole_frame};
 ghost use Rattle.frame_end.specs.Core.{whole_framed, whole_body};
@@ -13,7 +13,7 @@ ghost use Rattle.frame_end.specs.Core.{whole_framed, whole_body};
 use arith::C32;
 use fsk::{Cand, CandCore, Committed, FrameCore, FrameOf, Levels, Runs};
 use ook::{EndedCore, Train};
-use shared::{Flat, Out, OutCore, Settings};
+use shared::{Carrier, Out, OutCore, Settings};
 
 // Whether a presence was a frame, the frame, and the record of frames.
 #[derive(Clone, Copy)]
@@ -77,11 +77,11 @@ fn last_run(max: u32, phase: u32, r: Runs, c: Committed, end: f64, fsk: &mut [u3
 {
     let upper = r.run.level == 1;
     if phase == 0 {
-        fsk::fsk_commit(max, c, true, r.run.t_run, end, fsk)
+        c.commit(max, true, r.run.t_run, end, fsk)
     } else if r.fsk_has_prev == 1 {
-        fsk::fsk_commit(max, c, !upper, r.run.t_prev, end, fsk)
+        c.commit(max, !upper, r.run.t_prev, end, fsk)
     } else {
-        fsk::fsk_commit(max, c, upper, r.run.t_run, end, fsk)
+        c.commit(max, upper, r.run.t_run, end, fsk)
     }
 }
 
@@ -90,13 +90,14 @@ fn close_pair(c: Committed, fsk: &mut [u32]) -> Committed
     ensures { (result, fsk.new) ≡ close_pair_of c fsk.old }
 {
     if c.fsk_open == 1 {
-        fsk::close_pair(c, c.f_last, fsk)
+        c.close_pair(c.f_last, fsk)
     } else {
         c
     }
 }
 
 // The first n slots become widths; none where there are not so many. A test of the length, as in shared::put.
+#[tactic(auto, unfolding(crate::specs::End::widths_in_of))]
 fn widths_in(fsk: &mut [u32], n: usize)
     ensures { fsk.new ≡ widths_in_of n fsk.old }
 {
@@ -106,19 +107,19 @@ fn widths_in(fsk: &mut [u32], n: usize)
 }
 
 #[tactic(auto, unfolding(crate::specs::End::carrier_of))]
-fn carrier_of(phase: u32, l: Levels, pac: C32) -> Flat
-    ensures { carrier_in result ≡ carrier_of phase l.f_hi l.f_lo pac }
+fn carrier_of(phase: u32, l: Levels, pac: C32) -> Carrier
+    ensures { result ≡ carrier_of phase l.f_hi l.f_lo pac }
 {
     if phase == 1 {
-        Flat::angle(arith::midpoint(l.f_hi, l.f_lo))
+        Carrier::Angle(arith::midpoint(l.f_hi, l.f_lo))
     } else {
-        Flat::vector(pac.re, pac.im)
+        Carrier::Vector(pac.re, pac.im)
     }
 }
 
 #[tactic(auto, unfolding(crate::specs::End::out_of))]
-fn out_of(start: f64, end: f64, c: Committed, high: f32, carrier: Flat) -> OutCore
-    ensures { whole_out result ≡ out_of start end c high (carrier_in carrier) }
+fn out_of(start: f64, end: f64, c: Committed, high: f32, carrier: Carrier) -> OutCore
+    ensures { whole_out result ≡ out_of start end c high carrier }
 {
     OutCore {
         index: arith::step_of(start),
@@ -231,7 +232,7 @@ pub fn cut_train(t: Train, high: f32, out: OutCore, start: f64, ook: &mut [u32])
     let k = keep_before(ook, t.ook_n, total, t.start, start - 2.0);
     if k.keep == 0 {
         return EndedCore {
-            train: ook::empty_train(t),
+            train: t.emptied(),
             out,
         };
     }
@@ -241,7 +242,7 @@ pub fn cut_train(t: Train, high: f32, out: OutCore, start: f64, ook: &mut [u32])
         pulse_end: k.end,
         ..t
     };
-    ook::end_train(kept, high, out, ook)
+    EndedCore { train: kept, out }.end_train(high, ook)
 }
 
 #[tactic(auto, unfolding(crate::specs::Done::frame_done_of, shared::specs::Counts::sat_add_of))]

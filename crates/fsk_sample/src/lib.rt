@@ -160,7 +160,7 @@ fn seek_frame(fr: FrameCore, t: Tone, mean: Mean, c: CandCore, e: Early) -> Fram
         mean,
         cand: c,
         early: e,
-        runs: fsk::lengthen(fr.runs),
+        runs: fr.runs.lengthen(),
         ..fr
     }
 }
@@ -231,7 +231,7 @@ fn track(p: Settings, m: u32, fr: FrameCore, t: Tone, idx: u64, fsk: &mut [u32])
     ensures { (cs : List Float) → (whole_frame cs result, fsk.new) ≡ track_of p m (whole_frame cs fr) t idx fsk.old }
 {
     let up = fr.runs.run.level == 1;
-    let thr = fsk::slice_thr(up, fr.levels.f_hi, fr.levels.f_lo);
+    let thr = fr.levels.slice_thr(up);
     let upper = run::is_high(up, t.f_prev, thr);
     let c = Crossing {
         idx,

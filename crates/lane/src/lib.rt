@@ -22,7 +22,7 @@ use ook::{Env, Train};
 use presence::Pres;
 use refusals::Refusal;
 use run::Run;
-use shared::{Carrier, Flat, Next, Out, OutCore, Settings};
+use shared::{Carrier, Next, Out, OutCore, Settings};
 
 // The seven envelopes before begin's, nearest first.
 #[derive(Clone, Copy)]
@@ -517,7 +517,6 @@ pub fn begin(l: Lane, b: BeginArgs, ook: &[u32], fsk: &[u32]) -> Answer
 pub fn no_core_out() -> OutCore
     ensures { whole_out result ≡ no_out }
 {
-    let carrier = Flat::angle(0.0);
     OutCore {
         index: 0,
         end: 0,
@@ -526,7 +525,7 @@ pub fn no_core_out() -> OutCore
         pairs: 0,
         level: 0.0,
         fsk: 0,
-        carrier,
+        carrier: Carrier::Angle(0.0),
     }
 }
 
@@ -536,7 +535,11 @@ fn end_burst(b: Burst, serial: u64, ook: &mut [u32]) -> Burst
 {
     let t = b.train;
     let none = no_core_out();
-    let e = ook::end_train(t, b.high, none, ook);
+    let e = ook::EndedCore {
+        train: t,
+        out: none,
+    }
+    .end_train(b.high, ook);
     let train = e.train;
     let o = e.out;
     let out = shared::whole_out(o, serial);

@@ -12,11 +12,12 @@ ghost use Rattle.presence.specs.Core.{whole_advanced, whole_present, whole_snapp
 use arith::C32;
 use frame_end::{BodyCore, BodyOf};
 use fsk::{Cand, CandCore, FrameCore, FrameOf};
-use run::{Crossing, Run};
+use ook::EndedCore;
+use run::{Crossing, Move, Run};
 use shared::{Next, Out, OutCore, Settings};
 
 // The run of the presence, which is high while the envelope is above the trigger, and the trigger as a factor of the noise.
-#[derive(Clone, Copy)]
+#[derive(Clone, Copy, Default)]
 pub struct Pres {
     pub run: Run,
     pub p_factor: f32,
@@ -73,27 +74,17 @@ fn pres_thr(up: bool, noise: f32, factor: f32) -> f32
 }
 
 // The run of the presence after a sample of this level.
-#[tactic(auto, unfolding(crate::specs::Move::move_pres_of, run::specs::Run::moved_of))]
-fn move_pres(same: bool, short: bool, s: Pres, level: u32, c: Crossing) -> Pres
-    ensures { result ≡ move_pres_of same short s level (edge_at c) }
+#[tactic(auto, unfolding(crate::specs::Move::move_pres_of))]
+fn move_pres(m: Move, s: Pres, level: u32, c: Crossing) -> Pres
+    ensures { result ≡ move_pres_of m s level (edge_at c) }
 {
     let r = s.run;
-    if same {
-        let n = r.lengthen();
-        let mut q = s;
-        q.run = n;
-        return q;
-    }
-    if short {
-        let n = r.rejoin(level);
-        let mut q = s;
-        q.run = n;
-        return q;
-    }
-    let n = r.begin_run(level, c.edge_at());
-    let mut q = s;
-    q.run = n;
-    q
+    let run = match m {
+        Move::Same => r.lengthen(),
+        Move::Glitch => r.rejoin(level),
+        Move::Begins => r.begin_run(level, c.edge_at()),
+    };
+    Pres { run, ..s }
 }
 
 // The carrier was away only for a glitch: the frequency run goes on through those samples.
@@ -107,23 +98,20 @@ fn extend(mut fr: FrameCore, n: u32) -> FrameCore
 
 // What the move of the presence does to the frame: an absence of n samples that was a glitch extends its run, and a presence that
 // begins begins a frame.
-#[tactic(auto, unfolding(crate::specs::Move::move_frame_of))]
-fn move_frame(same: bool, short: bool, on: bool, n: u32, c: Crossing, fr: FrameCore) -> FrameCore
-    ensures { (cs : List Float) → whole_frame cs result ≡ move_frame_of same short on n (edge_at c) (whole_frame cs fr) }
+fn move_frame(m: Move, on: bool, n: u32, c: Crossing, fr: FrameCore) -> FrameCore
+    ensures { (cs : List Float) → whole_frame cs result ≡ move_frame_of m on n (edge_at c) (whole_frame cs fr) }
 {
-    if same {
-        return fr;
-    }
-    if short {
-        if on {
-            return extend(fr, n);
+    match m {
+        Move::Same => fr,
+        Move::Glitch => { if on { extend(fr, n) } else { fr } }
+        Move::Begins => {
+            if on {
+                fsk::begin_frame(fr, c.edge_at())
+            } else {
+                fr
+            }
         }
-        return fr;
     }
-    if on {
-        return fsk::begin_frame(fr, c.edge_at());
-    }
-    fr
 }
 
 #[tactic(auto, unfolding(crate::specs::Presence::slice_if_of))]
@@ -138,8 +126,7 @@ fn slice_if(
     ensures { (whole_frame cs.new result, fsk.new) ≡ slice_if_of p a on (whole_frame cs.old fr) fsk.old }
 {
     if on {
-        let d = a.d;
-        return fsk_sample::fsk_sample(p, fr, a.high, d, a.e, a.idx, cs, fsk);
+        return fsk_sample::fsk_sample(p, fr, a.high, a.d, a.e, a.idx, cs, fsk);
     }
     fr
 }
@@ -167,28 +154,21 @@ fn advance(
         at: a.e,
         thr,
     };
-    let same = level == r.level;
-    let short = r.confirmed == 0;
-    let q = move_pres(same, short, s, level, c);
-    let f = move_frame(same, short, on, r.run_len, c, fr);
-    let g = slice_if(p, a, on, f, cs, fsk);
-    AdvancedCore {
-        on,
-        pres: q,
-        frame: g,
-    }
+    let m = r.meets(level);
+    let pres = move_pres(m, s, level, c);
+    let moved = move_frame(m, on, r.run_len, c, fr);
+    let frame = slice_if(p, a, on, moved, cs, fsk);
+    AdvancedCore { on, pres, frame }
 }
 
 #[tactic(auto, unfolding(crate::specs::Presence::sure_if_of))]
 fn sure_if(due: bool, s: Pres) -> Pres
     ensures { result ≡ sure_if_of due s }
 {
-    if due {
-        let mut q = s;
-        q.run.confirmed = 1;
-        return q;
+    Pres {
+        run: s.run.confirm_if(due),
+        ..s
     }
-    s
 }
 
 #[tactic(auto, unfolding(crate::specs::Presence::ends_of))]
@@ -213,11 +193,7 @@ const EDGE_WINDOW: f64 = 4.0;
 fn in_window(x: f64) -> bool
     ensures { result ≡ in_window_of x }
 {
-    let low = 0.0 <= x;
-    if low {
-        return x <= EDGE_WINDOW;
-    }
-    false
+    0.0 <= x && x <= EDGE_WINDOW
 }
 
 // Where the envelope fell right before, its edge tells the frame's end better than presence does.
@@ -263,10 +239,7 @@ fn end_if(
 fn long_of(on: bool, run: u32, long_steps: u32) -> bool
     ensures { result ≡ long_of on run long_steps }
 {
-    if on {
-        return run > long_steps;
-    }
-    false
+    on && run > long_steps
 }
 
 // A carrier: the frame so far is kept, cut, and the train ends too.
@@ -284,7 +257,11 @@ fn end_carrier(
     b.frame.done.fsk_full = 1;
     let end = std::num::nearest_u64_to_f64(a.idx) + 1.0;
     let n = frame_end::frame_done(p, b, a.high, a.pac, t_run, end, ook, fsk);
-    let e = ook::end_train(n.train, a.high, n.out_ook, ook);
+    let kept = EndedCore {
+        train: n.train,
+        out: n.out_ook,
+    };
+    let e = kept.end_train(a.high, ook);
     BodyCore {
         train: e.train,
         out_ook: e.out,
@@ -337,16 +314,14 @@ pub fn presence(
 {
     let fr = b.frame;
     let l = advance(p, a, s, fr, cs, fsk);
-    let s1 = l.pres;
-    let r1 = s1.run;
-    let f1 = l.frame;
-    let mut b1 = b;
-    b1.frame = f1;
-    let due = r1.due(p.min_steps);
-    let ends = ends_of(due, l.on, r1.prev_len, p.min_steps);
-    let s2 = sure_if(due, s1);
-    let b2 = end_if(ends, p, a, r1, b1, ook, fsk);
-    carrier_if(p, a, l.on, s2, b2, ook, fsk)
+    let run = l.pres.run;
+    let mut body = b;
+    body.frame = l.frame;
+    let due = run.due(p.min_steps);
+    let ends = ends_of(due, l.on, run.prev_len, p.min_steps);
+    let sure = sure_if(due, l.pres);
+    let ended = end_if(ends, p, a, run, body, ook, fsk);
+    carrier_if(p, a, l.on, sure, ended, ook, fsk)
 }
 
 // The presence and the frame with their start.
@@ -362,21 +337,13 @@ pub type SnappedCore = SnappedOf<CandCore>;
 
 // `begin_run` of the envelope, at a rise: a frame that presence has only just begun starts at the envelope's edge instead.
 #[tactic(auto, unfolding(crate::specs::Presence::snap_of))]
-pub fn snap(s: Pres, fr: FrameCore, tc: f64) -> SnappedCore
+pub fn snap(mut s: Pres, mut fr: FrameCore, tc: f64) -> SnappedCore
     ensures { (cs : List Float) → whole_snapped cs result ≡ snap_of s (whole_frame cs fr) tc }
 {
-    let near = near_start(
-        s.run.level,
-        fr.fsk_phase,
-        fr.done.fsk_runs,
-        tc - s.run.t_run,
-    );
-    if near {
-        let mut q = s;
-        q.run.t_run = tc;
-        let mut f = fr;
-        f.runs.run.t_run = tc;
-        return SnappedCore { pres: q, frame: f };
+    let lead = tc - s.run.t_run;
+    if near_start(s.run.level, fr.fsk_phase, fr.done.fsk_runs, lead) {
+        s.run.t_run = tc;
+        fr.runs.run.t_run = tc;
     }
     SnappedCore { pres: s, frame: fr }
 }
@@ -385,17 +352,5 @@ pub fn snap(s: Pres, fr: FrameCore, tc: f64) -> SnappedCore
 fn near_start(level: u32, phase: u32, runs: u32, lead: f64) -> bool
     ensures { result ≡ near_start_of level phase runs lead }
 {
-    let present = level == 1;
-    if present {
-        let first = phase == 0;
-        if first {
-            let none = runs == 0;
-            if none {
-                return in_window(lead);
-            }
-            return false;
-        }
-        return false;
-    }
-    false
+    level == 1 && phase == 0 && runs == 0 && in_window(lead)
 }

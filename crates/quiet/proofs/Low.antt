@@ -16,7 +16,7 @@ use Rattle.shared.specs.declared.Out.{Out}
 use Rattle.shared.specs.declared.Settings.{Settings}
 use Rattle.shared.specs.declared.Next.TheVariants.{Idle}
 use Rattle.shared.specs.Counts.{sat_add_of}
-use Rattle.run.specs.Run.{lengthen_of, rejoin_of, begin_run_of, moved_of, due_of}
+use Rattle.run.specs.Run.{move_of, lengthen_of, rejoin_of, begin_run_of, due_of}
 use Rattle.ook.specs.Run.{advance_of}
 use Rattle.domain.specs.Limits.{max_steps}
 use Rattle.refusals.proofs.Domain.{InDomain}
@@ -77,16 +77,16 @@ pub record Long (n : ℕ) (r : Run) : Type 0 where
 
 -- a sample's level, where n low ones are far fewer than a count can be
 pub long_after : (n : ℕ) (s : Env) (on : Bool) (t : Float) (i : ℕ) → n ≤ max_steps → Long n s.run → Long (lows_after n on) (run_after s on t i).run
-unfolding advance_of moved_of lengthen_of rejoin_of begin_run_of sat_add_of lows_after
+unfolding advance_of lengthen_of rejoin_of begin_run_of sat_add_of lows_after
 long_after n s true t i h L = go (eqb 1 s.run.level) (eqb s.run.confirmed 0) refl
   where
-    go : (a b : Bool) → eqb 1 s.run.level ≡ a → Long 0 (advance_of a b s true t i).run
+    go : (a b : Bool) → eqb 1 s.run.level ≡ a → Long 0 (advance_of (move_of a b) s true t i).run
     go true b q = record { flag = L.flag; low = λ e. omega arith; high = λ e. refl }
     go false true q = record { flag = omega arith; low = λ e. omega arith; high = λ e. refl }
     go false false q = record { flag = omega arith; low = λ e. omega arith; high = λ e. refl }
 long_after n s false t i h L = go (eqb 0 s.run.level) (eqb s.run.confirmed 0) refl
   where
-    go : (a b : Bool) → eqb 0 s.run.level ≡ a → Long (suc n) (advance_of a b s false t i).run
+    go : (a b : Bool) → eqb 0 s.run.level ≡ a → Long (suc n) (advance_of (move_of a b) s false t i).run
     go true b q = record { flag = L.flag; low = λ e. omega (arith, L.low e, h); high = λ e. absurd (e (sym (eqb-true 0 s.run.level q))) }
     go false true q = let z : n ≡ 0 = L.high (λ e. eqb-false 0 s.run.level q (sym e)) in record { flag = omega arith; low = λ e. omega (arith, z); high = λ e. absurd (e refl) }
     go false false q = let z : n ≡ 0 = L.high (λ e. eqb-false 0 s.run.level q (sym e)) in record { flag = omega arith; low = λ e. omega (arith, z); high = λ e. absurd (e refl) }

@@ -16,7 +16,7 @@ use Rattle.shared.specs.Counts.{sat_add_of}
 use Rattle.shared.specs.Params.{fsk_min_of}
 use Rattle.shared.proofs.Cases.{by_test}
 use Rattle.shared.specs.declared.Settings.{Settings}
-use Rattle.run.specs.Run.{with_start, lengthen_of, rejoin_of, begin_run_of, moved_of, due_of}
+use Rattle.run.specs.Run.{with_start, move_of, meets_of, lengthen_of, rejoin_of, begin_run_of, due_of}
 use Rattle.run.specs.declared.Run.{Run}
 use Rattle.fsk.specs.Makers.{with_runs}
 use Rattle.fsk.specs.Makers as frames
@@ -62,8 +62,8 @@ record OffMoved (max least long : ℕ) (s : Pres) (fr : Frame) : Type 0 where
   absent : s.run.confirmed ≡ 0 → (s.run.prev_len ≤ long) × FrameWithin max least s.run.prev_len (2 * s.run.prev_len) fr
 
 module _ (max least long : ℕ) (small : long ≤ max_steps) (some : 0 < least) (s : Pres) (fr : Frame) (tc : Float) (h : Running max least long s fr) where
-  on_moved : (same short : Bool) → eqb 1 s.run.level ≡ same → eqb s.run.confirmed 0 ≡ short → OnMoved max least long (move_pres_of same short s 1 tc) (move_frame_of same short true s.run.run_len tc fr)
-  unfolding move_pres_of move_frame_of moved_of lengthen_of rejoin_of begin_run_of extend_of sat_add_of
+  on_moved : (same short : Bool) → eqb 1 s.run.level ≡ same → eqb s.run.confirmed 0 ≡ short → OnMoved max least long (move_pres_of (move_of same short) s 1 tc) (move_frame_of (move_of same short) true s.run.run_len tc fr)
+  unfolding move_pres_of lengthen_of rejoin_of begin_run_of extend_of sat_add_of
   on_moved true short q r =
       let one : s.run.level ≡ 1 = sym (eqb-true 1 s.run.level q) in
       let now = h.present one in
@@ -77,8 +77,8 @@ module _ (max least long : ℕ) (small : long ≤ max_steps) (some : 0 < least) 
       record { k = s.run.prev_len; is_on = refl; sure_flag = omega arith; low = b; longer = omega arith; frame_within = search arith }
   on_moved false false q r = record { k = 0; is_on = refl; sure_flag = omega arith; low = omega arith; longer = omega arith; frame_within = begin_frame_within max least fr tc some }
 
-  off_moved : (same short : Bool) → eqb 0 s.run.level ≡ same → eqb s.run.confirmed 0 ≡ short → OffMoved max least long (move_pres_of same short s 0 tc) (move_frame_of same short false s.run.run_len tc fr)
-  unfolding move_pres_of move_frame_of moved_of lengthen_of rejoin_of begin_run_of
+  off_moved : (same short : Bool) → eqb 0 s.run.level ≡ same → eqb s.run.confirmed 0 ≡ short → OffMoved max least long (move_pres_of (move_of same short) s 0 tc) (move_frame_of (move_of same short) false s.run.run_len tc fr)
+  unfolding move_pres_of lengthen_of rejoin_of begin_run_of
   off_moved true short q r =
       let none : s.run.level ≡ 0 = sym (eqb-true 0 s.run.level q) in
       record { is_off = none; sure_flag = h.flags.confirmed_flag; most = h.most; absent = h.absent none }
@@ -183,8 +183,8 @@ module _ (p : Settings) (a : Inputs) (ook : List ℕ) where
       go : (on : Bool) (tc : Float) → AnswerWithin p.max_pulses (fsk_min_of p.min_steps) p.long_steps (after_advance p a b ook (advance_at p a s b.frame on tc fsk))
       go true tc =
           let o = on_moved p.max_pulses (fsk_min_of p.min_steps) p.long_steps small (fsk_min_above p.min_steps) s b.frame tc h (eqb 1 s.run.level) (eqb s.run.confirmed 0) refl refl in
-          let q : Pres = move_pres_of (eqb 1 s.run.level) (eqb s.run.confirmed 0) s 1 tc in
-          let f = sample_within o.k (2 * o.k) p (move_frame_of (eqb 1 s.run.level) (eqb s.run.confirmed 0) true s.run.run_len tc b.frame) a.high a.d a.e a.idx fsk o.frame_within in
+          let q : Pres = move_pres_of (meets_of s.run 1) s 1 tc in
+          let f = sample_within o.k (2 * o.k) p (move_frame_of (meets_of s.run 1) true s.run.run_len tc b.frame) a.high a.d a.e a.idx fsk o.frame_within in
           let low : o.k ≤ p.long_steps = o.low in
           let longer : o.k + 1 ≤ q.run.run_len = o.longer in
           after_on (fsk_min_of p.min_steps) q _ _ (due_of q.run p.min_steps) o.is_on o.sure_flag
@@ -192,7 +192,7 @@ module _ (p : Settings) (a : Inputs) (ook : List ℕ) where
           (frame_up (omega arith) (omega arith) f)
       go false tc =
           let o = off_moved p.max_pulses (fsk_min_of p.min_steps) p.long_steps small (fsk_min_above p.min_steps) s b.frame tc h (eqb 0 s.run.level) (eqb s.run.confirmed 0) refl refl in
-          let q : Pres = move_pres_of (eqb 0 s.run.level) (eqb s.run.confirmed 0) s 0 tc in
+          let q : Pres = move_pres_of (meets_of s.run 0) s 0 tc in
           after_off (fsk_min_of p.min_steps) q _ _ (due_of q.run p.min_steps) refl o.is_off o.sure_flag
           o.most
           o.absent
