@@ -388,7 +388,7 @@ fn past(first_upper: bool, f: f32, thr: f32) -> bool
     if first_upper { f < thr } else { f > thr }
 }
 
-// The first of n candidates past the threshold, or other.
+// The first of n candidates past the threshold, or other. A loop: with `position`, whose promise speaks of runs of calls, the proof did not close.
 fn first_past(first_upper: bool, thr: f32, cs: &[f32; 8], n: u32, other: u32) -> u32
     requires { n ≤ 8 }
     ensures { result ≡ first_past_of first_upper thr cs.now other n 0 }
