@@ -10,7 +10,7 @@ use native.Mathlib.Nat.{not-suc-le-zero, le_of_suc-le-suc}
 use lib.ListN.{length, set, get_or, drop, replicate}
 use lib.Dec.{leb, ltb, eqb}
 use borrow.Author.Tests.{ltb-true, ltb-false, le-leb, lt-leb}
-use Rattle.std.specs.Prelude.{Ok}
+use Rattle.std.specs.Prelude.{Ok, Err}
 use Rattle.refusals.specs.Domain.{index_ok, room_ok}
 use Rattle.refusals.specs.Serial.{serial_left}
 use Rattle.refusals.specs.Order.{check, first_failed}
@@ -22,8 +22,8 @@ use Rattle.lane.specs.Refusals.{lane_ok, begin_floats_ok, begin_refusal}
 use Rattle.lane.specs.Idle.{idle_lane}
 use Rattle.lane.specs.Step.{new_lane, refuse, begun, begun_by}
 use Rattle.reached.specs.Reached.{Sound}
-use Rattle.commands.specs.declared.Command.{Command}
-use Rattle.commands.specs.declared.Command.TheVariants.{End, Open, Begin, Step, Unknown, Short, Close}
+use Rattle.commands.specs.Command.{Found}
+use Rattle.commands.specs.declared.Command.TheVariants.{Open, OpenCarry, Begin, Step, Close}
 use Rattle.calls.specs.Turn.{State, Called, called}
 use Rattle.calls.proofs.Silent.{call_sound}
 use Rattle.among.specs.Among.{places, begin_refusal_among, begun_among, called_among, out_of, outs}
@@ -53,30 +53,29 @@ seventh l b true true true true true true false true = refl
 seventh l b true true true true true true false false = refl
 seventh l b settings lane phase serial index floats true room = refl
 
-begin_settled : (n : ℕ) (l : Lane) (b : BeginArgs) (ook fsk : List ℕ) → begun_among n l b ook fsk ≡ settled_of n (Begin b) l (begun l b ook fsk)
+begin_settled : (n : ℕ) (l : Lane) (b : BeginArgs) (ook fsk : List ℕ) → begun_among n l b ook fsk ≡ settled_of n (Ok (Begin b)) l (begun l b ook fsk)
 unfolding begun_among begin_refusal_among begun begin_refusal settled_of
 begin_settled n l b ook fsk =
     seventh l b (not (eqb l.opened 0)) (lane_ok l) (eqb l.phase 0) (serial_left l.serial) (index_ok b.index) (begin_floats_ok b) (ltb n places) (room_ok l.settings (length ook) (length fsk))
     ∙ ap (λ (full : Bool). cond (full && late_of (begun l b ook fsk).reply) (refuse refusal.Places l) (begun l b ook fsk)) (sym (full_or_free n))
 
 -- so the order of checks is kept by what the code does: the lane's own answer first, and then 12 in place of what it comes before
-pub settled : (n : ℕ) (p : State) (k : Command) → called_among n p k ≡ (settled_of n k p.0 (called p k).0, (called p k).1, (called p k).2)
+pub settled : (n : ℕ) (p : State) (k : Found) → called_among n p k ≡ (settled_of n k p.0 (called p k).0, (called p k).1, (called p k).2)
 unfolding called_among called settled_of
-settled n p End = refl
-settled n p (Open s carries) = refl
-settled n p (Begin b) = ap (λ (a : Answer). (a, p.1, p.2)) (begin_settled n p.0 b p.1 p.2)
-settled n p (Step s) = refl
-settled n p Unknown = refl
-settled n p Short = refl
-settled n p Close = refl
+settled n p (Ok (Open s)) = refl
+settled n p (Ok (OpenCarry s)) = refl
+settled n p (Ok (Begin b)) = ap (λ (a : Answer). (a, p.1, p.2)) (begin_settled n p.0 b p.1 p.2)
+settled n p (Ok (Step s)) = refl
+settled n p (Ok Close) = refl
+settled n p (Err m) = refl
 
 -- as the code has it: the lane's own call, and then 12
-pub settled_call : (n : ℕ) (p : State) (k : Command) (a r : Answer) (ook fsk : List ℕ) → ◌≡◌ {A = Called} (a, ook, fsk) (called p k) → r ≡ settled_of n k p.0 a → ◌≡◌ {A = Called} (r, ook, fsk) (called_among n p k)
+pub settled_call : (n : ℕ) (p : State) (k : Found) (a r : Answer) (ook fsk : List ℕ) → ◌≡◌ {A = Called} (a, ook, fsk) (called p k) → r ≡ settled_of n k p.0 a → ◌≡◌ {A = Called} (r, ook, fsk) (called_among n p k)
 settled_call n p k a r ook fsk e q = ap (λ (z : Answer). (z, ook, fsk)) q ∙ ap (λ (c : Called). (settled_of n k p.0 c.0, c.1, c.2)) e ∙ sym (settled n p k)
 
 -- ---- a sound lane stays sound
 
-settled_sound : (n : ℕ) (k : Command) (l : Lane) (a : Answer) → Sound l → Sound a.lane → Sound (settled_of n k l a).lane
+settled_sound : (n : ℕ) (k : Found) (l : Lane) (a : Answer) → Sound l → Sound a.lane → Sound (settled_of n k l a).lane
 unfolding settled_of
 settled_sound n k l a h g = go (is_begin_of k && (leb places n && late_of a.reply))
   where
@@ -84,7 +83,7 @@ settled_sound n k l a h g = go (is_begin_of k && (leb places n && late_of a.repl
     go true = h
     go false = g
 
-pub among_sound : (n : ℕ) (p : State) (k : Command) → Sound p.0 → Sound (called_among n p k).0.lane
+pub among_sound : (n : ℕ) (p : State) (k : Found) → Sound p.0 → Sound (called_among n p k).0.lane
 among_sound n p k h = subst (λ (c : Called). Sound c.0.lane) (sym (settled n p k)) (settled_sound n k p.0 (called p k).0 h (call_sound p k h))
 
 -- ---- the number of lanes out of idle

@@ -26,8 +26,9 @@ use Rattle.lane.specs.Close.{idle_with, close_of}
 use Rattle.lane.specs.Serial.{stamped, stamped_with}
 use Rattle.lane.specs.Step.{refuse, unless_refused, stay, opened, begun, stepped, closed}
 use Rattle.reached.proofs.Accepted.{step_ways, close_ways}
-use Rattle.commands.specs.declared.Command.{Command}
-use Rattle.commands.specs.declared.Command.TheVariants.{End, Open, Begin, Step, Unknown, Short, Close}
+use Rattle.commands.specs.Command.{Found}
+use Rattle.commands.specs.declared.Command.TheVariants.{Open, OpenCarry, Begin, Step, Close}
+use Rattle.commands.specs.declared.Missing.TheVariants as missing
 use Rattle.calls.specs.Turn.{State, called}
 
 -- ---- accepted calls are answered
@@ -126,17 +127,18 @@ close_not_twelve : (l : Lane) (m n : ℕ) → failed_number (close_refusal l m n
 unfolding close_refusal
 close_not_twelve l m n = not_twelve true (lane_ok l) (not (eqb l.phase 0)) true true true (room_ok l.settings m n)
 
-pub never_twelve : (p : State) (k : Command) → refusal_number_of (called p k).0.reply ≡ 12 → ⊥
+pub never_twelve : (p : State) (k : Found) → refusal_number_of (called p k).0.reply ≡ 12 → ⊥
 unfolding called opened begun stepped closed
-never_twelve p End e = omega arith
-never_twelve p (Open s carries) e = by_check (open_refusal p.0 s) p.0 (stamped p.0 (stay (idle_lane 1 s))) refl (opening_not_twelve p.0 s) e
-never_twelve p (Begin b) e =
+never_twelve p (Ok (Open s)) e = by_check (open_refusal p.0 s) p.0 (stamped p.0 (stay (idle_lane 1 s))) refl (opening_not_twelve p.0 s) e
+never_twelve p (Ok (OpenCarry s)) e = by_check (open_refusal p.0 s) p.0 (stamped p.0 (stay (idle_lane 1 s))) refl (opening_not_twelve p.0 s) e
+never_twelve p (Ok (Begin b)) e =
     by_check (begin_refusal p.0 b (length p.1) (length p.2)) p.0 (stamped p.0 (stay (lead_lane p.0 b))) refl (begin_not_twelve p.0 b (length p.1) (length p.2)) e
-never_twelve p (Step s) e =
+never_twelve p (Ok (Step s)) e =
     by_check_with (step_refusal p.0 s (length p.1) (length p.2)) p.0 (stamped_with p.0 (advance_of p.0 s p.1 p.2)) p.1 p.2
     (advance_answers p.0 s p.1 p.2) (step_not_twelve p.0 s (length p.1) (length p.2)) e
-never_twelve p Unknown e = omega arith
-never_twelve p Short e = omega arith
-never_twelve p Close e =
+never_twelve p (Err missing.End) e = omega arith
+never_twelve p (Err missing.Unknown) e = omega arith
+never_twelve p (Err missing.Short) e = omega arith
+never_twelve p (Ok Close) e =
     by_check_with (close_refusal p.0 (length p.1) (length p.2)) p.0 (stamped_with p.0 (close_of p.0 p.1 p.2)) p.1 p.2
     (close_answers p.0 p.1 p.2) (close_not_twelve p.0 (length p.1) (length p.2)) e

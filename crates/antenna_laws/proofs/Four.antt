@@ -22,8 +22,8 @@ use Rattle.lane.specs.Advance.{advance_of}
 use Rattle.lane.specs.Close.{close_of}
 use Rattle.lane.specs.Serial.{stamp_of, stamped, stamped_with}
 use Rattle.lane.specs.Step.{new_lane, refuse, unless_refused, stay, opened, begun, stepped, closed}
-use Rattle.commands.specs.declared.Command.{Command}
-use Rattle.commands.specs.declared.Command.TheVariants.{End, Open, Begin, Step, Unknown, Short, Close}
+use Rattle.commands.specs.Command.{Found}
+use Rattle.commands.specs.declared.Command.TheVariants.{Open, OpenCarry, Begin, Step, Close}
 use Rattle.calls.specs.Turn.{State, Called, called}
 use Rattle.pulses.proofs.Accepted.{step_tells, close_tells}
 use Rattle.among.specs.Among.{antennas, places, called_among, Lanes, lane_at, out_of, outs, others_out, answer_to, after_call, Sized}
@@ -78,32 +78,31 @@ early_begin l b ook fsk = go (begin_refusal l b (length ook) (length fsk))
     go (Ok u) h = absurd (true≢false h)
     go (Err r) h = refl
 
-begin_takes : (n : ℕ) (p : State) (b : BeginArgs) → (out_of (called_among n p (Begin b)).0.lane ≤ out_of p.0) ⊎ (n < places)
+begin_takes : (n : ℕ) (p : State) (b : BeginArgs) → (out_of (called_among n p (Ok (Begin b))).0.lane ≤ out_of p.0) ⊎ (n < places)
 unfolding called
 begin_takes n p b = go (leb places n) (late_of (begun p.0 b p.1 p.2).reply) refl refl
   where
     kept : {l : Lane} → l ≡ p.0 → out_of l ≤ out_of p.0
     kept e = omega (arith, ap out_of e)
 
-    go : (full late : Bool) → leb places n ≡ full → late_of (begun p.0 b p.1 p.2).reply ≡ late → (out_of (called_among n p (Begin b)).0.lane ≤ out_of p.0) ⊎ (n < places)
-    go true true e f = inl (kept (ap (λ (c : Called). c.0.lane) (among_twelve n p (Begin b) (rw (e, f) refl))))
-    go true false e f = inl (kept (ap (λ (c : Called). c.0.lane) (among_alone n p (Begin b) (rw (e, f) refl)) ∙ early_begin p.0 b p.1 p.2 f))
+    go : (full late : Bool) → leb places n ≡ full → late_of (begun p.0 b p.1 p.2).reply ≡ late → (out_of (called_among n p (Ok (Begin b))).0.lane ≤ out_of p.0) ⊎ (n < places)
+    go true true e f = inl (kept (ap (λ (c : Called). c.0.lane) (among_twelve n p (Ok (Begin b)) (rw (e, f) refl))))
+    go true false e f = inl (kept (ap (λ (c : Called). c.0.lane) (among_alone n p (Ok (Begin b)) (rw (e, f) refl)) ∙ early_begin p.0 b p.1 p.2 f))
     go false late e f = inr (leb-false places n e)
 
 -- a call takes no place, or finds one
-takes : (n : ℕ) (p : State) (k : Command) → (out_of (called_among n p k).0.lane ≤ out_of p.0) ⊎ (n < places)
+takes : (n : ℕ) (p : State) (k : Found) → (out_of (called_among n p k).0.lane ≤ out_of p.0) ⊎ (n < places)
 unfolding called_among called
-takes n p End = inl (omega arith)
-takes n p (Open s carries) = inl (open_takes p.0 s)
-takes n p (Begin b) = begin_takes n p b
-takes n p (Step s) = inl (step_takes p.0 s p.1 p.2)
-takes n p Unknown = inl (omega arith)
-takes n p Short = inl (omega arith)
-takes n p Close = inl (close_takes p.0 p.1 p.2)
+takes n p (Ok (Open s)) = inl (open_takes p.0 s)
+takes n p (Ok (OpenCarry s)) = inl (open_takes p.0 s)
+takes n p (Ok (Begin b)) = begin_takes n p b
+takes n p (Ok (Step s)) = inl (step_takes p.0 s p.1 p.2)
+takes n p (Ok Close) = inl (close_takes p.0 p.1 p.2)
+takes n p (Err m) = inl (omega arith)
 
 -- ---- of all lanes
 
-stays : (p : Lanes) (i : ℕ) (k : Command) → Sized p → i < antennas → outs p.0 ≤ places → outs (set p.0 i (answer_to p i k).0.lane) ≤ places
+stays : (p : Lanes) (i : ℕ) (k : Found) → Sized p → i < antennas → outs p.0 ≤ places → outs (set p.0 i (answer_to p i k).0.lane) ≤ places
 stays p i k s h f =
     let l : Lane = (answer_to p i k).0.lane in
     let there : i < length p.0 = omega (arith, h, s.lanes) in

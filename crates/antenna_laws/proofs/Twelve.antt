@@ -22,8 +22,9 @@ use Rattle.lane.specs.Refusals.{begin_refusal}
 use Rattle.lane.specs.Begin.{lead_lane}
 use Rattle.lane.specs.Serial.{stamped}
 use Rattle.lane.specs.Step.{new_lane, refuse, unless_refused, stay, begun}
-use Rattle.commands.specs.declared.Command.{Command}
-use Rattle.commands.specs.declared.Command.TheVariants.{End, Open, Begin, Step, Unknown, Short, Close}
+use Rattle.commands.specs.Command.{Found}
+use Rattle.commands.specs.declared.Command.TheVariants.{Open, OpenCarry, Begin, Step, Close}
+use Rattle.commands.specs.declared.Missing.TheVariants as missing
 use Rattle.calls.specs.Turn.{State, Called, called, next, unchanged}
 use Rattle.among.specs.Among.{antennas, places, Lanes, lane_at, put_at, out_of, outs, others_out, no_antenna, answer_to}
 use Rattle.among.specs.Settled.{is_begin_of, late_of}
@@ -51,16 +52,13 @@ others_counted ls i h = omega (arith, others_sum ls i new_lane h)
 
 -- ---- where 12 is given
 
-none_twelve : (k : Command) → refusal_number_of (no_antenna k) ≡ 12 → ⊥
-none_twelve End e = omega arith
-none_twelve (Open s carries) e = omega arith
-none_twelve (Begin b) e = omega arith
-none_twelve (Step s) e = omega arith
-none_twelve Unknown e = omega arith
-none_twelve Short e = omega arith
-none_twelve Close e = omega arith
+none_twelve : (k : Found) → refusal_number_of (no_antenna k) ≡ 12 → ⊥
+none_twelve (Ok k) e = omega arith
+none_twelve (Err missing.End) e = omega arith
+none_twelve (Err missing.Unknown) e = omega arith
+none_twelve (Err missing.Short) e = omega arith
 
-module _ (p : Lanes) (i : ℕ) (k : Command) (e : (answer_to p i k).0.reply ≡ Err refusal.Places) where
+module _ (p : Lanes) (i : ℕ) (k : Found) (e : (answer_to p i k).0.reply ≡ Err refusal.Places) where
   there : i < antennas
   there = inside i (λ h. h) (λ h. absurd (none_twelve k (ap (λ (c : Called). refusal_number_of c.0.reply) (sym (answer_none p i k h)) ∙ ap refusal_number_of e)))
 
@@ -99,21 +97,20 @@ late_begin l b ook fsk = go (begin_refusal l b (length ook) (length fsk))
     go (Ok u) h = inl refl
     go (Err r) h = inr (ap (λ (x : Refusal). Err x) (is_eighth r h))
 
-late_is : (p : State) (k : Command) → is_begin_of k ≡ true → late_of (called p k).0.reply ≡ true → ((called p k).0.reply ≡ Ok Stay) ⊎ ((called p k).0.reply ≡ Err refusal.Room)
+late_is : (p : State) (k : Found) → is_begin_of k ≡ true → late_of (called p k).0.reply ≡ true → ((called p k).0.reply ≡ Ok Stay) ⊎ ((called p k).0.reply ≡ Err refusal.Room)
 unfolding called
-late_is p (Begin b) h = late_begin p.0 b p.1 p.2
-late_is p End h = absurd (false≢true h)
-late_is p (Open s carries) h = absurd (false≢true h)
-late_is p (Step s) h = absurd (false≢true h)
-late_is p Unknown h = absurd (false≢true h)
-late_is p Short h = absurd (false≢true h)
-late_is p Close h = absurd (false≢true h)
+late_is p (Ok (Begin b)) h = late_begin p.0 b p.1 p.2
+late_is p (Ok (Open s)) h = absurd (false≢true h)
+late_is p (Ok (OpenCarry s)) h = absurd (false≢true h)
+late_is p (Ok (Step s)) h = absurd (false≢true h)
+late_is p (Ok Close) h = absurd (false≢true h)
+late_is p (Err m) h = absurd (false≢true h)
 
 is_late : (r : Reply) → (r ≡ Ok Stay) ⊎ (r ≡ Err refusal.Room) → late_of r ≡ true
 is_late r (inl e) = ap late_of e
 is_late r (inr e) = ap late_of e
 
-given : (p : Lanes) (i : ℕ) (k : Command) → (answer_to p i k).0.reply ≡ Err refusal.Places → Twelve p i k
+given : (p : Lanes) (i : ℕ) (k : Found) → (answer_to p i k).0.reply ≡ Err refusal.Places → Twelve p i k
 given p i k e =
     let h = there p i k e in
     let n = others_out p.0 i in
@@ -122,7 +119,7 @@ given p i k e =
     let b = both_true (leb places n) (late_of r) a.1 in
     record { antenna = h; begins = a.0; full = leb-true places n b.0; late = late_is (lane_at p i) k a.0 b.1 }
 
-gives : (p : Lanes) (i : ℕ) (k : Command) → Twelve p i k → (answer_to p i k).0.reply ≡ Err refusal.Places
+gives : (p : Lanes) (i : ℕ) (k : Found) → Twelve p i k → (answer_to p i k).0.reply ≡ Err refusal.Places
 gives p i k t =
     let n = others_out p.0 i in
     let r = (called (lane_at p i) k).0.reply in

@@ -23,21 +23,20 @@ use Rattle.lane.specs.Serial.{stamp_of, stamped_with}
 use Rattle.lane.specs.Step.{refuse, unless_refused, stepped_by, stepped}
 use Rattle.reached.specs.Reached.{Sound}
 use Rattle.reached.proofs.Reached.{sound_ok, open_sound, begin_sound, step_sound, close_sound}
-use Rattle.commands.specs.declared.Command.{Command}
-use Rattle.commands.specs.declared.Command.TheVariants.{End, Open, Begin, Step, Unknown, Short, Close}
+use Rattle.commands.specs.Command.{Found}
+use Rattle.commands.specs.declared.Command.TheVariants.{Open, OpenCarry, Begin, Step, Close}
 use Rattle.calls.specs.Turn.{State, Called, called, most_of}
 use Rattle.calls.specs.Steps.{quiet_of}
 
 -- a sound lane stays sound
-pub call_sound : (p : State) (k : Command) → Sound p.0 → Sound (called p k).0.lane
+pub call_sound : (p : State) (k : Found) → Sound p.0 → Sound (called p k).0.lane
 unfolding called
-call_sound p End h = h
-call_sound p (Open s carries) h = open_sound s h
-call_sound p (Begin b) h = begin_sound b p.1 p.2 h
-call_sound p (Step s) h = step_sound s p.1 p.2 h
-call_sound p Unknown h = h
-call_sound p Short h = h
-call_sound p Close h = close_sound p.1 p.2 h
+call_sound p (Ok (Open s)) h = open_sound s h
+call_sound p (Ok (OpenCarry s)) h = open_sound s h
+call_sound p (Ok (Begin b)) h = begin_sound b p.1 p.2 h
+call_sound p (Ok (Step s)) h = step_sound s p.1 p.2 h
+call_sound p (Ok Close) h = close_sound p.1 p.2 h
+call_sound p (Err m) h = h
 
 -- the last call prints nothing
 abbrev pub Quiet : Reply → State → Type 0
@@ -80,7 +79,7 @@ module _ {G : ℕ → Reply → State → Type 0} {p : State} {from used : ℕ} 
 abbrev pub core_step : Lane → StepArgs → List ℕ → List ℕ → Called
 core_step l a ook fsk = stepped_by (step_refusal_by true l.settings l.phase l.last a (length ook) (length fsk)) l a ook fsk
 
-pub core_steps : (q : State) (a : StepArgs) → Sound q.0 → core_step q.0 a q.1 q.2 ≡ called q (Step a)
+pub core_steps : (q : State) (a : StepArgs) → Sound q.0 → core_step q.0 a q.1 q.2 ≡ called q (Ok (Step a))
 unfolding called stepped step_refusal
 core_steps q a h = ap (λ (b : Bool). stepped_by (step_refusal_by b q.0.settings q.0.phase q.0.last a (length q.1) (length q.2)) q.0 a q.1 q.2) (sym (sound_ok h))
 
@@ -104,7 +103,7 @@ step_settings l a ook fsk = go (step_refusal l a (length ook) (length fsk)) (eqb
 module _ {G : ℕ → Reply → State → Type 0} {p : State} {from used : ℕ} {r : Reply} {q : State} (a : StepArgs) (end : ℕ) (z : Reply) (n : State)
     (sound : Sound p.0) (so : Steps G p from used r q) (gives : (answer_of z n.0, n.1, n.2) ≡ core_step q.0 a q.1 q.2)
     (is_ook : length n.1 ≡ length q.1) (is_fsk : length n.2 ≡ length q.2) where
-  pub gave : (answer_of z n.0, n.1, n.2) ≡ called q (Step a)
+  pub gave : (answer_of z n.0, n.1, n.2) ≡ called q (Ok (Step a))
   gave = gives ∙ core_steps q a (steps_sound sound so)
 
   -- that printed nothing
@@ -114,4 +113,4 @@ module _ {G : ℕ → Reply → State → Type 0} {p : State} {from used : ℕ} 
       let k = steps_kept so in
       let e : n.0.settings ≡ q.0.settings = ap (λ (c : Called). c.0.lane.settings) gave ∙ step_settings q.0 a q.1 q.2 in
       some up quiet (record { settings = e ∙ k.settings; ook = is_ook ∙ k.ook; fsk = is_fsk ∙ k.fsk })
-      (subst (λ (c : Called). Sound c.0.lane) (sym gave) (call_sound q (Step a) (steps_sound sound so))) g
+      (subst (λ (c : Called). Sound c.0.lane) (sym gave) (call_sound q (Ok (Step a)) (steps_sound sound so))) g

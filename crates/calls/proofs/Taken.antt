@@ -15,9 +15,8 @@ use Rattle.lane.specs.declared.StepArgs.{StepArgs}
 use Rattle.lane.specs.Answers.{Reply, answer_of}
 use Rattle.lane.specs.Step.{stepped}
 use Rattle.reached.specs.Reached.{Sound}
-use Rattle.commands.specs.declared.Command.{Command}
 use Rattle.commands.specs.declared.Command.TheVariants.{Step}
-use Rattle.commands.specs.Command.{decoded, size_of, is_step_of}
+use Rattle.commands.specs.Command.{Found, decoded, size_of, is_step_of}
 use Rattle.commands.proofs.Stream.{step_there}
 use Rattle.lines.specs.Line.{record_line, call_text, has_room, put}
 use Rattle.lines.proofs.Room.{room_there}
@@ -33,16 +32,16 @@ use Rattle.calls.proofs.Silent.{call_sound, kept_room, Steps, none, some, steps_
 
 -- ---- a step among the commands
 
-pub called_step : (p : State) (k : Command) (a : StepArgs) → k ≡ Step a → stepped p.0 a p.1 p.2 ≡ called p k
+pub called_step : (p : State) (k : Found) (a : StepArgs) → k ≡ Ok (Step a) → stepped p.0 a p.1 p.2 ≡ called p k
 unfolding called
 called_step p k a e = ap (called p) (sym e)
 
 -- the bytes of a step are there
-pub step_room : (s : List ℕ) (used : ℕ) (a : StepArgs) → Step a ≡ decoded (drop used s) → used + 25 ≤ length s
+pub step_room : (s : List ℕ) (used : ℕ) (a : StepArgs) → Ok (Step a) ≡ decoded (drop used s) → used + 25 ≤ length s
 step_room s used a e = omega (arith, (step_there (drop used s) (ap is_step_of (sym e))).0, length-drop used s)
 
 -- ---- the one command at a place, by itself
-pub took_one : (p : State) (s : List ℕ) (from : ℕ) (k : Command) (used : ℕ) (r : Reply) (q : State) (size : ℕ) → from < length s → Sound p.0
+pub took_one : (p : State) (s : List ℕ) (from : ℕ) (k : Found) (used : ℕ) (r : Reply) (q : State) (size : ℕ) → from < length s → Sound p.0
     → k ≡ decoded (drop from s) → waits true k ≡ false → size ≡ size_of k → used ≡ from + size → (answer_of r q.0, q.1, q.2) ≡ called p k
     → length q.1 ≡ length p.1 → length q.2 ≡ length p.2 → Took p s from used r q
 took_one p s from k used r q size inside sound is_k ready is_size is_used is_c is_ook is_fsk =
@@ -51,7 +50,7 @@ took_one p s from k used r q size inside sound is_k ready is_size is_used is_c i
       shown = subst (λ (c : Called). Shown c (most_of p)) (sym is_c) (shown_most p k ready (ap (λ (c : Called). length c.1) (sym is_c) ∙ is_ook) (ap (λ (c : Called). length c.2) (sym is_c) ∙ is_fsk));
       passes =
           passed_one machine orderly p s from used _ _ (omega arith) (is_used ∙ ap (λ (n : ℕ). from + n) (is_size ∙ ap size_of is_k))
-          (ap called_text is_c ∙ sym (there k _ ready) ∙ ap (λ (d : Command). text_of d (called p d)) is_k) (ap next is_c ∙ ap (λ (d : Command). next (called p d)) is_k);
+          (ap called_text is_c ∙ sym (there k _ ready) ∙ ap (λ (d : Found). text_of d (called p d)) is_k) (ap next is_c ∙ ap (λ (d : Found). next (called p d)) is_k);
     }
 
 -- ---- steps one after another
@@ -73,10 +72,10 @@ StepsTaken p s from used r q = Steps (λ (u : ℕ) (z : Reply) (n : State). Took
 
 -- one step more
 module _ {p : State} {s : List ℕ} {from used : ℕ} {r : Reply} {q : State} (a : StepArgs) (end : ℕ) (z : Reply) (n : State) (sound : Sound p.0) (so : StepsTaken p s from used r q)
-    (inside : used < length s) (is_a : Step a ≡ decoded (drop used s)) (is_end : end ≡ used + 25)
+    (inside : used < length s) (is_a : Ok (Step a) ≡ decoded (drop used s)) (is_end : end ≡ used + 25)
     (gives : (answer_of z n.0, n.1, n.2) ≡ core_step q.0 a q.1 q.2) (is_ook : length n.1 ≡ length q.1) (is_fsk : length n.2 ≡ length q.2) where
   one : Took q s used end z n
-  one = took_one q s used (Step a) end z n 25 inside (steps_sound sound so) is_a refl refl is_end (gave a end z n sound so gives is_ook is_fsk) is_ook is_fsk
+  one = took_one q s used (Ok (Step a)) end z n 25 inside (steps_sound sound so) is_a refl refl is_end (gave a end z n sound so gives is_ook is_fsk) is_ook is_fsk
 
   pub step_on : Took p s from end z n
   step_on = go so

@@ -6,12 +6,12 @@ ghost use Rattle.std.specs.Prelude.{◌≡◌, true, false, List, ℕ, ◌≤◌
 ghost use Rattle.commands.specs.Command.{decoded, is_step_of};
 ghost use Rattle.reached.specs.Reached.{Sound};
 ghost use Rattle.lines.specs.Line.{larger_of, has_room, put};
-ghost use Rattle.calls.specs.Turn.{Called, called, shown_of, answer_text, waits as Turn·waits, slots_of, most_of};
+ghost use Rattle.calls.specs.Turn.{Called, called, missed, shown_of, answer_text, waits as Turn·waits, slots_of, most_of};
 ghost use Rattle.calls.specs.Steps.{quiet_of, Took};
 ghost use Rattle.calls.specs.Stream.{machine};
 ghost use Rattle.stream.specs.Blocks.{Streamed, Turn, Stays};
 
-use commands::Command;
+use commands::{Command, Found, Missing};
 use lane::{Answer, Lane, Reply};
 use refusals::Refusal;
 use shared::{Next, Out};
@@ -19,45 +19,50 @@ use stream::{Ran, Station, Stop, Turned};
 
 // ---- one command
 
-pub fn is_step(k: Command) -> bool
+pub fn is_step(k: Found) -> bool
     ensures { result ≡ is_step_of k }
 {
-    matches!(k, Command::Step(_))
+    matches!(k, Ok(Command::Step(_)))
+}
+
+// The reply to what is no command: refusal 1 or 2.
+pub fn missed(m: Missing) -> Reply
+    ensures { result ≡ missed m }
+{
+    match m {
+        Missing::End => Ok(Next::Stay),
+        Missing::Unknown => Err(Refusal::Unknown),
+        Missing::Short => Err(Refusal::Short),
+    }
 }
 
 // The lane's answer to a command that is no step, or refusal 1 or 2. The FSK buffer is not written.
-pub fn call_other(l: Lane, k: Command, ook: &mut [u32], fsk: &[u32]) -> Answer
+#[tactic(auto, unfolding(crate::specs::Turn::called))]
+pub fn call_other(l: Lane, k: Found, ook: &mut [u32], fsk: &[u32]) -> Answer
     ensures { is_step_of k ≡ false → ◌≡◌ {A = Called} (result, ook.new, fsk.now) (called (l, ook.old, fsk.now) k) }
 {
     match k {
-        Command::End => Answer {
+        Ok(Command::Open(p) | Command::OpenCarry(p)) => lane::open(l, p),
+        Ok(Command::Begin(b)) => lane::begin(l, b, ook, fsk),
+        Ok(Command::Close) => lane::close(l, ook, fsk),
+        Ok(Command::Step(_)) => Answer {
             reply: Ok(Next::Stay),
             lane: l,
         },
-        Command::Open(p, _) => lane::open(l, p),
-        Command::Begin(b) => lane::begin(l, b, ook, fsk),
-        Command::Step(_) => Answer {
-            reply: Ok(Next::Stay),
+        Err(m) => Answer {
+            reply: missed(m),
             lane: l,
         },
-        Command::Unknown => Answer {
-            reply: Err(Refusal::Unknown),
-            lane: l,
-        },
-        Command::Short => Answer {
-            reply: Err(Refusal::Short),
-            lane: l,
-        },
-        Command::Close => lane::close(l, ook, fsk),
     }
 }
 
 // The lane's answer to a command, or refusal 1 or 2.
-pub fn call(l: Lane, k: Command, ook: &mut [u32], fsk: &mut [u32]) -> Answer
+#[tactic(auto, unfolding(crate::specs::Turn::called))]
+pub fn call(l: Lane, k: Found, ook: &mut [u32], fsk: &mut [u32]) -> Answer
     ensures { ◌≡◌ {A = Called} (result, ook.new, fsk.new) (called (l, ook.old, fsk.old) k) }
 {
     match k {
-        Command::Step(s) => step::step(l, s, ook, fsk),
+        Ok(Command::Step(s)) => step::step(l, s, ook, fsk),
         _ => call_other(l, k, ook, fsk),
     }
 }
@@ -131,12 +136,7 @@ fn steps(lane: &mut Lane, s: &[u8], from: usize, ook: &mut [u32], fsk: &mut [u32
     let mut cs = lane.burst.frame.cand.cand_f;
     let mut used = from;
     let mut reply = Ok(Next::Stay);
-    while used < s.len() {
-        let is = commands::is_step_at(s, used);
-        if !is {
-            break;
-        }
-        let b = commands::step_at(s, used);
+    while let Some(b) = commands::step_at(s, used) {
         let a = step::step_core(
             c, b, &mut es, &mut re, &mut im, &mut ring, &mut cs, ook, fsk,
         );
@@ -154,14 +154,7 @@ fn steps(lane: &mut Lane, s: &[u8], from: usize, ook: &mut [u32], fsk: &mut [u32
 
 // The command k at a place of the bytes, and where it is a step those after it up to the first that
 // prints.
-fn pass(
-    lane: &mut Lane,
-    k: Command,
-    s: &[u8],
-    from: usize,
-    ook: &mut [u32],
-    fsk: &mut [u32],
-) -> Past
+fn pass(lane: &mut Lane, k: Found, s: &[u8], from: usize, ook: &mut [u32], fsk: &mut [u32]) -> Past
     requires { (from < length s.now) × (k ≡ decoded (drop from s.now)) × Sound lane.old }
     ensures { Took (lane.old, ook.old, fsk.old) s.now from result.used result.reply (lane.new, ook.new, fsk.new) }
 {
@@ -171,7 +164,10 @@ fn pass(
     let a = call_other(*lane, k, ook, fsk);
     *lane = a.lane;
     Past {
-        used: from + commands::size_of(k),
+        used: match k {
+            Ok(k) => from + k.size(),
+            Err(_) => from,
+        },
         reply: a.reply,
     }
 }
@@ -189,18 +185,14 @@ pub fn most_of(pulses: u32, ook: usize, fsk: usize) -> usize
 }
 
 // Whether a command is not made yet: nothing is left, or only the beginning of a command and more
-// may come. Each command has its own line, as in its definition, so that none waits by falling under another.
-pub fn waits(last: bool, k: Command) -> bool
+// may come.
+pub fn waits(last: bool, k: Found) -> bool
     ensures { result ≡ Turn·waits last k }
 {
     match k {
-        Command::End => true,
-        Command::Open(_, _) => false,
-        Command::Begin(_) => false,
-        Command::Step(_) => false,
-        Command::Unknown => false,
-        Command::Short => !last,
-        Command::Close => false,
+        Err(Missing::End) => true,
+        Err(Missing::Short) => !last,
+        Ok(_) | Err(Missing::Unknown) => false,
     }
 }
 

@@ -2,7 +2,7 @@
 // commands leaves them.
 #![tactic(auto)]
 
-ghost use Rattle.std.specs.Prelude.{◌≡◌, ◌%◌, ◌^◌};
+ghost use Rattle.std.specs.Prelude.{◌≡◌, Ok, ◌%◌, ◌^◌};
 ghost use Rattle.std.specs.Float.{binary32};
 ghost use Rattle.std.specs.Float.Ieee.{to_bits};
 ghost use Rattle.calls.specs.Turn.{Called, called};
@@ -120,11 +120,11 @@ pub extern "C" fn lane_buffers(
 
 // The lane's answer to a command, a step's by the entry that is lent the lane.
 fn call(l: Lane, k: Command, ook: &mut [u32], fsk: &mut [u32]) -> Answer
-    ensures { ◌≡◌ {A = Called} (result, ook.new, fsk.new) (called (l, ook.old, fsk.old) k) }
+    ensures { ◌≡◌ {A = Called} (result, ook.new, fsk.new) (called (l, ook.old, fsk.old) (Ok k)) }
 {
     match k {
         Command::Step(s) => lent::step_by_lending(l, s, ook, fsk),
-        _ => calls::call(l, k, ook, fsk),
+        _ => calls::call(l, Ok(k), ook, fsk),
     }
 }
 
@@ -136,15 +136,9 @@ pub extern "C" fn lane_buffers_lent(commands: &[u8], ook: &mut [u32], fsk: &mut 
 {
     let mut l = lane::new_lane();
     let mut used = 0;
-    while used < commands.len() {
-        let k = commands::decode_at(commands, used);
-        let size = commands::size_of(k);
-        if size == 0 {
-            break;
-        }
-        let a = call(l, k, ook, fsk);
-        l = a.lane;
-        used += size;
+    while let Ok(k) = commands::decode_at(commands, used) {
+        l = call(l, k, ook, fsk).lane;
+        used += k.size();
     }
     used
 }

@@ -1,21 +1,22 @@
 -- The steps of an antenna as the loop of `sixteen::steps` has them: of any command that is such a step.
 use Prim.Native.Nat.{ℕ, ◌+◌, ◌<◌}
-use mathlib.Core.Bool.{Bool, true, ◌&&◌}
+use mathlib.Core.Bool.{Bool, true, false, cond}
 use mathlib.Core.Path.{◌≡◌, refl, ap, sym, ◌∙◌, subst}
 use mathlib.Core.List.{List}
 use native.Mathlib.Omega.{arith}
 use lib.ListN.{length, drop}
 use lib.Dec.{eqb, ltb}
-use borrow.Author.Tests.{eqb-true, lt-ltb}
+use borrow.Author.Tests.{eqb-true, eq-eqb, lt-ltb}
 use Rattle.shared.specs.Counts.{zero_c32}
-use Rattle.shared.proofs.Tests.{both_true}
 use Rattle.lane.specs.declared.Lane.{Lane}
 use Rattle.lane.specs.Answers.{Reply}
 use Rattle.lane.specs.declared.StepArgs.{StepArgs}
 use Rattle.lane.specs.Answers.{answer_of}
 use Rattle.reached.specs.Reached.{Sound}
 use Rattle.commands.specs.declared.Command.TheVariants.{Step}
-use Rattle.commands.specs.Command.{is_step_of}
+use Rattle.std.specs.Prelude.{Option, Some, None, Ok}
+use Rattle.commands.specs.Command.{step_of, is_step_of}
+use Rattle.commands.proofs.Stream.{step_given, a_step}
 use Rattle.calls.specs.Turn.{State}
 use Rattle.calls.proofs.Silent.{Quiet, Kept, steps_sound, steps_kept, steps_onward, core_step, steps_more}
 use Rattle.addressed.specs.Addressed.{addressed_of, antenna_of}
@@ -35,7 +36,7 @@ abbrev no_args : StepArgs
 no_args = record { index = 0; noise = zero_c32.re; envelope = zero_c32.re; x = zero_c32 }
 
 abbrev someone : ℕ → Asked
-someone i = record { others = 0; antenna = i; command = Step no_args }
+someone i = record { others = 0; antenna = i; command = Ok (Step no_args) }
 
 module _ {i : ℕ} {p : State} {s : List ℕ} {from used : ℕ} {r : Reply} {q : State} (so : StepsFor i p s from used r q) where
   pub for_sound : Sound p.0 → Sound q.0
@@ -44,14 +45,27 @@ module _ {i : ℕ} {p : State} {s : List ℕ} {from used : ℕ} {r : Reply} {q :
   pub for_kept : Kept p q
   for_kept = steps_kept (so (someone i) refl refl)
 
--- a step of the antenna at the place
-pub step_of : (k : Bool) (s : List ℕ) (used i : ℕ) → k ≡ (is_step_of (addressed_of (drop used s)) && eqb (antenna_of (drop used s)) i) → k ≡ true → (is_step_of (addressed_of (drop used s)) ≡ true) × (i ≡ antenna_of (drop used s))
-step_of k s used i e h =
-    let b = both_true (is_step_of (addressed_of (drop used s))) (eqb (antenna_of (drop used s)) i) (sym e ∙ h) in
-    (b.0, sym (eqb-true (antenna_of (drop used s)) i b.1))
+-- what stands at a place for the antenna i
+abbrev pub For : ℕ → List ℕ → Option StepArgs
+For i u = cond (eqb (antenna_of u) i) (step_of (addressed_of u)) None
+
+-- a step of it
+pub step_there : (u : List ℕ) (i : ℕ) (b : StepArgs) → Some b ≡ For i u → (Ok (Step b) ≡ addressed_of u) × (i ≡ antenna_of u)
+step_there u i b h = go (eqb (antenna_of u) i) refl h
+  where
+    go : (e : Bool) → eqb (antenna_of u) i ≡ e → Some b ≡ cond e (step_of (addressed_of u)) None → (Ok (Step b) ≡ addressed_of u) × (i ≡ antenna_of u)
+    go true q g = (step_given (addressed_of u) b (sym g), sym (eqb-true (antenna_of u) i q))
+    go false q g = absurd (let z : ◌≡◌ {A = Option StepArgs} (Some b) None = g in cc)
+
+-- or none of it, where a step stands
+pub other_there : (u : List ℕ) (i : ℕ) → None ≡ For i u → is_step_of (addressed_of u) ≡ true → i ≡ antenna_of u → ⊥
+other_there u i h e own =
+    let b = a_step (addressed_of u) e in
+    let z : ◌≡◌ {A = Option StepArgs} None (Some b.args) = h ∙ simp (eq-eqb (antenna_of u) i (sym own)) (ap step_of b.is) in
+    absurd (cc)
 
 module _ {i : ℕ} {p : State} {s : List ℕ} {from used : ℕ} {r : Reply} {q : State} (b : StepArgs) (end : ℕ) (z : Reply) (n : State) (here : i < antennas) (sound : Sound p.0) (so : StepsFor i p s from used r q)
-    (inside : used < length s) (is_b : Step b ≡ addressed_of (drop used s)) (is_i : i ≡ antenna_of (drop used s)) (is_end : end ≡ used + 26)
+    (inside : used < length s) (is_b : Ok (Step b) ≡ addressed_of (drop used s)) (is_i : i ≡ antenna_of (drop used s)) (is_end : end ≡ used + 26)
     (gives : (answer_of z n.0, n.1, n.2) ≡ core_step q.0 b q.1 q.2) (is_ook : length n.1 ≡ length q.1) (is_fsk : length n.2 ≡ length q.2) where
   -- one step more
   pub for_on : HeardFor i p s from end z n

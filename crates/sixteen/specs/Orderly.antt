@@ -1,6 +1,6 @@
 -- The program of sixteen antennas is one over a stream: what stands at the front of the bytes is the same whatever comes after it, once it is not
 -- waited for.
-use Prim.Native.Nat.{ℕ, ◌+◌, ◌<◌}
+use Prim.Native.Nat.{ℕ, ◌<◌}
 use mathlib.Core.Bool.{Bool, true, false, cond}
 use mathlib.Core.Path.{◌≡◌, refl, sym, ◌∙◌, ap}
 use mathlib.Core.List.{List, [], ◌∷◌, ◌++◌}
@@ -10,22 +10,19 @@ use lib.Seq.{set-get_or}
 use lib.Dec.{eqb, ltb}
 use borrow.Author.Tests.{eqb-true, eqb-false}
 use Rattle.std.specs.Prelude.{Ok, Err}
-use Rattle.shared.specs.declared.Next.TheVariants.{Stay}
-use Rattle.refusals.specs.declared.Refusal.TheVariants as refusal
 use Rattle.lane.specs.Answers.{Reply}
 use Rattle.lane.specs.Step.{new_lane}
-use Rattle.commands.specs.declared.Command.{Command}
-use Rattle.commands.specs.declared.Command.TheVariants.{End, Open, Begin, Step, Unknown, Short, Close}
-use Rattle.commands.specs.Command.{size_of}
+use Rattle.commands.specs.Command.{Found, size_of}
+use Rattle.commands.proofs.Stream.{taken}
 use Rattle.commands.specs.Stream.{whole}
-use Rattle.calls.specs.Turn.{Called, unchanged, called, waits}
+use Rattle.calls.specs.Turn.{Called, unchanged, missed, called, waits}
 use Rattle.calls.specs.Orderly.{waits_whole, only_end}
 use Rattle.addressed.specs.Addressed.{addressed_of, antenna_of, addressed_size}
 use Rattle.addressed.proofs.Laws.{size_fits, addressed_more, antenna_more, some_there, none_there}
 use Rattle.among.specs.Among.{antennas, called_among, Lanes, put_at, lane_at, answer_to, after_call}
 use Rattle.stream.specs.Machine.{Settled, Orderly}
 use Rattle.stream.proofs.Taken.{settles, some_left}
-use Rattle.sixteen.specs.Sixteen.{is_heard_of, spoken_text, machine}
+use Rattle.sixteen.specs.Sixteen.{spoken_text, machine}
 
 -- a lane put back where it was
 pub put_own : (all : Lanes) (i : ℕ) → put_at all i (lane_at all i) ≡ all
@@ -36,41 +33,23 @@ stays_put : (all : Lanes) (i : ℕ) (r : Reply) (b : Bool) → (let c : Called =
 stays_put all i r true = put_own all i
 stays_put all i r false = refl
 
-pub no_call : (all : Lanes) (i : ℕ) (k : Command) → size_of k ≡ 0 → after_call all i k ≡ all
+pub no_call : (all : Lanes) (i : ℕ) (k : Found) → size_of k ≡ 0 → after_call all i k ≡ all
 unfolding after_call answer_to called_among called
-no_call all i End h = stays_put all i (Ok Stay) (ltb i antennas)
-no_call all i (Open s true) h = absurd (omega (arith, h))
-no_call all i (Open s false) h = absurd (omega (arith, h))
-no_call all i (Begin b) h = absurd (omega (arith, h))
-no_call all i (Step s) h = absurd (omega (arith, h))
-no_call all i Unknown h = stays_put all i (Err refusal.Unknown) (ltb i antennas)
-no_call all i Short h = stays_put all i (Err refusal.Short) (ltb i antennas)
-no_call all i Close h = absurd (omega (arith, h))
-
-none_heard : (k : Command) → size_of k ≡ 0 → is_heard_of k ≡ false
-none_heard End h = refl
-none_heard (Open s true) h = absurd (omega (arith, h))
-none_heard (Open s false) h = absurd (omega (arith, h))
-none_heard (Begin b) h = absurd (omega (arith, h))
-none_heard (Step s) h = absurd (omega (arith, h))
-none_heard Unknown h = refl
-none_heard Short h = refl
-none_heard Close h = absurd (omega (arith, h))
+no_call all i (Ok k) h = absurd (taken k h)
+no_call all i (Err m) h = stays_put all i (missed m) (ltb i antennas)
 
 -- and prints the same of whatever antenna
-none_text_lem : (i j : ℕ) (k : Command) (c d : Called) → size_of k ≡ 0 → spoken_text i k c ≡ spoken_text j k d
-none_text_lem i j k c d h = simp (none_heard k h)
+none_text_lem : (i j : ℕ) (k : Found) (c d : Called) → size_of k ≡ 0 → spoken_text i k c ≡ spoken_text j k d
+none_text_lem i j (Ok k) c d h = absurd (taken k h)
+none_text_lem i j (Err m) c d h = refl
 
-size_none : (k : Command) → addressed_size k ≡ 0 → size_of k ≡ 0
-size_none k h = go (eqb (size_of k) 0) refl h
-  where
-    go : (b : Bool) → eqb (size_of k) 0 ≡ b → cond b 0 (size_of k + 1) ≡ 0 → size_of k ≡ 0
-    go true q e = eqb-true (size_of k) 0 q
-    go false q e = absurd (omega (arith, e))
+size_none : (k : Found) → addressed_size k ≡ 0 → size_of k ≡ 0
+size_none (Ok k) h = absurd (omega (arith, h))
+size_none (Err m) h = refl
 
 -- a whole command
 module _ (s t : List ℕ) (w : whole (addressed_of s) ≡ true) where
-  abbrev k : Command
+  abbrev k : Found
   k = addressed_of s
 
   same : addressed_of (s ++ t) ≡ k
@@ -84,7 +63,7 @@ module _ (s t : List ℕ) (w : whole (addressed_of s) ≡ true) where
       go false q = ap (λ (i : ℕ). after_call all i k) (antenna_more s t w (eqb-false (size_of k) 0 q))
 
   text_more : (all : Lanes) → spoken_text (antenna_of (s ++ t)) (addressed_of (s ++ t)) (answer_to all (antenna_of (s ++ t)) (addressed_of (s ++ t))) ≡ spoken_text (antenna_of s) k (answer_to all (antenna_of s) k)
-  text_more all = ap (λ (d : Command). spoken_text (antenna_of (s ++ t)) d (answer_to all (antenna_of (s ++ t)) d)) same ∙ go (eqb (size_of k) 0) refl
+  text_more all = ap (λ (d : Found). spoken_text (antenna_of (s ++ t)) d (answer_to all (antenna_of (s ++ t)) d)) same ∙ go (eqb (size_of k) 0) refl
     where
       go : (b : Bool) → eqb (size_of k) 0 ≡ b → spoken_text (antenna_of (s ++ t)) k (answer_to all (antenna_of (s ++ t)) k) ≡ spoken_text (antenna_of s) k (answer_to all (antenna_of s) k)
       go true q = none_text_lem (antenna_of (s ++ t)) (antenna_of s) k _ _ (eqb-true (size_of k) 0 q)
@@ -102,12 +81,12 @@ orderly =
     record {
       fits = size_fits;
       none_waits = λ last. ap (waits last) none_there;
-      none_printed = λ all. ap (λ (k : Command). spoken_text 0 k (answer_to all 0 k)) none_there;
+      none_printed = λ all. ap (λ (k : Found). spoken_text 0 k (answer_to all 0 k)) none_there;
       all_used = used_all;
       stays = λ all s h. no_call all (antenna_of s) (addressed_of s) (size_none (addressed_of s) h);
       settled = settles machine (λ s t w. whole_settled s t (waits_whole (addressed_of s) w));
     }
 
 -- where a byte is, a command is there
-pub bytes_there : (s : List ℕ) (from : ℕ) (k : Command) → from < length s → k ≡ addressed_of (drop from s) → waits true k ≡ false
+pub bytes_there : (s : List ℕ) (from : ℕ) (k : Found) → from < length s → k ≡ addressed_of (drop from s) → waits true k ≡ false
 bytes_there s from k inside is_k = ap (waits true) is_k ∙ some_left machine orderly s from inside

@@ -10,13 +10,14 @@ ghost use Rattle.reached.specs.Reached.{Sound};
 ghost use Rattle.calls.specs.Turn.{Called, most_of};
 ghost use Rattle.lane.specs.Answers.{answer_of};
 ghost use Rattle.among.specs.Among.{antennas};
-ghost use Rattle.sixteen.specs.Sixteen.{heard_text, is_heard_of, none_text, spoken_text, row_of, at_first};
+ghost use Rattle.sixteen.specs.Sixteen.{heard_text, none_text, spoken_text, row_of, at_first};
 ghost use Rattle.sixteen.specs.Spoken.{Stands, one_of, Heard, spoken_room, has_tagged_room, Told, held, state_of, IsSound};
 
 use calls::Past;
-use commands::Command;
+use commands::{Found, Missing};
 use lane::{Answer, Lane, Reply};
 use lines::Text;
+use refusals::Refusal;
 use shared::Next;
 use stream::{Station, Stop, Turned};
 
@@ -25,7 +26,7 @@ use stream::{Station, Stop, Turned};
 pub struct Asked {
     pub others: u32,
     pub antenna: usize,
-    pub command: Command,
+    pub command: Found,
 }
 
 // ---- one antenna
@@ -46,12 +47,7 @@ fn steps(q: Asked, lane: &mut Lane, s: &[u8], from: usize, ook: &mut [u32], fsk:
     let mut cs = lane.burst.frame.cand.cand_f;
     let mut used = from;
     let mut reply = Ok(Next::Stay);
-    while used < s.len() {
-        let is = addressed::is_step_for(s, used, i);
-        if !is {
-            break;
-        }
-        let b = addressed::step_at(s, used);
+    while let Some(b) = addressed::step_for(s, used, i) {
         let a = step::step_core(
             c, b, &mut es, &mut re, &mut im, &mut ring, &mut cs, ook, fsk,
         );
@@ -71,14 +67,14 @@ fn steps(q: Asked, lane: &mut Lane, s: &[u8], from: usize, ook: &mut [u32], fsk:
 fn call_one(q: Asked, l: Lane, ook: &mut [u32], fsk: &[u32]) -> Answer
     ensures { (is_step_of q.command && ltb q.antenna antennas) ≡ false → ◌≡◌ {A = Called} (result, ook.new, fsk.now) (one_of q (l, ook.old, fsk.now)) }
 {
-    let k = q.command;
-    let there = q.antenna < 16;
-    if there {
-        let a = calls::call_other(l, k, ook, fsk);
-        return among::settle(l, a, k, q.others);
+    if q.antenna < 16 {
+        let a = calls::call_other(l, q.command, ook, fsk);
+        return among::settle(l, a, q.command, q.others);
     }
-    let reply = among::no_antenna(k);
-    Answer { reply, lane: l }
+    Answer {
+        reply: among::no_antenna(q.command),
+        lane: l,
+    }
 }
 
 // The command at a place of the bytes, and where it is a step those of its antenna that follow, up to
@@ -94,7 +90,10 @@ fn pass(q: Asked, lane: &mut Lane, s: &[u8], from: usize, ook: &mut [u32], fsk: 
     let a = call_one(q, *lane, ook, fsk);
     *lane = a.lane;
     Past {
-        used: from + addressed::size_of(q.command),
+        used: match q.command {
+            Ok(k) => from + addressed::size_of(k),
+            Err(_) => from,
+        },
         reply: a.reply,
     }
 }
@@ -111,26 +110,15 @@ fn put_heard<'a>(i: usize, r: Reply, l: &Lane, ook: &'a [u32], fsk: &'a [u32], t
     tagged::put_call(i, r.map_err(u32::from), f, fs, o, os, l.last, text);
 }
 
-// Whether the lines of a command have its antenna's number: refusals 1 and 2 have none.
-fn is_heard(k: Command) -> bool
-    ensures { result ≡ is_heard_of k }
-{
-    !matches!(k, Command::End | Command::Unknown | Command::Short)
-}
-
-// Writes the lines of what is no command.
-fn put_none(k: Command, text: &mut Text)
+// Writes the lines of what is no command: they have no antenna's number.
+fn put_none(m: Missing, text: &mut Text)
     requires { RoomFor 48 text.old }
-    ensures { Puts (none_text k) 48 text.old text.new }
+    ensures { Puts (none_text m) 48 text.old text.new }
 {
-    match k {
-        Command::End => {}
-        Command::Open(_, _) => {}
-        Command::Begin(_) => {}
-        Command::Step(_) => {}
-        Command::Unknown => text.put_refused(1),
-        Command::Short => text.put_refused(2),
-        Command::Close => {}
+    match m {
+        Missing::End => {}
+        Missing::Unknown => text.put_refused(Refusal::Unknown.into()),
+        Missing::Short => text.put_refused(Refusal::Short.into()),
     }
 }
 
@@ -150,10 +138,8 @@ fn put_spoken<'a>(q: Asked, r: Reply, l: &Lane, ook: &'a [u32], fsk: &'a [u32], 
     requires { RoomFor (spoken_room r l.now ook.now fsk.now) text.old }
     ensures { Puts (spoken_text q.antenna q.command (answer_of r l.now, ook.now, fsk.now)) (spoken_room r l.now ook.now fsk.now) text.old text.new }
 {
-    let k = q.command;
-    let heard = is_heard(k);
-    if !heard {
-        return put_none(k, text);
+    if let Err(m) = q.command {
+        return put_none(m, text);
     }
     let quiet = calls::is_quiet(r, l.burst.out_fsk.state, l.burst.out_ook.state);
     if quiet {
