@@ -30,7 +30,8 @@ pub fn command_at(s: &[u8], at: usize) -> Found
     commands::decode_by(u[0], &u[2..])
 }
 
-// The antenna's number, 0 where its byte is not there.
+// The antenna's number, 0 where its byte is not there. No command stands there then, and the one caller
+// names some antenna for that too: it would take an `Option` for 0 again.
 pub fn antenna_at(s: &[u8], at: usize) -> usize
     ensures { (result ≡ antenna_of (drop at s.now)) × (result < 256) }
 {

@@ -37,10 +37,7 @@ fn is_late(r: Reply) -> bool
 pub fn settle(l: Lane, a: Answer, k: Found, others: u32) -> Answer
     ensures { result ≡ settled_of others k l a }
 {
-    let begins = is_begin(k);
-    let r = a.reply;
-    let late = is_late(r);
-    let refused = begins & ((PLACES <= others) & late);
+    let refused = is_begin(k) & ((PLACES <= others) & is_late(a.reply));
     if refused {
         return Answer {
             reply: Err(Refusal::Places),

@@ -54,6 +54,9 @@ impl Command {
 
 // ---- operands
 
+// Each reads its numbers at the places that document 01 lists, as its definition does: cut into arrays
+// first, none of these places would stand here.
+
 fn pair_at(o: &[u8], i: usize) -> C32
     requires { i + 8 ≤ length o.now }
     ensures { result ≡ pair_at o.now i }

@@ -91,13 +91,11 @@ pub fn read_more<R: Read>(
     if last | full | (have == buf.len()) {
         return Ok(Input { came: 0, last });
     }
-    match from.read(&mut buf[have..]) {
-        Ok(came) => Ok(Input {
-            came,
-            last: came == 0,
-        }),
-        Err(why) => Err(Failed::Read(why)),
-    }
+    let came = from.read(&mut buf[have..]).map_err(Failed::Read)?;
+    Ok(Input {
+        came,
+        last: came == 0,
+    })
 }
 
 // All of the text, or the first failure: a write that takes nothing is one, and none is tried again. Each write takes as many
@@ -120,10 +118,7 @@ fn write_text<W: Write>(to: &mut W, text: &[u8]) -> io::Result<()>
 pub fn put<W: Write>(to: &mut W, text: &[u8]) -> Result<(), Failed>
     ensures { Gave (W.contents to.old) (W.contents to.new) text.now (is_ok result) }
 {
-    match write_text(to, text) {
-        Ok(()) => Ok(()),
-        Err(why) => Err(Failed::Write(why)),
-    }
+    write_text(to, text).map_err(Failed::Write)
 }
 
 #[cfg(test)]

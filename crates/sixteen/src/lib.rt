@@ -200,7 +200,8 @@ impl Channel {
 
 // ---- sixteen
 
-// The row of an antenna's lane; the first where there is no such antenna.
+// The row of an antenna's lane; the first where there is no such antenna. As an `Option` it would be
+// unwrapped to the first at once: the room of a refusal is asked for by a lane too, as in the machine's `most`.
 fn row_of(i: usize) -> usize
     ensures { result ≡ row_of i }
 {
