@@ -32,8 +32,7 @@ pub struct Asked {
 // ---- one antenna
 
 // The step at a place of the bytes and those of the same antenna that follow it, up to the first that
-// prints: core and arrays are changed in place (as `calls::steps` does). One loop for both would need a
-// trait that says where a step stands and what either machine makes of it: longer than the loop.
+// prints: core and arrays are changed in place, as `calls::steps` does.
 fn steps(q: Asked, lane: &mut Lane, s: &[u8], from: usize, ook: &mut [u32], fsk: &mut [u32]) -> Past
     requires { Stands q s.now from × (is_step_of q.command ≡ true) × (q.antenna < antennas) × Sound lane.old }
     ensures { Heard q (lane.old, ook.old, fsk.old) s.now from result (lane.new, ook.new, fsk.new) }
