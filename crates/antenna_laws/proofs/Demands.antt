@@ -22,6 +22,7 @@ use Rattle.lane.specs.Idle.{idle_lane}
 use Rattle.lane.specs.Serial.{stamp_of}
 use Rattle.lane.specs.Step.{new_lane, opened, begun, stepped, closed}
 use Rattle.commands.specs.Command.{Found}
+use Rattle.commands.specs.declared.Missing.TheVariants as missing
 use Rattle.commands.specs.declared.Command.TheVariants.{Open, OpenCarry, Begin, Step, Close}
 use Rattle.calls.specs.Turn.{State, Called, called, next}
 use Rattle.pulses.specs.Yardstick.{as_left, lent, Call, opening, begin, step, close, Given, fetched, Yardstick, unused, refusal, accepts, advanced, lent_well, handed_on}
@@ -268,7 +269,9 @@ follows_all (Ok (OpenCarry s) ∷ ks) k p ts F = follows_all ks _ _ _ (carry_adv
 follows_all (Ok (Begin b) ∷ ks) k p ts F = follows_all ks _ _ _ (begin_advances k p ts F b)
 follows_all (Ok (Step s) ∷ ks) k p ts F = follows_all ks _ _ _ (step_advances k p ts F s)
 follows_all (Ok Close ∷ ks) k p ts F = follows_all ks _ _ _ (close_advances k p ts F)
-follows_all (Err m ∷ ks) k p ts F = follows_all ks k p ts F
+follows_all (Err missing.End ∷ ks) k p ts F = follows_all ks k p ts F
+follows_all (Err missing.Unknown ∷ ks) k p ts F = follows_all ks k p ts F
+follows_all (Err missing.Short ∷ ks) k p ts F = follows_all ks k p ts F
 
 -- ---- from a new lane
 

@@ -1,5 +1,5 @@
 -- Small lists of calls of sixteen antennas, each with the reply to the last of them and how many lanes are then out of idle.
-use Rattle.std.specs.Prelude.{ℕ, zero, suc, ◌+◌, ◌^◌, false, ◌≡◌, List, [], ◌∷◌, ◌++◌, map, replicate, Float, Result, Ok, Err}
+use Rattle.std.specs.Prelude.{ℕ, zero, suc, ◌+◌, ◌^◌, ◌≡◌, List, [], ◌∷◌, ◌++◌, map, replicate, Float, Result, Ok, Err}
 use Rattle.std.specs.Float.{binary32}
 use Rattle.std.specs.Float.Ieee.{of_bits}
 use Rattle.arith.specs.declared.C32.{C32}
