@@ -7,10 +7,11 @@ use mathlib.Core.Path.{◌≡◌, refl, sym, ◌∙◌, ap, subst}
 use mathlib.Core.List.{List, [], ◌∷◌}
 use native.Mathlib.Omega.{arith}
 use native.Mathlib.Nat.{not-suc-le-zero, le_of_suc-le-suc}
-use lib.ListN.{length, set, get_or, drop, replicate}
+use lib.ListN.{length, set, get_or, replicate}
 use lib.Dec.{leb, ltb, eqb}
 use borrow.Author.Tests.{ltb-true, ltb-false, le-leb, lt-leb}
 use Rattle.std.specs.Prelude.{Ok, Err}
+use Rattle.std.specs.List.{fold}
 use Rattle.refusals.specs.Domain.{index_ok, room_ok}
 use Rattle.refusals.specs.Serial.{serial_left}
 use Rattle.refusals.specs.Order.{check, first_failed}
@@ -130,24 +131,11 @@ any_default [] i d e h = absurd (not-suc-le-zero h)
 any_default (l ∷ ls) zero d e h = refl
 any_default (l ∷ ls) (suc i) d e h = any_default ls i d e (le_of_suc-le-suc h)
 
--- a count from the front on: what is left, lane after lane
-outs_next : (ls : List Lane) (i : ℕ) (d : Lane) → i < length ls → outs (drop i ls) ≡ out_of (get_or ls i d) + outs (drop (suc i) ls)
+-- as a sum, from a number on
+pub outs_sum : (ls : List Lane) (n : ℕ) → fold (λ a l. a + out_of l) n ls ≡ n + outs ls
 unfolding outs
-outs_next [] i d h = absurd (not-suc-le-zero h)
-outs_next (l ∷ ls) zero d h = refl
-outs_next (l ∷ ls) (suc i) d h = outs_next ls i d (le_of_suc-le-suc h)
-
-pub outs_left : (ls : List Lane) (i : ℕ) (d : Lane) → i < length ls → outs (drop i ls) ≡ out_of (get_or ls i d) + outs (drop (i + 1) ls)
-outs_left ls i d h =
-    let more : suc i ≡ i + 1 = omega arith in
-    outs_next ls i d h ∙ ap (λ (j : ℕ). out_of (get_or ls i d) + outs (drop j ls)) more
-
-pub outs_over : (ls : List Lane) (i : ℕ) → length ls ≤ i → outs (drop i ls) ≡ 0
-unfolding outs
-outs_over [] zero h = refl
-outs_over [] (suc i) h = refl
-outs_over (l ∷ ls) zero h = absurd (not-suc-le-zero h)
-outs_over (l ∷ ls) (suc i) h = outs_over ls i (le_of_suc-le-suc h)
+outs_sum [] n = omega arith
+outs_sum (l ∷ ls) n = omega (arith, outs_sum ls (n + out_of l))
 
 -- new lanes are idle
 out_new : out_of new_lane ≡ 0

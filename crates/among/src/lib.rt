@@ -69,11 +69,7 @@ pub fn is_out(l: &Lane) -> bool
 pub fn count_out(lanes: &[Lane; 16]) -> u32
     ensures { result ≡ outs lanes.now }
 {
-    let mut n = 0;
-    for l in lanes {
-        n += u32::from(is_out(l));
-    }
-    n
+    lanes.iter().map(|l| u32::from(is_out(l))).sum()
 }
 
 // The reply to a command whose antenna is above 15: refusal 6, right after 1 and 2.
