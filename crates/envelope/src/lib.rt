@@ -52,7 +52,7 @@ pub type Acted = ActedOf<Out>;
 
 pub type ActedCore = ActedOf<OutCore>;
 
-// What the end of a burst reads of presence.
+// What the end of a burst reads of presence: numbers of a lane, as in shared::Settings.
 #[derive(Clone, Copy)]
 pub struct Absence {
     pub frames: u32,

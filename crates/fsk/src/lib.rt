@@ -159,7 +159,7 @@ impl Committed {
 
     // The second slot of the pair, which is whole then.
     #[tactic(auto, unfolding(shared::specs::Counts::inc))]
-    fn close_pair(self, b: f64, fsk: &mut [u32]) -> Committed
+    pub fn close_pair(self, b: f64, fsk: &mut [u32]) -> Committed
         ensures { (result, fsk.new) ≡ close_pair_of self b fsk.old }
     {
         put_end(fsk, 2 * (self.fsk_n as usize) + 1, self.f_origin, b);
@@ -388,7 +388,7 @@ fn past(first_upper: bool, f: f32, thr: f32) -> bool
     if first_upper { f < thr } else { f > thr }
 }
 
-// The first of n candidates past the threshold, or other.
+// The first of n candidates past the threshold, or other. A loop: with `position`, whose promise speaks of runs of calls, the proof did not close.
 fn first_past(first_upper: bool, thr: f32, cs: &[f32; 8], n: u32, other: u32) -> u32
     requires { n ≤ 8 }
     ensures { result ≡ first_past_of first_upper thr cs.now other n 0 }

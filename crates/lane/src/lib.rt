@@ -517,16 +517,7 @@ pub fn begin(l: Lane, b: BeginArgs, ook: &[u32], fsk: &[u32]) -> Answer
 pub fn no_core_out() -> OutCore
     ensures { whole_out result ≡ no_out }
 {
-    OutCore {
-        index: 0,
-        end: 0,
-        state: 0,
-        cut: 0,
-        pairs: 0,
-        level: 0.0,
-        fsk: 0,
-        carrier: Carrier::Angle(0.0),
-    }
+    OutCore::default()
 }
 
 // The burst with its train decided; its records have the call's serial.

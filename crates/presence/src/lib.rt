@@ -170,12 +170,10 @@ fn advance(
 fn sure_if(due: bool, s: Pres) -> Pres
     ensures { result ≡ sure_if_of due s }
 {
-    if due {
-        let mut q = s;
-        q.run.confirmed = 1;
-        return q;
+    Pres {
+        run: s.run.confirm_if(due),
+        ..s
     }
-    s
 }
 
 #[tactic(auto, unfolding(crate::specs::Presence::ends_of))]

@@ -59,7 +59,7 @@ pub struct Out {
 
 // The same in the core, where nothing has a serial yet: numbers as in Settings, and for its reason. A struct of its own: a serial beside a
 // generic record would put one struct more between a reader and each field.
-#[derive(Clone, Copy)]
+#[derive(Clone, Copy, Default)]
 pub struct OutCore {
     pub index: u64,
     pub end: u64,
@@ -149,7 +149,7 @@ impl Carrier {
     }
 }
 
-// The record of a caller, made from that of the core and its serial, and back.
+// The record of a caller, made from that of the core and its serial, and back. No `From`: one way takes a serial.
 pub fn whole_out(o: OutCore, serial: u64) -> Out
     ensures { result ≡ numbered serial (whole_out o) }
 {
@@ -183,17 +183,17 @@ pub fn core_out(o: Out) -> OutCore
 
 // ---- what follows min_steps
 
-// Tests with early returns: as `(min_steps / 2).max(2).min(8)` a call of the OOK stream takes 3.4 % more instructions.
+// Tests: as `(min_steps / 2).clamp(2, 8)` a call of the FSK stream takes 1.1 % more instructions.
 pub fn fsk_min(min_steps: u32) -> u32
     ensures { result ≡ fsk_min_of min_steps }
 {
     if min_steps < 4 {
-        return 2;
+        2
+    } else if min_steps < 16 {
+        min_steps / 2
+    } else {
+        8
     }
-    if 16 <= min_steps {
-        return 8;
-    }
-    min_steps / 2
 }
 
 pub fn refine_at(min_steps: u32) -> u32

@@ -1,5 +1,5 @@
 -- The invariant: the turns that are left from step j give the whole split; a turn and the end are laws of RefineLaws.
-use Rattle.std.proofs.Common.{◌≡◌, ◌<◌, ◌+◌, ◌-◌, ◌∙◌, sym, arith}
+use Rattle.std.proofs.Common.{◌-◌, ◌∙◌, sym, arith}
 use Rattle.ook.proofs.RefineLaws.{split_better, split_worse, split_end}
 use Rattle.ook.proofs.best_split.Goals.{then-sum-best, else-sum-best}
 use Rattle.ook.proofs.best_split.Goals as goal
