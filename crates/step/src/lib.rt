@@ -2,7 +2,7 @@
 // with the arrays lent: `step_core` for a program that keeps both, `step` for a caller that hands over the lane by value.
 #![tactic(auto)]
 
-ghost use Rattle.std.specs.Prelude.{◌≡◌, true, ℕ, ◌≤◌, List, Float, pos, length, get_or, eqb};
+ghost use Rattle.std.specs.Prelude.{◌≡◌, true, ℕ, ◌≤◌, ◌<◌, List, Float, pos, length, get_or, eqb};
 ghost use Rattle.lane.specs.Answers.{phase_of, answer_of};
 ghost use Rattle.lane.specs.Refusals.{step_refusal_by};
 ghost use Rattle.lane.specs.Begin.{cleared_of};
@@ -12,7 +12,7 @@ ghost use Rattle.shared.specs.Core.{whole_out};
 ghost use Rattle.std.specs.Float.{binary64, nan};
 ghost use Rattle.std.specs.Float.Ieee.{of_int};
 ghost use Rattle.arith.specs.Leaves.{lead_len_of};
-ghost use Rattle.burst.specs.Core.{whole_burst};
+ghost use Rattle.burst.specs.Core.{whole_burst, at_in_of};
 ghost use Rattle.burst.specs.Makers.{with_serials};
 ghost use Rattle.burst.specs.Lead.{lead_add_of, largest_of, begin_burst_of};
 ghost use Rattle.lane.specs.Step.{opened, stepped_by, stepped};
@@ -362,12 +362,36 @@ fn at_of(c: Core, s: StepArgs) -> At
     }
 }
 
+// What the i-th sample of a call reads: of the lead-in where it is replayed, and else the one of the call.
+#[tactic(auto, unfolding(burst::specs::Core::at_in_of))]
+fn at_in(replays: bool, q: At, i: usize, es: &[f32; 16], re: &[f32; 17], im: &[f32; 17]) -> At
+    requires { i < 16 }
+    ensures { result ≡ at_in_of replays q es.now re.now im.now i }
+{
+    if !replays {
+        return q;
+    }
+    At {
+        idx: q.lead_at.wrapping_add(i as u64),
+        e: es[i],
+        x: C32 {
+            re: re[i + 1],
+            im: im[i + 1],
+        },
+        xp: C32 {
+            re: re[i],
+            im: im[i],
+        },
+        ..q
+    }
+}
+
 // The burst that begins where the lead-in is full.
 fn first_burst(lead_at: u64, es: &[f32; 16], n: usize, b: BurstCore) -> BurstCore
     requires { n ≤ 16 }
     ensures { (cs : List Float) → whole_burst cs result ≡ begin_burst_of (largest_of es.now n) (of_int binary64 (pos lead_at)) (get_or es.now 0 nan) (whole_burst cs b) }
 {
-    let high = burst::largest(es, n);
+    let high = burst::largest(&es[..n]);
     let t = arith::u64_to_f64(lead_at);
     burst::begin_burst(high, t, es[0], b)
 }
@@ -419,7 +443,8 @@ pub fn step_core(
         let due = n != 0;
         if due {
             let b = m.burst;
-            let w = burst::samples(p, leads, q, n, es, re, im, ring, b, cs, ook, fsk);
+            let read = |i: usize| at_in(leads, q, i, es, re, im);
+            let w = burst::samples(p, read, n, ring, b, cs, ook, fsk);
             let next = w.next;
             let wb = w.burst;
             m.burst = wb;

@@ -7,10 +7,12 @@ use native.Mathlib.Omega.{arith}
 use borrow.Author.Tests.{not-true, not-false}
 use lib.Ieee.{Float}
 use lib.ListN.{length}
+use Rattle.std.proofs.Common.{rules}
 use Rattle.std.specs.Prelude.{⊤, Result, Ok, is_ok}
 use Rattle.std.specs.Result.{result_and}
 use Rattle.refusals.specs.declared.Refusal.{Refusal}
 use Rattle.shared.specs.declared.Next.TheVariants as next
+use Rattle.burst.specs.Core.{at_in_of}
 use Rattle.step.proofs.Ways.{asked_ok, core_fills, core_samples}
 use Rattle.step.proofs.step_core.Goals as goal
 use Rattle.step.proofs.step_core.Goals.{then-leads+then-not-fills, then-leads+else-not-fills, else-leads}
@@ -27,7 +29,7 @@ returns-then-due c =
     c.step_refusal-asked.result _ c.step_refusal-asked.ensures _ c.clear_core-clear.result ok
     c.ring_put.ensures c.clear_core-clear.ensures c.if-leads.es c.if-leads.re c.if-leads.im c.if-leads.m
     c.samples-w.result _ _ _ c.at_of-q.result _ c.if-leads.n c.phase_of.result (Ok c.samples-w.result.next)
-    c.at_of-q.ensures c.phase_of.ensures refl c.samples-w.ensures in
+    c.at_of-q.ensures c.phase_of.ensures refl (c.samples-w.ensures (at_in_of _ c.at_of-q.result c.if-leads.es c.if-leads.re c.if-leads.im) (λ i a below given. search rules)) in
     elim c.if-leads.branch [
       | then-leads+then-not-fills w ↦ (
         told.1 w.lead_add-have.result w.lead_len-len.result w.first_burst-first.result _ _ _ w.es-is w.re-is w.im-is w.if-leads.true-raw w.if-leads.true-raw w.lead_add-have.ensures.0
