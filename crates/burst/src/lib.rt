@@ -90,7 +90,8 @@ fn inputs_of(a: At, ep: f32, s: Seen, b: BurstCore) -> Inputs
 }
 
 impl BurstCore {
-    // What the end of a frame may change, and the burst with it changed.
+    // What the end of a frame may change, read out and put back. The burst has no struct for it: the definitions of a lane, of pulses and
+    // of calls name a burst's train, frame and records as the lane of document 01 does, each a field of its own.
     fn body(self) -> BodyCore
         ensures { (cs : List Float) → whole_body cs result ≡ body_in (whole_burst cs self) }
     {

@@ -4,7 +4,7 @@
 #![tactic(auto)]
 
 ghost use Rattle.std.specs.Prelude.{◌≡◌};
-ghost use Rattle.envelope.specs.See.{threshold_of, on_of, refine_due_of, high_of, pac_of, see_of};
+ghost use Rattle.envelope.specs.See.{refine_due_of, high_of, pac_of, see_of};
 ghost use Rattle.envelope.specs.Act.{rise_of, fall_of, confirm_of, act_of};
 ghost use Rattle.envelope.specs.Core.{whole_acted};
 ghost use Rattle.shared.specs.Core.{whole_out};
@@ -68,14 +68,6 @@ const HYSTERESIS: f32 = 0.125;
 // The signal level's step with each sample of a pulse.
 const HIGH_RATIO: f32 = 0.015625;
 
-// A level is left later than it is reached, so that noise at the threshold makes no runs.
-#[tactic(auto, unfolding(crate::specs::See::threshold_of))]
-fn threshold(level: u32, t: f32, h: f32) -> f32
-    ensures { result ≡ threshold_of level t h }
-{
-    if level == 1 { t - h } else { t + h }
-}
-
 // The edge of a run is refined once, when the run is long enough: a glitch is not refined.
 #[tactic(auto, unfolding(crate::specs::See::refine_due_of))]
 fn refine_due(min_steps: u32, a: At, ring: &[f32; 32], high: f32, on: bool, s: Env) -> Env
@@ -120,15 +112,16 @@ fn pac_of(on: bool, pac: C32, d: C32) -> C32
 }
 
 // The level, the run, its refinement, the signal level and the pulse's sum, in the Rust's order.
-#[tactic(auto, unfolding(run::specs::Run::edge_at, run::specs::Run::is_high_of, crate::specs::See::on_of, crate::specs::See::see_of))]
+#[tactic(auto, unfolding(run::specs::Run::edge_at, run::specs::Run::is_high_of, crate::specs::See::threshold_of, crate::specs::See::on_of, crate::specs::See::see_of))]
 pub fn see(p: Settings, a: At, ring: &[f32; 32], high: f32, e_prev: f32, s: Env, pac: C32) -> Seen
     ensures { result ≡ see_of p a ring.now high e_prev s pac }
 {
     let t = arith::midpoint(a.noise, high);
     let h = t * HYSTERESIS;
-    let level = s.run.level;
-    let thr = threshold(level, t, h);
-    let on = run::is_high(level == 1, a.e, thr);
+    let up = s.run.level == 1;
+    // A level is left later than it is reached, so that noise at the threshold makes no runs.
+    let thr = if up { t - h } else { t + h };
+    let on = run::is_high(up, a.e, thr);
     let m = s.run.meets(u32::from(on));
     let c = Crossing {
         idx: a.idx,

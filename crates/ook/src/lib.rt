@@ -50,8 +50,8 @@ pub struct Pushed {
     pub train: Train,
 }
 
-// The train after its end, and a record: a caller's (`Ended`), or the core's (`EndedCore`). So with each pair of names below and in
-// the crates above: one struct, over the type in which the two differ.
+// The train and the record beside it, as one stage hands them to the next: the record a caller's (`Ended`), or the core's (`EndedCore`). So
+// with each pair of names below and in the crates above: one struct, over the type in which the two differ.
 #[derive(Clone, Copy)]
 pub struct EndedOf<O> {
     pub train: Train,
@@ -81,15 +81,13 @@ pub type DoneCore = DoneOf<OutCore>;
 pub fn advance(m: Move, env: Env, on: bool, c: Crossing) -> Env
     ensures { result ≡ advance_of m env on (edge_at c) c.idx }
 {
-    // The run by itself: with `env.run` in each arm a call of the OOK stream takes 4.5 % more instructions.
-    let r = env.run;
     match m {
         Move::Same => Env {
-            run: r.lengthen(),
+            run: env.run.lengthen(),
             ..env
         },
         Move::Glitch => Env {
-            run: r.rejoin(u32::from(on)),
+            run: env.run.rejoin(u32::from(on)),
             c_run: env.c_prev,
             ref_pending: 0,
             ..env
@@ -97,7 +95,7 @@ pub fn advance(m: Move, env: Env, on: bool, c: Crossing) -> Env
         Move::Begins => {
             let tc = c.edge_at();
             Env {
-                run: r.begin_run(u32::from(on), tc),
+                run: env.run.begin_run(u32::from(on), tc),
                 c_run: tc,
                 c_prev: env.c_run,
                 ref_idx: c.idx,

@@ -68,7 +68,7 @@ pub fn is_high(up: bool, x: f32, thr: f32) -> bool
 }
 
 impl Run {
-    // What a sample of this level does to the run.
+    // What a sample of this level, 0 or 1, does to the run. A number: as a bool a call of each stream takes 3 to 4 % more instructions.
     #[inline(always)]
     pub fn meets(self, level: u32) -> Move
         ensures { result ≡ meets_of self level }
