@@ -103,14 +103,14 @@ step_core-a-requires c =
       c.envelopes-es.ensures.1,
       c.reals-re.ensures.1,
       c.imaginaries-im.ensures.1,
-      lead_core args.l c.core_of-c.result fine c.core_of-c.ensures,
-      serial_core args.l c.core_of-c.result fine c.core_of-c.ensures,
+      lead_core args.l c.core_of.result fine c.core_of.ensures,
+      serial_core args.l c.core_of.result fine c.core_of.ensures,
     )
 
 pub returns : goal.returns
 returns c =
     let args = c.args in
     step_by_core args.l args.s args.ook.now args.fsk.now c.lane_ok-sound.result _ c.lane_ok-sound.ensures c.step_refusal.ensures c.in_default.is
-    c.core_of-c.result c.envelopes-es.result c.reals-re.result c.imaginaries-im.result _ _ _ _ _
-    c.core_of-c.ensures c.envelopes-es.ensures.0 c.reals-re.ensures.0 c.imaginaries-im.ensures.0
-    c.joined-lane.ensures c.step_core-a.ensures.0
+    c.core_of.result c.envelopes-es.result c.reals-re.result c.imaginaries-im.result _ _ _ _ _
+    c.core_of.ensures c.envelopes-es.ensures.0 c.reals-re.ensures.0 c.imaginaries-im.ensures.0
+    c.joined.ensures c.step_core-a.ensures.0
