@@ -388,5 +388,6 @@ impl EndedOf<OutCore> {
 pub fn gap_ratio_exceeded(gap_ratio: f32, longest: Steps, n: u32) -> bool
     ensures { result ≡ gap_ratio_exceeded_of gap_ratio longest n }
 {
-    longest.0 > 0 && std::num::nearest_u32_to_f32(n) > gap_ratio * std::num::nearest_u32_to_f32(longest.0)
+    longest.0 > 0
+        && std::num::nearest_u32_to_f32(n) > gap_ratio * std::num::nearest_u32_to_f32(longest.0)
 }

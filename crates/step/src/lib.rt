@@ -316,7 +316,12 @@ fn first_burst(lead_at: u64, es: &[f32; 16], n: usize, b: BurstCore) -> BurstCor
     requires { n ≤ 16 }
     ensures { (cs : List Float) → whole_burst cs result ≡ begin_burst_of (largest_of es.now n) (of_int binary64 (pos lead_at)) (get_or es.now 0 nan) (whole_burst cs b) }
 {
-    burst::begin_burst(burst::largest(&es[..n]), std::num::nearest_u64_to_f64(lead_at), es[0], b)
+    burst::begin_burst(
+        burst::largest(&es[..n]),
+        std::num::nearest_u64_to_f64(lead_at),
+        es[0],
+        b,
+    )
 }
 
 // A step of the core, where refusal 4 does not apply.
