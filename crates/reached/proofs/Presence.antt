@@ -15,6 +15,7 @@ use Rattle.arith.specs.Leaves.{edge_of, cross_of}
 use Rattle.shared.specs.Counts.{sat_add_of}
 use Rattle.shared.specs.Params.{fsk_min_of}
 use Rattle.shared.proofs.Cases.{by_test}
+use Rattle.shared.proofs.Tests.{clash}
 use Rattle.shared.specs.declared.Settings.{Settings}
 use Rattle.run.specs.Run.{with_start, move_of, meets_of, lengthen_of, rejoin_of, begin_run_of, due_of}
 use Rattle.run.specs.declared.Run.{Run}
@@ -100,7 +101,7 @@ due_open s n q = go (eqb s.confirmed 0) refl q
   where
     go : (b : Bool) → eqb s.confirmed 0 ≡ b → cond b (leb n s.run_len) false ≡ true → s.confirmed ≡ 0
     go true r z = eqb-true s.confirmed 0 r
-    go false r z = let no : ◌≡◌ {A = ℕ} 0 1 = cc in absurd (omega arith)
+    go false r z = clash (sym z)
 
 -- the carrier is off: nothing more is counted, and a confirmed absence may end the frame
 off_answer : (p : Settings) (a : Inputs) (least : ℕ) (s : Pres) (b : Body) (ook fsk : List ℕ) → s.run.level ≡ 0 → s.run.confirmed ≤ 1 → FrameWithin p.max_pulses least (p.long_steps + 1) (most_runs p.long_steps) b.frame → (s.run.confirmed ≡ 0 → (s.run.prev_len ≤ p.long_steps) × FrameWithin p.max_pulses least s.run.prev_len (2 * s.run.prev_len) b.frame) → AnswerWithin p.max_pulses least p.long_steps (carrier_if_of p a false s b ook fsk)
@@ -127,7 +128,7 @@ module _ (p : Settings) (a : Inputs) (ook : List ℕ) where
       (λ q. record {
         flags = omega arith;
         frame_within = frame_up (omega arith) (omega arith) (end_carrier_within least (p.long_steps + 1) (2 * p.long_steps + 2) s.run.t_run b fsk h);
-        running = λ z. let no : ◌≡◌ {A = ℕ} 0 1 = cc in absurd (omega arith);
+        running = λ z. clash (sym z);
       })
       (λ q. record {
         flags = omega arith;

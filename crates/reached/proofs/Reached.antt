@@ -29,7 +29,7 @@ use Rattle.refusals.specs.State.{burst_ok, frame_ok, lead_ok, cand_ok}
 use Rattle.refusals.specs.declared.Refusal.TheVariants as refusal
 use Rattle.refusals.specs.Order.{first_failed}
 use Rattle.refusals.proofs.Order.{passed, AllPassed, none_failed}
-use Rattle.shared.proofs.Tests.{both_true}
+use Rattle.shared.proofs.Tests.{clash, both_true}
 use Rattle.reached.specs.Limits.{BurstWithin, UnderWay}
 use Rattle.reached.proofs.Burst.{SampledWithin, sample_within, replay_within, begin_burst_within}
 use Rattle.reached.proofs.Kept.{burst_ok_lem, cand_ok_lem, none_within, cleared_within, cleared_runs, factor_within, ended_within, serials_within}
@@ -40,7 +40,7 @@ use Rattle.lane.specs.declared.Answer.{Answer}
 use Rattle.lane.specs.Answers.{phase_of}
 use Rattle.refusals.specs.Serial.{serial_left}
 use Rattle.lane.specs.Refusals.{opened_ok, lane_ok, follows_of, begin_floats_ok, step_floats_ok, open_refusal, begin_refusal, step_refusal, close_refusal}
-use Rattle.lane.proofs.Refusals.{passes_lane, by_refusal}
+use Rattle.lane.proofs.Refusals.{passes_lane, open_left, begin_left, by_refusal}
 use Rattle.lane.specs.Idle.{no_burst, idle_lane}
 use Rattle.lane.specs.Begin.{cleared_of, begin_lead_of, lead_lane, lane_of}
 use Rattle.lane.specs.Advance.{settle_of, fill_of, replay_step, lead_step, burst_step, advance_of}
@@ -84,7 +84,7 @@ raises h = record { busy = λ b. h; idle = omega arith }
 stamp_sound : {l : Lane} (n : ℕ) → Kept l → Counts l.phase l.last n → Sound (stamp_of n l)
 unfolding stamp_of
 stamp_sound {l} n r c =
-    let k : Kept (stamp_of n l) = record { had = r.had; domain = r.domain; held = serials_within n (omega (arith, c.idle, r.near)) r.held; going = r.going; named = r.named; filled = r.filled; from = r.from; near = r.near } in
+    let k : Kept (stamp_of n l) = let held = serials_within n (omega (arith, c.idle, r.near)) r.held in search in
     let w : Within (stamp_of n l) = record { kept = k; counted = c; own_ook = refl; own_fsk = refl } in
     within w
 
@@ -92,19 +92,13 @@ stamp_sound {l} n r c =
 idle_kept : (p : Settings) → settings_ok p ≡ true → Kept (idle_lane 1 p)
 unfolding idle_lane
 idle_kept p q =
-    record { had = refl; domain = q; held = none_within p; going = λ e. absurd (omega arith); named = omega arith; filled = λ e. omega arith; from = omega arith; near = omega arith }
-
-opening_passes : (l : Lane) (p : Settings) → open_refusal l p ≡ Ok tt → (settings_ok p ≡ true) × (l.serial < spent_serial)
-unfolding open_refusal
-opening_passes l p e =
-    let a = passed refusal.Settings (settings_ok p) _ e in
-    (a.0, ltb-true l.serial spent_serial (passed refusal.Serial (serial_left l.serial) _ a.1).0)
+    search (none_within, arith)
 
 pub open_sound : {l : Lane} (p : Settings) → Sound l → Sound (opened l p).lane
-unfolding opened
+unfolding opened open_refusal
 open_sound {l} p h =
     by_refusal (λ (a : Answer). Sound a.lane) (open_refusal l p)
-    (λ q. let t = opening_passes l p q in stamp_sound (l.serial + 1) (idle_kept p t.0) (raises (omega (arith, t.1))))
+    (λ q. stamp_sound (l.serial + 1) (idle_kept p (passed refusal.Settings (settings_ok p) _ q).0) (raises (omega (arith, open_left l p q))))
     (λ k q. h)
 
 -- begin
@@ -115,14 +109,14 @@ begin_passes l b m n e = none_failed (not (eqb l.opened 0)) (lane_ok l) (eqb l.p
 
 lead_sound : {l : Lane} (b : BeginArgs) (m n : ℕ) → begin_refusal l b m n ≡ Ok tt → Sound l → Sound (stamp_of (l.serial + 1) (lead_lane l b))
 unfolding lead_lane begin_lead_of new_lane idle_lane
-lead_sound b m n e unopened = let z : ◌≡◌ {A = Bool} false true = (begin_passes new_lane b m n e).settings_ok in absurd (let y : ◌≡◌ {A = ℕ} 0 1 = cc in omega arith)
+lead_sound b m n e unopened = clash (sym (begin_passes new_lane b m n e).settings_ok)
 lead_sound {l} b m n e (within w) =
     let h = w.kept in
     let t = begin_passes l b m n e in
     let i : b.index ≤ max_index = leb-true b.index max_index t.index_ok in
     let d : InDomain l.settings = settings_tell l.settings h.domain in
     let r : Kept (lead_lane l b) = record { had = h.had; domain = h.domain; held = factor_within b.factor (cleared_within h.held); going = λ q. absurd (omega arith); named = omega arith; filled = λ q. omega (arith, d.min_steps.0, d.min_steps.1); from = i; near = i } in
-    stamp_sound (l.serial + 1) r (raises (omega (arith, ltb-true l.serial spent_serial t.serial_ok)))
+    stamp_sound (l.serial + 1) r (raises (omega (arith, begin_left l b m n e)))
 
 pub begin_sound : {l : Lane} (b : BeginArgs) (ook fsk : List ℕ) → Sound l → Sound (begun l b ook fsk).lane
 unfolding begun
@@ -200,7 +194,7 @@ follows_is last index q = eqb-true index (last + 1) q
 
 accepted_sound : {l : Lane} (s : StepArgs) (ook fsk : List ℕ) → step_refusal l s (length ook) (length fsk) ≡ Ok tt → Sound l → Sound (stamp_of (l.serial + 1) (advance_of l s ook fsk).0.lane)
 unfolding new_lane idle_lane
-accepted_sound s ook fsk e unopened = let z : ◌≡◌ {A = Bool} false true = (step_passes new_lane s (length ook) (length fsk) e).phase_ok in absurd (let y : ◌≡◌ {A = ℕ} 0 1 = cc in omega arith)
+accepted_sound s ook fsk e unopened = clash (sym (step_passes new_lane s (length ook) (length fsk) e).phase_ok)
 accepted_sound {l} s ook fsk e (within h) =
     let t = step_passes l s (length ook) (length fsk) e in
     let i = both_true (index_ok s.index) (follows_of l.last s.index) t.index_ok in
@@ -227,7 +221,7 @@ idle_with_sound {l} b w busy g =
 
 closes_sound : {l : Lane} (ook fsk : List ℕ) → close_refusal l (length ook) (length fsk) ≡ Ok tt → Sound l → Sound (stamp_of (l.serial + 1) (close_of l ook fsk).0.lane)
 unfolding new_lane idle_lane close_of
-closes_sound ook fsk e unopened = let z : ◌≡◌ {A = Bool} false true = (close_passes new_lane (length ook) (length fsk) e).phase_ok in absurd (let y : ◌≡◌ {A = ℕ} 0 1 = cc in omega arith)
+closes_sound ook fsk e unopened = clash (sym (close_passes new_lane (length ook) (length fsk) e).phase_ok)
 closes_sound {l} ook fsk e (within w) =
     let t = close_passes l (length ook) (length fsk) e in
     let busy = eqb-false l.phase 0 (not-true (eqb l.phase 0) t.phase_ok) in

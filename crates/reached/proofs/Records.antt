@@ -43,7 +43,7 @@ use Rattle.lane.specs.Begin.{ring_of, cleared_of, lead_lane}
 use Rattle.lane.specs.Advance.{settle_of, fill_of, replay_step, lead_step, at_of, burst_step, advance_of}
 use Rattle.lane.specs.Serial.{stamp_of}
 use Rattle.lane.specs.Close.{idle_with, close_of}
-use Rattle.lane.specs.Step.{refuse, unless_refused, opened, begun, stepped, closed}
+use Rattle.lane.specs.Step.{unless_refused, opened, begun, stepped, closed}
 use Rattle.lane.specs.Part.{front, named_of, part_refusal, part_of}
 use Rattle.reached.proofs.Reached.{step_passes, close_passes}
 
@@ -210,15 +210,11 @@ parts_fit_begin l b ook fsk e most = none_most most (begun l b ook fsk).lane (re
 pub parts_fit_open : (l : Lane) (p : Settings) → open_refusal l p ≡ Ok tt → (most : ℕ) (x y : List ℕ) → PartsFit most (opened l p).lane x y
 parts_fit_open l p e most = none_most most (opened l p).lane (records_none_open l p e)
 
--- an accepted step has settings of the domain
-domain_step : (l : Lane) (s : StepArgs) (m n : ℕ) → step_refusal l s m n ≡ Ok tt → InDomain l.settings
-domain_step l s m n e = (ready l s m n e).domain
-
 pub slots_close : (l : Lane) (m n : ℕ) → close_refusal l m n ≡ Ok tt → 2 * l.settings.max_pulses ≤ max_slots
 slots_close l m n e = omega (arith, (ready_close l m n e).domain.max_pulses.1)
 
 pub slots_step : (l : Lane) (s : StepArgs) (m n : ℕ) → step_refusal l s m n ≡ Ok tt → 2 * l.settings.max_pulses ≤ max_slots
-slots_step l s m n e = omega (arith, (domain_step l s m n e).max_pulses.1)
+slots_step l s m n e = omega (arith, (ready l s m n e).domain.max_pulses.1)
 
 -- ---- a call that does not answer 3 is accepted
 
@@ -226,24 +222,21 @@ abbrev Accepts : Result ⊤ Refusal → Answer → Type 0
 Accepts k a = (reply_number_of a.reply ≡ 3 → ⊥) → k ≡ Ok tt
 
 -- k is the first check that fails
-not_three : (k : Result ⊤ Refusal) (l : Lane) (a : Answer) → Accepts k (unless_refused k a (λ r. refuse r l))
-not_three k l a = by_refusal (Accepts k) k (λ q h. q) (λ r q h. absurd (h refl))
-
-not_three_with : (k : Result ⊤ Refusal) (l : Lane) (a : Answer × List ℕ × List ℕ) (ook fsk : List ℕ) → Accepts k (unless_refused k a (λ r. (refuse r l, ook, fsk))).0
-not_three_with k l a ook fsk = by_refusal (λ (r : Answer × List ℕ × List ℕ). Accepts k r.0) k (λ q h. q) (λ r q h. absurd (h refl))
+not_three : {A : Type 0} (answer : A → Answer) (k : Result ⊤ Refusal) (a : A) (g : Refusal → A) → ((r : Refusal) → reply_number_of (answer (g r)).reply ≡ 3) → Accepts k (answer (unless_refused k a g))
+not_three answer k a g three = by_refusal (λ x. Accepts k (answer x)) k (λ q h. q) (λ r q h. absurd (h (three r)))
 
 pub answered_open : (l : Lane) (p : Settings) → Accepts (open_refusal l p) (opened l p)
 unfolding opened
-answered_open l p = not_three _ l _
+answered_open l p = not_three (λ (a : Answer). a) _ _ _ (λ r. refl)
 
 pub answered_begin : (l : Lane) (b : BeginArgs) (ook fsk : List ℕ) → Accepts (begin_refusal l b (length ook) (length fsk)) (begun l b ook fsk)
 unfolding begun
-answered_begin l b ook fsk = not_three _ l _
+answered_begin l b ook fsk = not_three (λ (a : Answer). a) _ _ _ (λ r. refl)
 
 pub answered_step : (l : Lane) (s : StepArgs) (ook fsk : List ℕ) → Accepts (step_refusal l s (length ook) (length fsk)) (stepped l s ook fsk).0
 unfolding stepped
-answered_step l s ook fsk = not_three_with _ l _ ook fsk
+answered_step l s ook fsk = not_three (λ (q : Answer × List ℕ × List ℕ). q.0) _ _ _ (λ r. refl)
 
 pub answered_close : (l : Lane) (ook fsk : List ℕ) → Accepts (close_refusal l (length ook) (length fsk)) (closed l ook fsk).0
 unfolding closed
-answered_close l ook fsk = not_three_with _ l _ ook fsk
+answered_close l ook fsk = not_three (λ (q : Answer × List ℕ × List ℕ). q.0) _ _ _ (λ r. refl)
