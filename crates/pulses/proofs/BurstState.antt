@@ -34,7 +34,7 @@ use Rattle.burst.proofs.LeadLaws.{replay_stop}
 use Rattle.pulses.specs.Runs.{Sample}
 use Rattle.pulses.specs.Yardstick.{levelled, replayed, phase_after, phases_replayed, burst_at}
 use Rattle.pulses.specs.Auto.{AllZero}
-use Rattle.pulses.proofs.Flags.{clash}
+use Rattle.shared.proofs.Tests.{clash}
 use Rattle.pulses.proofs.Machine.{after, emitted}
 use Rattle.pulses.proofs.RunState.{opened, rest_low}
 use Rattle.pulses.proofs.Edges.{flat}

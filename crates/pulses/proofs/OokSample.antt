@@ -34,11 +34,11 @@ use Rattle.envelope.specs.Act.{taken_of, confirm_if, rise_of, fall_of, confirm_o
 use Rattle.envelope.specs.Tail.{carrier_of, gone_of, has_pulses_of, gap_over_of, limit_of, wait_of, tail_of}
 use Rattle.pulses.specs.Runs.{Sample, sample}
 use Rattle.pulses.proofs.Machine.{Conf, lowed, highed, mstep, memit, after, emitted, after_snoc, emitted_snoc}
-use Rattle.pulses.proofs.Flags.{clash, empty, flag_set, flag_clear}
+use Rattle.shared.proofs.Tests.{clash}
 use Rattle.pulses.proofs.Edges.{flat}
 use Rattle.pulses.proofs.Domain.{run_grows, pairs_grow}
 use Rattle.pulses.proofs.RunState.{opened, Ends, RunRel, rest_low, try_high, rest_high, try_low, Outcome, keeps, rises, falls, Refined, outcome, level_after}
-use Rattle.pulses.proofs.TrainState.{Edges, flat_length, flat_append, TrainRel, none_yet, under_way, Held, Claim, no_pulse, held_ends, held_first, held_gap, Fallen, goes_on, ends, held_falls}
+use Rattle.pulses.proofs.TrainState.{empty, Edges, flat_length, flat_append, TrainRel, none_yet, under_way, Held, Claim, no_pulse, held_ends, held_first, held_gap, Fallen, goes_on, ends, held_falls}
 
 -- the run machine over the record so far
 abbrev pub machine : Settings → List (Sample Float) → Conf Float
@@ -76,16 +76,16 @@ not_stay (IdleAt e) h = refl
 -- ---- laws of the definition's stages
 rise_first : (carry : ℕ) (s : Env) (t : Train) (ook : List ℕ) → t.started ≡ 0 → rise_of carry s t ook ≡ (with_first (step_of s.c_run) s.run.t_run t, ook)
 unfolding rise_of
-rise_first carry s t ook q = flag_clear t.started _ _ q
+rise_first carry s t ook q = rw q
 
 rise_gap : (carry : ℕ) (s : Env) (t : Train) (ook : List ℕ) → t.started ≡ 1 → rise_of carry s t ook ≡ close_gap_of (with_bound (taken_of carry s t).bound t) (taken_of carry s t).width ook
 unfolding rise_of
-rise_gap carry s t ook q = flag_set t.started _ _ q
+rise_gap carry s t ook q = rw q
 
 fall_started : (p : Settings) (s : Env) (t : Train) (pac : C32) (high : Float) (out : Out) (ook : List ℕ) → t.started ≡ 1
     → fall_of p s t pac high out ook ≡ pulse_done_of p (with_bound (taken_of p.carry s t).bound t) pac high out (taken_of p.carry s t).width s.c_run ook
 unfolding fall_of
-fall_started p s t pac high out ook q = flag_set t.started _ _ q
+fall_started p s t pac high out ook q = rw q
 
 -- ---- edges: an even number outside a pulse, an odd one in it
 low_length : (ps : List Edges) (o : List Float) → o ≡ [] → length (flat ps ++ o) ≡ 2 * length ps
@@ -255,7 +255,7 @@ refined_if m v t true true e h = record { same_level = refl; same_sure = refl; s
 refined_if m v t true false e h = record { same_level = refl; same_sure = refl; same_length = refl; same_before = refl; settled = λ q. refl; settles = λ l. clash (sym (h l)) }
 refined_if m v t false c e h = record { same_level = refl; same_sure = refl; same_length = refl; same_before = refl; settled = λ q. refl; settles = λ l. e }
 
-refine_due : (m : ℕ) (a : At) (ring : List Float) (high : Float) (on : Bool) (v : Env) → Refined m v (refine_due_of m a ring high on v)
+pub refine_due : (m : ℕ) (a : At) (ring : List Float) (high : Float) (on : Bool) (v : Env) → Refined m v (refine_due_of m a ring high on v)
 unfolding refine_due_of
 refine_due m a ring high on v =
     refined_if m v (refine_of ring m high a.noise on a.lead_at a.idx v) (eqb v.ref_pending 1) (leb (refine_at_of m) v.run.run_len) refl

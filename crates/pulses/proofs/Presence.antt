@@ -28,7 +28,7 @@ use Rattle.presence.specs.Types.{Advanced}
 use Rattle.presence.specs.Types.{Present}
 use Rattle.presence.specs.Presence.{advance_of, sure_if_of, ends_of, end_of, end_if_of, long_of, full_body, end_train_by, end_carrier_of, present_by, carrier_if_of, presence_of}
 use Rattle.pulses.specs.Runs.{Sample}
-use Rattle.pulses.proofs.Flags.{clash}
+use Rattle.shared.proofs.Tests.{clash}
 use Rattle.pulses.proofs.OokSample.{Follows, After, stays, over, idle_at_not, train_ends}
 
 -- after a sample: there are no two levels yet (`fsk_phase` 0), or the burst has had no frame (`frames` 0)
