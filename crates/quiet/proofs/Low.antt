@@ -2,7 +2,7 @@
 use mathlib.Core.Path.{◌≡◌, refl, sym}
 use mathlib.Core.Bool.{Bool, true, false, cond, ◌||◌}
 use mathlib.Core.List.{List, [], ◌∷◌, ◌++◌}
-use Prim.Native.Nat.{ℕ, zero, suc, ◌+◌, ◌≤◌, ◌<◌}
+use Prim.Native.Nat.{ℕ, suc, ◌+◌, ◌≤◌, ◌<◌}
 use native.Mathlib.Omega.{arith}
 use lib.Dec.{leb, eqb}
 use lib.Ieee.{Float}
@@ -24,7 +24,7 @@ use Rattle.envelope.specs.declared.Absence.{Absence}
 use Rattle.envelope.specs.Act.{confirm_if}
 use Rattle.envelope.specs.Tail.{carrier_of, gone_of, has_pulses_of, gap_over_of, wait_of, tail_of}
 use Rattle.pulses.specs.Runs.{Sample, sample}
-use Rattle.pulses.proofs.Flags.{clash}
+use Rattle.shared.proofs.Tests.{clash}
 use Rattle.pulses.proofs.RunState.{run_after}
 use Rattle.quiet.specs.Quiet.{wait, shortest, lows_from, quiet_from}
 
@@ -105,12 +105,7 @@ confirmed_counts m v h = go (eqb v.run.confirmed 0) (leb m v.run.run_len) refl r
     go : (a b : Bool) → eqb v.run.confirmed 0 ≡ a → leb m v.run.run_len ≡ b → Counts m v.run (confirm_if (cond a b false) v).run
     go true true q r = record { same_level = refl; same_length = refl; sure = λ l. refl; flag = omega arith }
     go true false q r = record { same_level = refl; same_length = refl; sure = λ l. absurd (omega (arith, leb-false m v.run.run_len r, l)); flag = h }
-    go false b q r = record { same_level = refl; same_length = refl; sure = λ l. sure_flag v.run.confirmed h (eqb-false v.run.confirmed 0 q); flag = h }
-      where
-        sure_flag : (n : ℕ) → n ≤ 1 → (n ≡ 0 → ⊥) → n ≡ 1
-        sure_flag zero l z = absurd (z refl)
-        sure_flag (suc zero) l z = refl
-        sure_flag (suc (suc n)) l z = absurd (omega arith)
+    go false b q r = record { same_level = refl; same_length = refl; sure = λ l. let z = eqb-false v.run.confirmed 0 q in omega (arith, z); flag = h }
 
 -- ---- the end
 -- the envelope is gone and the carrier is away: a low run longer than the gap ends the burst, with pulses and without
