@@ -75,12 +75,12 @@ StepWithin max m q = RanWithin max m q.0
 
 pub lengthen_within : (r : Runs) → RunsWithin r → RunsWithin (lengthen_of r)
 unfolding lengthen_of
-lengthen_within r h = record { run_within = run.lengthen_within r.run h.run_within; has_prev_flag = h.has_prev_flag }
+lengthen_within r h = search run.lengthen_within
 
 move_runs_within : (m : Move) (r : Runs) (upper : Bool) (tc : Float) → RunsWithin r → RunsWithin (move_runs_of m r (bit upper) tc)
 move_runs_within Same r upper tc h = lengthen_within r h
-move_runs_within Glitch r upper tc h = record { run_within = rejoin_within r.run (bit upper) (bit_flag upper); has_prev_flag = omega arith }
-move_runs_within Begins r upper tc h = record { run_within = begin_run_within r.run (bit upper) tc (bit_flag upper); has_prev_flag = omega arith }
+move_runs_within Glitch r upper tc h = search (rejoin_within, bit_flag upper, arith)
+move_runs_within Begins r upper tc h = search (begin_run_within, bit_flag upper, arith)
 
 module _ (max m : ℕ) where
   confirm_within : (r : Runs) (c : Committed) (upper : Bool) (fsk : List ℕ) → RunsWithin r → CommittedWithin max m c → StepWithin max (m + 1) (confirm_of max r c upper fsk)

@@ -107,11 +107,7 @@ due_open s n q = go (eqb s.confirmed 0) refl q
 off_answer : (p : Settings) (a : Inputs) (least : ℕ) (s : Pres) (b : Body) (ook fsk : List ℕ) → s.run.level ≡ 0 → s.run.confirmed ≤ 1 → FrameWithin p.max_pulses least (p.long_steps + 1) (most_runs p.long_steps) b.frame → (s.run.confirmed ≡ 0 → (s.run.prev_len ≤ p.long_steps) × FrameWithin p.max_pulses least s.run.prev_len (2 * s.run.prev_len) b.frame) → AnswerWithin p.max_pulses least p.long_steps (carrier_if_of p a false s b ook fsk)
 unfolding carrier_if_of long_of
 off_answer p a least s b ook fsk none sure h f =
-    record {
-      flags = omega arith;
-      frame_within = h;
-      running = λ z. record { flags = omega arith; most = h; present = λ o. absurd (omega arith); absent = λ o. f };
-    }
+    search arith
 
 module _ (p : Settings) (a : Inputs) (ook : List ℕ) where
   end_carrier_within : (least k m : ℕ) (t : Float) (b : Body) (fsk : List ℕ) → FrameWithin p.max_pulses least k m b.frame → DoneWithin p.max_pulses least k (m + 1) (end_carrier_of p a t b ook fsk)

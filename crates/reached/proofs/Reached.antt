@@ -115,7 +115,9 @@ lead_sound {l} b m n e (within w) =
     let t = begin_passes l b m n e in
     let i : b.index ≤ max_index = leb-true b.index max_index t.index_ok in
     let d : InDomain l.settings = settings_tell l.settings h.domain in
-    let r : Kept (lead_lane l b) = record { had = h.had; domain = h.domain; held = factor_within b.factor (cleared_within h.held); going = λ q. absurd (omega arith); named = omega arith; filled = λ q. omega (arith, d.min_steps.0, d.min_steps.1); from = i; near = i } in
+    let held = factor_within b.factor (cleared_within h.held) in
+    let room = d.min_steps in
+    let r : Kept (lead_lane l b) = search arith in
     stamp_sound (l.serial + 1) r (raises (omega (arith, begin_left l b m n e)))
 
 pub begin_sound : {l : Lane} (b : BeginArgs) (ook fsk : List ℕ) → Sound l → Sound (begun l b ook fsk).lane
@@ -166,7 +168,7 @@ module _ {l : Lane} (s : StepArgs) (k : Steps l s) where
       let ld : Lead = lead_add_of l.lead s.envelope s.x in
       by_test (λ (r : Answer × List ℕ × List ℕ). Sound (stamp_of (l.serial + 1) r.0.lane)) (ltb ld.lead_n (lead_len_of l.settings.min_steps))
       (λ n. counts 1 ld ring (cleared_of l.burst)
-      (record { had = h.had; domain = h.domain; held = cleared_within h.held; going = λ e. absurd (omega arith); named = omega arith; filled = λ e. ltb-true _ _ n; from = h.from; near = k.index_most }))
+      (let held = cleared_within h.held in let few = ltb-true _ _ n in let near = k.index_most in search arith))
       (λ n. settled_sound ld ring _ (lead_within l.settings s.noise ring ld (cleared_of l.burst) ook fsk (settings_tell l.settings h.domain) (cleared_within h.held)) h.from)
 
   burst_step_sound : (ring : List Float) (ook fsk : List ℕ) → l.phase ≡ 2 → Sound (stamp_of (l.serial + 1) (burst_step l s ring ook fsk).0.lane)
@@ -216,7 +218,7 @@ idle_with_sound : {l : Lane} (b : Burst) → Within l → (l.phase ≡ 0 → ⊥
 unfolding idle_with
 idle_with_sound {l} b w busy g =
     let h = w.kept in
-    let k : Kept (lane_of l 0 l.last l.x_prev l.lead l.ring b) = record { had = h.had; domain = h.domain; held = g; going = λ e. absurd (omega arith); named = omega arith; filled = λ e. absurd (omega arith); from = h.from; near = h.near } in
+    let k : Kept (lane_of l 0 l.last l.x_prev l.lead l.ring b) = search arith in
     stamp_sound (l.serial + 1) k (record { busy = λ n. absurd (n refl); idle = omega (arith, w.counted.busy busy) })
 
 closes_sound : {l : Lane} (ook fsk : List ℕ) → close_refusal l (length ook) (length fsk) ≡ Ok tt → Sound l → Sound (stamp_of (l.serial + 1) (close_of l ook fsk).0.lane)
