@@ -22,7 +22,7 @@ use Rattle.shared.specs.Answers.{is_stay_of}
 use Rattle.shared.specs.Counts.{bit}
 use Rattle.shared.specs.Params.{refine_at_of}
 use Rattle.ook.specs.Refine.{refine_of}
-use Rattle.ook.specs.Train.{with_started, with_first, with_bound, close_gap_of, pulse_done_of, end_train_of, stay_by, end_by}
+use Rattle.ook.specs.Train.{with_first, with_bound, close_gap_of, pulse_done_of, end_train_of, stay_by, end_by}
 use Rattle.refusals.proofs.Domain.{InDomain}
 use Rattle.envelope.specs.declared.At.{At}
 use Rattle.envelope.specs.declared.Seen.{Seen}
@@ -34,6 +34,7 @@ use Rattle.envelope.specs.Act.{taken_of, confirm_if, rise_of, fall_of, confirm_o
 use Rattle.envelope.specs.Tail.{carrier_of, gone_of, has_pulses_of, gap_over_of, limit_of, wait_of, tail_of}
 use Rattle.pulses.specs.Runs.{Sample, sample}
 use Rattle.pulses.proofs.Machine.{Conf, lowed, highed, mstep, memit, after, emitted, after_snoc, emitted_snoc}
+use Rattle.shared.proofs.Cases.{either, by_test}
 use Rattle.shared.proofs.Tests.{clash}
 use Rattle.pulses.proofs.Edges.{flat}
 use Rattle.pulses.proofs.Domain.{run_grows, pairs_grow}
@@ -208,43 +209,36 @@ gone_tells false c l g q = (refl, go (eqb c 1) refl q)
     go false e h = clash (sym h)
 
 module _ (p : Settings) (D : InDomain p) (v : Env) (t : Train) (out : Out) (ook : List ℕ) (xs : List (Sample Float)) (F : Follows p v t out ook xs) where
-  on_stay : After p v (stay_by out (t, ook)).0 (stay_by out (t, ook)).1 xs
+  abbrev Goes : Done × List ℕ → Type 0
+  Goes d = After p v d.0 d.1 xs
+
+  on_stay : Goes (stay_by out (t, ook))
   on_stay = stays refl F
 
   -- the train ends here, at the end of a sample or by a close
   pub train_ends : (high : Float) → Claim p.carry p.max_pulses (given p xs) (end_train_of t high out ook).0.out (end_train_of t high out ook).1
   train_ends high = held_ends p.carry p.max_pulses (pairs_grow p D) high out (edges_at p xs) (given p xs) (opened (machine p xs)) t ook refl (opened_one (machine p xs)) F.undecided F.train
 
-  on_end : (next : Next) (high : Float) → (next ≡ Stay → ⊥) → After p v (end_by next (end_train_of t high out ook)).0 (end_by next (end_train_of t high out ook)).1 xs
+  on_end : (next : Next) (high : Float) → (next ≡ Stay → ⊥) → Goes (end_by next (end_train_of t high out ook))
   on_end next high n = over n (train_ends high)
 
-  waits : (n frames : ℕ) (high : Float) → opened (machine p xs) ≡ [] → After p v (wait_of p n t frames high out ook).0 (wait_of p n t frames high out ook).1 xs
+  waits : (n frames : ℕ) (high : Float) → opened (machine p xs) ≡ [] → Goes (wait_of p n t frames high out ook)
   unfolding wait_of
-  waits n frames high low = go (has_pulses_of t) refl (gap_over_of p t n) (ltb (limit_of p frames) n)
-    where
-      go : (h : Bool) → has_pulses_of t ≡ h → (g l : Bool)
-          → After p v
-          (cond h (cond g (end_by Idle (end_train_of t high out ook)) (stay_by out (t, ook))) (cond l (record { next = Idle; train = with_started 0 t; out = out }, ook) (stay_by out (t, ook)))).0
-          (cond h (cond g (end_by Idle (end_train_of t high out ook)) (stay_by out (t, ook))) (cond l (record { next = Idle; train = with_started 0 t; out = out }, ook) (stay_by out (t, ook)))).1
-          xs
-      go true q true l = on_end Idle high idle_not
-      go true q false l = on_stay
-      go false q g true = over idle_not (no_pulse (empty (given p xs) (none_held p.carry (given p xs) (opened (machine p xs)) t F.train.state low q)) F.undecided)
-      go false q g false = on_stay
+  waits n frames high low =
+      by_test Goes (has_pulses_of t) (λ q. either Goes (gap_over_of p t n) (on_end Idle high idle_not) on_stay)
+      (λ q. either Goes (ltb (limit_of p frames) n)
+      (over idle_not (no_pulse (empty (given p xs) (none_held p.carry (given p xs) (opened (machine p xs)) t F.train.state low q)) F.undecided))
+      on_stay)
 
   pub tail_follows : (on : Bool) (e : Float) (a : Absence) (high : Float) → v.run.level ≡ bit on
       → After p v (tail_of p on e v.run a high t out ook).0 (tail_of p on e v.run a high t out ook).1 xs
   unfolding tail_of
-  tail_follows on e a high l = go (carrier_of on v.run.run_len p.long_steps) (gone_of on v.run.confirmed a.p_level a.p_confirmed) refl
-    where
-      go : (c g : Bool) → gone_of on v.run.confirmed a.p_level a.p_confirmed ≡ g
-          → After p v (cond c (end_by (IdleAt e) (end_train_of t high out ook)) (cond g (wait_of p v.run.run_len t a.frames high out ook) (stay_by out (t, ook)))).0
-          (cond c (end_by (IdleAt e) (end_train_of t high out ook)) (cond g (wait_of p v.run.run_len t a.frames high out ook) (stay_by out (t, ook)))).1 xs
-      go true g q = on_end (IdleAt e) high (idle_at_not e)
-      go false true q =
-          let w = gone_tells on v.run.confirmed a.p_level a.p_confirmed q in
-          waits v.run.run_len a.frames high (low_now p.min_steps (machine p xs) (edges_at p xs) v F.run w.1 (l ∙ ap bit w.0))
-      go false false q = on_stay
+  tail_follows on e a high l =
+      either Goes (carrier_of on v.run.run_len p.long_steps) (on_end (IdleAt e) high (idle_at_not e))
+      (by_test Goes (gone_of on v.run.confirmed a.p_level a.p_confirmed)
+      (λ q. let w = gone_tells on v.run.confirmed a.p_level a.p_confirmed q in
+      waits v.run.run_len a.frames high (low_now p.min_steps (machine p xs) (edges_at p xs) v F.run w.1 (l ∙ ap bit w.0)))
+      (λ q. on_stay))
 
 abbrev pub done_of : Acted → Done
 done_of q = record { next = q.next; train = q.train; out = q.out }
@@ -283,8 +277,4 @@ module _ (p : Settings) (D : InDomain p) (mode : eqb p.mode 1 ≡ false) (a : At
   -- confirming a run leaves its level
   pub acted_level : (act_of p seen t out ook).0.env.run.level ≡ bit seen.on
   unfolding act_of confirm_if
-  acted_level = go (due_of seen.env.run p.min_steps)
-    where
-      go : (b : Bool) → (confirm_if b seen.env).run.level ≡ bit seen.on
-      go true = seen_level
-      go false = seen_level
+  acted_level = either (λ (u : Env). u.run.level ≡ bit seen.on) (due_of seen.env.run p.min_steps) seen_level seen_level
