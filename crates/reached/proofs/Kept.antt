@@ -1,14 +1,13 @@
 -- What a burst within the limits passes, and what leaves it within them: refusal 4's check says yes to it, and so it does to a burst that is new, cleared,
 -- ended, or has a new serial.
 use Prim.Native.Nat.{ℕ, ◌+◌, ◌^◌, ◌<◌, ◌≤◌}
-use mathlib.Core.Bool.{Bool, true, false, not, ◌||◌}
-use mathlib.Core.Path.{◌≡◌, refl}
+use mathlib.Core.Bool.{true}
+use mathlib.Core.Path.{◌≡◌}
 use mathlib.Core.List.{List}
 use native.Mathlib.Omega.{arith}
-use lib.Dec.{ltb, eqb}
 use lib.Ieee.{Float}
-use borrow.Author.Tests.{le-leb, lt-ltb, eqb-true}
-use Rattle.domain.specs.Limits.{max_count, max_bound, max_serial}
+use borrow.Author.Tests.{le-leb}
+use Rattle.domain.specs.Limits.{max_count, max_serial}
 use Rattle.shared.specs.Core.{numbered}
 use Rattle.shared.specs.Params.{fsk_min_of}
 use Rattle.run.specs.Limits.{RunWithin}
@@ -32,16 +31,16 @@ use Rattle.lane.specs.Begin.{with_factor, cleared_of}
 use Rattle.lane.specs.Close.{end_burst_of}
 
 run_ok_lem : (r : Run) → RunWithin r → run_ok r ≡ true
-run_ok_lem r h = simp (le-leb r.level 1 h.level_flag, le-leb r.confirmed 1 h.confirmed_flag)
+run_ok_lem r h = grind arith
 
 env_ok_lem : (v : Env) → EnvWithin v → env_ok v ≡ true
-env_ok_lem v h = simp (run_ok_lem v.run h.run_within, le-leb v.ref_pending 1 h.pending_flag)
+env_ok_lem v h = grind arith
 
 train_ok_lem : (max : ℕ) (t : Train) → TrainWithin max t → train_ok max t ≡ true
-train_ok_lem max t h = simp (le-leb t.started 1 h.started_flag, le-leb t.«open» 1 h.open_flag, le-leb t.truncated 1 h.truncated_flag, le-leb (t.ook_n + t.«open») max h.pulses, le-leb t.bound max_bound h.bounded)
+train_ok_lem max t h = grind arith
 
 out_ok_lem : (max : ℕ) (o : Out) → OutWithin max o → out_ok o ≡ true
-out_ok_lem max o h = simp (le-leb o.state 1 h.state_flag, le-leb o.cut 1 h.cut_flag, le-leb o.fsk 1 h.kind_flag, le-leb o.serial max_serial h.numbered)
+out_ok_lem max o h = grind arith
 
 pres_ok_lem : (q : Pres) → PresWithin q → pres_ok q ≡ true
 pres_ok_lem q h = run_ok_lem q.run h
@@ -77,12 +76,7 @@ burst_ok_lem {p} {b} d h =
 -- outside the burst, phase 2, the candidates are not asked for
 pub cand_ok_lem : (phase : ℕ) {p : Settings} {b : Burst} → BurstWithin p b → cand_ok phase p.min_steps b.frame ≡ true
 unfolding cand_ok
-cand_ok_lem phase {p} {b} h = go (eqb phase 2) (eqb b.frame.fsk_phase 0) refl
-  where
-    go : (c f : Bool) → eqb b.frame.fsk_phase 0 ≡ f → (not c || not f || ltb b.frame.cand.fsk_cand (fsk_min_of p.min_steps)) ≡ true
-    go true true q = lt-ltb b.frame.cand.fsk_cand (fsk_min_of p.min_steps) (h.frame_within.candidates (eqb-true b.frame.fsk_phase 0 q))
-    go true false q = refl
-    go false f q = refl
+cand_ok_lem phase {p} {b} h = grind arith
 
 no_out_lem : (max : ℕ) → OutWithin max no_out
 no_out_lem max = omega arith

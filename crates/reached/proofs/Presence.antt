@@ -8,7 +8,7 @@ use native.Mathlib.Omega.{arith}
 use lib.Dec.{ltb, leb, eqb}
 use lib.IntN.{pos}
 use lib.Ieee.{Float, add, sub, binary64, of_int}
-use borrow.Author.Tests.{eqb-true, eqb-false, ltb-false}
+use borrow.Author.Tests.{eqb-true, ltb-false}
 use Rattle.domain.specs.Limits.{max_steps}
 use Rattle.ieee.specs.Constants.{one64}
 use Rattle.arith.specs.Leaves.{edge_of, cross_of}
@@ -43,7 +43,7 @@ frame_up i j h = search arith
 
 -- of two flags that differ each is the other's opposite
 opposite : (a n : ℕ) → a ≤ 1 → n ≤ 1 → eqb a n ≡ false → n ≡ 1 - a
-opposite a n g h q = let z : a ≡ n → ⊥ = eqb-false a n q in omega (arith, z)
+opposite a n g h q = grind arith
 
 -- ---- the move of the presence, and what it does to the frame
 
@@ -97,11 +97,7 @@ AnswerWithin max least long q = PresentWithin max least long q.0
 
 due_open : (s : Run) (n : ℕ) → due_of s n ≡ true → s.confirmed ≡ 0
 unfolding due_of
-due_open s n q = go (eqb s.confirmed 0) refl q
-  where
-    go : (b : Bool) → eqb s.confirmed 0 ≡ b → cond b (leb n s.run_len) false ≡ true → s.confirmed ≡ 0
-    go true r z = eqb-true s.confirmed 0 r
-    go false r z = clash (sym z)
+due_open s n q = grind arith
 
 -- the carrier is off: nothing more is counted, and a confirmed absence may end the frame
 off_answer : (p : Settings) (a : Inputs) (least : ℕ) (s : Pres) (b : Body) (ook fsk : List ℕ) → s.run.level ≡ 0 → s.run.confirmed ≤ 1 → FrameWithin p.max_pulses least (p.long_steps + 1) (most_runs p.long_steps) b.frame → (s.run.confirmed ≡ 0 → (s.run.prev_len ≤ p.long_steps) × FrameWithin p.max_pulses least s.run.prev_len (2 * s.run.prev_len) b.frame) → AnswerWithin p.max_pulses least p.long_steps (carrier_if_of p a false s b ook fsk)

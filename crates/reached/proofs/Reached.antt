@@ -1,15 +1,15 @@
 -- The lanes that calls hand back, from the one that never had settings on, pass refusal 4's check: each accepted call leads from a sound lane to a sound
 -- lane, and a refused one leaves it. So no list of calls meets refusal 4.
 use Prim.Native.Nat.{ℕ, ◌+◌, ◌<◌, ◌≤◌}
-use mathlib.Core.Bool.{Bool, true, false, not, ◌&&◌, ◌||◌}
+use mathlib.Core.Bool.{Bool, true, not, ◌&&◌}
 use mathlib.Core.Path.{◌≡◌, refl, sym, ap, ◌∙◌}
 use mathlib.Core.List.{List}
 use native.Mathlib.Omega.{arith}
 use lib.ListN.{length, get_or}
-use lib.Dec.{leb, ltb, eqb}
+use lib.Dec.{ltb, eqb}
 use lib.IntN.{pos}
 use lib.Ieee.{Float, nan, binary64, of_int, of_bits, to_bits}
-use borrow.Author.Tests.{leb-true, le-leb, lt-ltb, ltb-true, eqb-true, eqb-false, not-true}
+use borrow.Author.Tests.{leb-true, le-leb, ltb-true, eqb-false, not-true}
 use Rattle.std.specs.Prelude.{Ok, Err}
 use Rattle.domain.specs.Limits.{max_index, spent_serial, max_serial}
 use Rattle.arith.specs.Leaves.{lead_len_of}
@@ -17,7 +17,6 @@ use Rattle.shared.specs.declared.Settings.{Settings}
 use Rattle.shared.proofs.Cases.{either, by_test}
 use Rattle.shared.specs.Answers.{is_stay_of}
 use Rattle.shared.specs.declared.Next.{Next}
-use Rattle.shared.specs.declared.Next.TheVariants as next
 use Rattle.burst.specs.Makers.{with_serials}
 use Rattle.burst.specs.Types.{Burst}
 use Rattle.burst.specs.declared.Lead.{Lead}
@@ -51,11 +50,7 @@ use Rattle.reached.specs.Reached.{Reached, new, opening, beginning, stepping, cl
 
 lead_ok_lem : (phase m : ℕ) (ld : Lead) → (phase ≡ 1 → ld.lead_n < lead_len_of m) → ld.lead_at ≤ max_index → lead_ok phase m ld ≡ true
 unfolding lead_ok
-lead_ok_lem phase m ld n a = go (eqb phase 1) refl
-  where
-    go : (b : Bool) → eqb phase 1 ≡ b → (leb ld.lead_at max_index && (not b || ltb ld.lead_n (lead_len_of m))) ≡ true
-    go true q = simp (le-leb ld.lead_at max_index a, lt-ltb ld.lead_n (lead_len_of m) (n (eqb-true phase 1 q)))
-    go false q = simp (le-leb ld.lead_at max_index a)
+lead_ok_lem phase m ld n a = grind arith
 
 had_ok : (had phase : ℕ) (p : Settings) → had ≡ 1 → settings_ok p ≡ true → opened_ok had phase p ≡ true
 unfolding opened_ok
@@ -138,9 +133,7 @@ lead_within p noise ring ld b ook fsk d h =
 -- step
 phase_ends : (n : Next) → (phase_of n ≤ 2) × (phase_of n ≡ 1 → ⊥) × (phase_of n ≡ 2 → is_stay_of n ≡ true)
 unfolding phase_of
-phase_ends next.Stay = (omega arith, λ e. omega arith, λ e. refl)
-phase_ends next.Idle = (omega arith, λ e. omega arith, λ e. absurd (omega arith))
-phase_ends (next.IdleAt x) = (omega arith, λ e. omega arith, λ e. absurd (omega arith))
+phase_ends n = grind arith
 
 -- an accepted step: its index is the one after the last, and the serial rises with it
 record Steps (l : Lane) (s : StepArgs) : Type 0 where
@@ -192,7 +185,7 @@ step_passes l s m n e = none_failed true (lane_ok l) (not (eqb l.phase 0)) true 
 
 follows_is : (last index : ℕ) → follows_of last index ≡ true → index ≡ last + 1
 unfolding follows_of
-follows_is last index q = eqb-true index (last + 1) q
+follows_is last index q = grind arith
 
 accepted_sound : {l : Lane} (s : StepArgs) (ook fsk : List ℕ) → step_refusal l s (length ook) (length fsk) ≡ Ok tt → Sound l → Sound (stamp_of (l.serial + 1) (advance_of l s ook fsk).0.lane)
 unfolding new_lane idle_lane
@@ -264,14 +257,7 @@ reached_ok r = sound_ok (reached_sound r)
 -- where the lane passes its check, the first refusal is another one than 4
 not_four : (s l p n i f r : Bool) → l ≡ true → first_failed s l p n i f r ≡ Err refusal.Lane → ⊥
 unfolding first_failed
-not_four s false p n i f r q e = let y : ◌≡◌ {A = ℕ} 0 1 = cc in omega arith
-not_four false true p n i f r q e = grind arith
-not_four true true false n i f r q e = grind arith
-not_four true true true false i f r q e = grind arith
-not_four true true true true false f r q e = grind arith
-not_four true true true true true false r q e = grind arith
-not_four true true true true true true false q e = grind arith
-not_four true true true true true true true q e = grind arith
+not_four s l p n i f r q e = grind arith
 
 -- no list of calls meets refusal 4; an opening has no refusal but 3 and 13
 pub begin_not_four : {l : Lane} → Reached l → (b : BeginArgs) (ook fsk : ℕ) → begin_refusal l b ook fsk ≡ Err refusal.Lane → ⊥

@@ -1,6 +1,6 @@
 -- The records of an accepted call, whatever the lane value: an opening and a begin leave none, and each that a step or a close leaves has at most
 -- max_pulses pairs. So the slots that belong to a record are at most 2 * max_pulses, which the domain ends at max_slots.
-use Prim.Native.Nat.{ℕ, ◌+◌, ◌*◌, ◌≤◌}
+use Prim.Native.Nat.{ℕ, ◌*◌, ◌≤◌}
 use mathlib.Core.Bool.{Bool, true, false, ◌&&◌}
 use mathlib.Core.Path.{◌≡◌, refl}
 use mathlib.Core.List.{List}
@@ -9,9 +9,9 @@ use lib.ListN.{length, get_or, length-take}
 use lib.Dec.{leb, ltb, eqb}
 use lib.IntN.{pos}
 use lib.Ieee.{Float, nan, binary64, of_int}
-use borrow.Author.Tests.{leb-true, not-true}
+use borrow.Author.Tests.{not-true}
 use Rattle.std.specs.Prelude.{⊤, Result, Ok, is_ok}
-use Rattle.domain.specs.Limits.{max_slots, max_count, max_bound}
+use Rattle.domain.specs.Limits.{max_slots, max_count}
 use Rattle.arith.specs.Leaves.{lead_len_of}
 use Rattle.shared.proofs.Tests.{both_true, six_true}
 use Rattle.shared.proofs.Cases.{either}
@@ -29,7 +29,7 @@ use Rattle.reached.specs.Limits.{Paired, BurstFits}
 use Rattle.reached.proofs.Pairs.{SampledFits, sample_fits, replay_fits, begin_burst_fits}
 use Rattle.refusals.proofs.Domain.{InDomain, settings_tell}
 use Rattle.refusals.specs.declared.Refusal.{Refusal}
-use Rattle.refusals.specs.State.{run_ok, flag, env_ok, train_ok, runs_ok, committed_ok, out_ok, pres_ok, frame_ok, burst_ok}
+use Rattle.refusals.specs.State.{flag, env_ok, train_ok, runs_ok, committed_ok, out_ok, pres_ok, frame_ok, burst_ok}
 use Rattle.reached.proofs.Kept.{cleared_fits, ended_fits}
 use Rattle.lane.specs.declared.BeginArgs.{BeginArgs}
 use Rattle.lane.specs.declared.StepArgs.{StepArgs}
@@ -50,10 +50,7 @@ use Rattle.reached.proofs.Reached.{step_passes, close_passes}
 -- ---- what refusal 4's check says of the train and of the frame's pairs
 
 env_tells : (v : Env) → env_ok v ≡ true → EnvWithin v
-env_tells v h =
-    let b = both_true (run_ok v.run) (flag v.ref_pending) h in
-    let a = both_true (flag v.run.level) (flag v.run.confirmed) b.0 in
-    record { run_within = record { level_flag = leb-true _ _ a.0; confirmed_flag = leb-true _ _ a.1 }; pending_flag = leb-true _ _ b.1 }
+env_tells v h = grind arith
 
 four_true : (a b c d : Bool) → (a && b && c && d) ≡ true → (a ≡ true) × (b ≡ true) × (c ≡ true) × (d ≡ true)
 four_true a b c d h =
@@ -61,14 +58,10 @@ four_true a b c d h =
     (t.2, t.3, t.4, t.5)
 
 train_tells : (max : ℕ) (t : Train) → train_ok max t ≡ true → TrainWithin max t
-train_tells max t h =
-    let q = six_true true (flag t.started) (flag t.«open») (flag t.truncated) (leb (t.ook_n + t.«open») max) (leb t.bound max_bound) h in
-    record { started_flag = leb-true _ _ q.1; open_flag = leb-true _ _ q.2; truncated_flag = leb-true _ _ q.3; pulses = leb-true _ _ q.4; bounded = leb-true _ _ q.5 }
+train_tells max t h = grind arith
 
 pairs_tell : (max : ℕ) (c : Committed) → committed_ok max c ≡ true → Paired max c
-pairs_tell max c h =
-    let q = four_true (flag c.fsk_open) (flag c.fsk_full) (leb (c.fsk_n + c.fsk_open) max) (leb c.fsk_runs max_count) h in
-    record { open_flag = leb-true _ _ q.0; full_flag = leb-true _ _ q.1; pairs = leb-true _ _ q.2; runs_most = omega arith }
+pairs_tell max c h = grind arith
 
 frame_tells : (max : ℕ) (f : Frame) → frame_ok max f ≡ true → Paired max f.done
 unfolding frame_ok

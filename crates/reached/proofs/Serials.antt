@@ -10,7 +10,6 @@ use lib.Dec.{eqb}
 use Rattle.std.specs.Prelude.{⊤, Result, Ok}
 use Rattle.refusals.specs.declared.Refusal.{Refusal}
 use Rattle.shared.specs.declared.Next.{Next}
-use Rattle.shared.specs.declared.Next.TheVariants as next
 use lib.ListN.{length, get_or}
 use Rattle.lane.specs.declared.Answer.{Answer}
 use Rattle.lane.specs.declared.Lane.{Lane}
@@ -44,9 +43,7 @@ by_check answer l k b t s r = by_refusal (λ x. Answers l (answer x)) k (λ q. r
 
 -- a sample is never answered by a refusal
 next_accepted : (n : Next) → not (eqb (reply_number_of {E = Refusal} (Ok n)) 3) ≡ true
-next_accepted next.Stay = refl
-next_accepted next.Idle = refl
-next_accepted (next.IdleAt e) = refl
+next_accepted n = grind arith
 
 advance_accepted : (l : Lane) (s : StepArgs) (ook fsk : List ℕ) → Is (advance_of l s ook fsk)
 unfolding fill_of settle_of
