@@ -7,7 +7,7 @@ use Prim.Native.Nat.{ℕ, suc, ◌+◌, ◌*◌, ◌≤◌}
 use native.Mathlib.Omega.{arith}
 use lib.Dec.{leb, ltb, eqb}
 use lib.Ieee.{Float}
-use borrow.Author.Tests.{le-leb, lt-ltb, eqb-true}
+use borrow.Author.Tests.{le-leb, lt-ltb}
 use lib.ListN.{length, length-append}
 use Rattle.arith.specs.declared.C32.{C32}
 use Rattle.arith.specs.Leaves.{step_of}
@@ -33,7 +33,7 @@ use Rattle.run.specs.Run.{due_of}
 use Rattle.envelope.specs.Act.{taken_of, confirm_if, rise_of, fall_of, confirm_of, act_of}
 use Rattle.envelope.specs.Tail.{carrier_of, gone_of, has_pulses_of, gap_over_of, limit_of, wait_of, tail_of}
 use Rattle.pulses.specs.Runs.{Sample, sample}
-use Rattle.pulses.proofs.Machine.{Conf, lowed, highed, mstep, memit, after, emitted, after_snoc, emitted_snoc}
+use Rattle.pulses.proofs.Machine.{Conf, lowed, mstep, memit, after, emitted, after_snoc, emitted_snoc}
 use Rattle.shared.proofs.Cases.{either, by_test}
 use Rattle.shared.proofs.Tests.{clash}
 use Rattle.pulses.proofs.Edges.{flat}
@@ -70,9 +70,7 @@ pub idle_at_not : (e : Float) → IdleAt e ≡ Stay → ⊥
 idle_at_not e q = let z : ◌≡◌ {A = ℕ} 0 1 = cc in omega arith
 
 pub not_stay : (n : Next) → (n ≡ Stay → ⊥) → is_stay_of n ≡ false
-not_stay Stay h = absurd (h refl)
-not_stay Idle h = refl
-not_stay (IdleAt e) h = refl
+not_stay n h = grind arith
 
 -- ---- laws of the definition's stages
 rise_first : (carry : ℕ) (s : Env) (t : Train) (ook : List ℕ) → t.started ≡ 0 → rise_of carry s t ook ≡ (with_first (step_of s.c_run) s.run.t_run t, ook)
@@ -189,8 +187,7 @@ low_now m c es v (try_low qc q l u) k j = absurd (omega arith)
 
 opened_one : (c : Conf Float) → length (opened c) ≤ 1
 unfolding opened
-opened_one (lowed n) = omega arith
-opened_one (highed t n) = omega arith
+opened_one c = grind arith
 
 -- no pulse is held there
 none_held : (carry : ℕ) (ps : List Edges) (o : List Float) (t : Train) → TrainRel carry (flat ps ++ o) t → o ≡ [] → has_pulses_of t ≡ false → length ps ≡ 0
@@ -201,12 +198,7 @@ none_held carry ps o t (under_way a more qes qs ql qo qa qb) f q =
 
 gone_tells : (on : Bool) (c l g : ℕ) → gone_of on c l g ≡ true → (on ≡ false) × (c ≡ 1)
 unfolding gone_of
-gone_tells true c l g q = clash (sym q)
-gone_tells false c l g q = (refl, go (eqb c 1) refl q)
-  where
-    go : (b : Bool) → eqb c 1 ≡ b → cond b (cond (eqb l 0) (eqb g 1) false) false ≡ true → c ≡ 1
-    go true e h = eqb-true c 1 e
-    go false e h = clash (sym h)
+gone_tells on c l g q = grind arith
 
 module _ (p : Settings) (D : InDomain p) (v : Env) (t : Train) (out : Out) (ook : List ℕ) (xs : List (Sample Float)) (F : Follows p v t out ook xs) where
   abbrev Goes : Done × List ℕ → Type 0

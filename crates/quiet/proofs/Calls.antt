@@ -167,9 +167,7 @@ module _ (w : Settings → ℕ) (N : (p : Settings) → InDomain p → Enough p 
 -- ---- the answer
 next_idles : (n : Next) → phase_of n ≡ 0 → idles (Ok n) ≡ true
 unfolding phase_of
-next_idles next.Stay q = absurd (omega (arith, q))
-next_idles next.Idle q = refl
-next_idles (next.IdleAt e) q = refl
+next_idles n q = grind arith
 
 -- a step that leaves the lane idle answers so
 pub step_idles : (l : Lane) (s : StepArgs) (ook fsk : List ℕ) → (advance_of l s ook fsk).0.lane.phase ≡ 0 → idles (advance_of l s ook fsk).0.reply ≡ true

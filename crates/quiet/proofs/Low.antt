@@ -1,12 +1,12 @@
 -- One sample in OOK mode: the low samples at the end of the record are no more than the run is long, and a run that is long enough ends the burst.
 use mathlib.Core.Path.{◌≡◌, refl, sym}
-use mathlib.Core.Bool.{Bool, true, false, cond, ◌||◌}
+use mathlib.Core.Bool.{Bool, true, false, ◌||◌}
 use mathlib.Core.List.{List, [], ◌∷◌, ◌++◌}
 use Prim.Native.Nat.{ℕ, suc, ◌+◌, ◌≤◌, ◌<◌}
 use native.Mathlib.Omega.{arith}
 use lib.Dec.{leb, eqb}
 use lib.Ieee.{Float}
-use borrow.Author.Tests.{leb-false, lt-leb, lt-ltb, eqb-true, eqb-false}
+use borrow.Author.Tests.{lt-leb, lt-ltb, eqb-true, eqb-false}
 use Rattle.ook.specs.declared.Env.{Env}
 use Rattle.run.specs.declared.Run.{Run}
 use Rattle.ook.specs.declared.Train.{Train}
@@ -100,12 +100,7 @@ pub record Counts (m : ℕ) (v : Run) (w : Run) : Type 0 where
 
 pub confirmed_counts : (m : ℕ) (v : Env) → v.run.confirmed ≤ 1 → Counts m v.run (confirm_if (due_of v.run m) v).run
 unfolding confirm_if due_of
-confirmed_counts m v h = go (eqb v.run.confirmed 0) (leb m v.run.run_len) refl refl
-  where
-    go : (a b : Bool) → eqb v.run.confirmed 0 ≡ a → leb m v.run.run_len ≡ b → Counts m v.run (confirm_if (cond a b false) v).run
-    go true true q r = record { same_level = refl; same_length = refl; sure = λ l. refl; flag = omega arith }
-    go true false q r = record { same_level = refl; same_length = refl; sure = λ l. absurd (omega (arith, leb-false m v.run.run_len r, l)); flag = h }
-    go false b q r = record { same_level = refl; same_length = refl; sure = λ l. let z = eqb-false v.run.confirmed 0 q in omega (arith, z); flag = h }
+confirmed_counts m v h = grind arith
 
 -- ---- the end
 -- the envelope is gone and the carrier is away: a low run longer than the gap ends the burst, with pulses and without

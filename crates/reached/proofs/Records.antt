@@ -11,16 +11,15 @@ use lib.IntN.{pos}
 use lib.Ieee.{Float, nan, binary64, of_int}
 use borrow.Author.Tests.{not-true}
 use Rattle.std.specs.Prelude.{⊤, Result, Ok, is_ok}
-use Rattle.domain.specs.Limits.{max_slots, max_count}
+use Rattle.domain.specs.Limits.{max_slots}
 use Rattle.arith.specs.Leaves.{lead_len_of}
-use Rattle.shared.proofs.Tests.{both_true, six_true}
+use Rattle.shared.proofs.Tests.{six_true}
 use Rattle.shared.proofs.Cases.{either}
 use Rattle.ook.specs.Limits.{EnvWithin, TrainWithin}
 use Rattle.ook.specs.declared.Env.{Env}
 use Rattle.ook.specs.declared.Train.{Train}
 use Rattle.shared.specs.declared.Out.{Out}
 use Rattle.shared.specs.declared.Settings.{Settings}
-use Rattle.fsk.specs.declared.Committed.{Committed}
 use Rattle.fsk.specs.Types.{Frame}
 use Rattle.burst.specs.Types.{Burst}
 use Rattle.burst.specs.declared.Lead.{Lead}
@@ -29,7 +28,7 @@ use Rattle.reached.specs.Limits.{Paired, BurstFits}
 use Rattle.reached.proofs.Pairs.{SampledFits, sample_fits, replay_fits, begin_burst_fits}
 use Rattle.refusals.proofs.Domain.{InDomain, settings_tell}
 use Rattle.refusals.specs.declared.Refusal.{Refusal}
-use Rattle.refusals.specs.State.{flag, env_ok, train_ok, runs_ok, committed_ok, out_ok, pres_ok, frame_ok, burst_ok}
+use Rattle.refusals.specs.State.{env_ok, train_ok, out_ok, pres_ok, frame_ok, burst_ok}
 use Rattle.reached.proofs.Kept.{cleared_fits, ended_fits}
 use Rattle.lane.specs.declared.BeginArgs.{BeginArgs}
 use Rattle.lane.specs.declared.StepArgs.{StepArgs}
@@ -52,22 +51,12 @@ use Rattle.reached.proofs.Reached.{step_passes, close_passes}
 env_tells : (v : Env) → env_ok v ≡ true → EnvWithin v
 env_tells v h = grind arith
 
-four_true : (a b c d : Bool) → (a && b && c && d) ≡ true → (a ≡ true) × (b ≡ true) × (c ≡ true) × (d ≡ true)
-four_true a b c d h =
-    let t = six_true true true a b c d h in
-    (t.2, t.3, t.4, t.5)
-
 train_tells : (max : ℕ) (t : Train) → train_ok max t ≡ true → TrainWithin max t
 train_tells max t h = grind arith
 
-pairs_tell : (max : ℕ) (c : Committed) → committed_ok max c ≡ true → Paired max c
-pairs_tell max c h = grind arith
-
 frame_tells : (max : ℕ) (f : Frame) → frame_ok max f ≡ true → Paired max f.done
 unfolding frame_ok
-frame_tells max f h =
-    pairs_tell max f.done
-    (both_true (flag f.fsk_phase && leb f.mean.fsk_cnt max_count && flag f.early.early && runs_ok f.runs) (committed_ok max f.done) h).1
+frame_tells max f h = grind arith
 
 burst_tells : (max : ℕ) (b : Burst) → burst_ok max b ≡ true → BurstFits max (cleared_of b)
 unfolding burst_ok
