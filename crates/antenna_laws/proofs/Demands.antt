@@ -11,8 +11,6 @@ use borrow.Author.Tests.{eqb-true, eqb-false}
 use Rattle.std.specs.Prelude.{⊤, Result, Ok, Err, is_ok, is_err}
 use Rattle.shared.specs.declared.Settings.{Settings}
 use Rattle.refusals.specs.declared.Refusal.{Refusal}
-use Rattle.refusals.proofs.Order.{not_passed}
-use Rattle.lane.proofs.Refusals.{by_refusal}
 use Rattle.lane.specs.declared.Lane.{Lane}
 use Rattle.lane.specs.declared.Answer.{Answer}
 use Rattle.lane.specs.declared.BeginArgs.{BeginArgs}
@@ -29,7 +27,7 @@ use Rattle.pulses.specs.Yardstick.{as_left, lent, Call, opening, begin, step, cl
 use Rattle.pulses.specs.Demand.{the_lane, Place, returned_by, start, after, Demand3}
 use Rattle.pulses.specs.Demand as demand
 use Rattle.pulses.specs.Auto.{Demand3Where}
-use Rattle.pulses.proofs.Accepted.{step_tells, close_tells, open_accepted, open_refused, begin_refused}
+use Rattle.pulses.proofs.Accepted.{when_refused, step_tells, close_tells, open_accepted, open_refused, begin_refused}
 use Rattle.pulses.proofs.Calls.{Same, after_same}
 use Rattle.pulses.proofs.Theorem.{demand_3, auto_pulses}
 use Rattle.quiet.specs.Quiet.{QuietEnds, WaitKnown}
@@ -46,11 +44,11 @@ use Rattle.antenna_laws.proofs.Alone.{paired, heard_leads}
 
 step_kept : (l : Lane) (s : StepArgs) (ook fsk : List ℕ) → is_ok (step_refusal l s (length ook) (length fsk)) ≡ false → next (stepped l s ook fsk) ≡ (l, ook, fsk)
 unfolding stepped
-step_kept l s ook fsk q = by_refusal (λ (a : Called). next a ≡ (l, ook, fsk)) (step_refusal l s (length ook) (length fsk)) (λ e. absurd (not_passed _ q e)) (λ n e. refl)
+step_kept l s ook fsk q = when_refused (λ (a : Called). next a ≡ (l, ook, fsk)) (step_refusal l s (length ook) (length fsk)) _ _ q (λ n. refl)
 
 close_kept : (l : Lane) (ook fsk : List ℕ) → is_ok (close_refusal l (length ook) (length fsk)) ≡ false → next (closed l ook fsk) ≡ (l, ook, fsk)
 unfolding closed
-close_kept l ook fsk q = by_refusal (λ (a : Called). next a ≡ (l, ook, fsk)) (close_refusal l (length ook) (length fsk)) (λ e. absurd (not_passed _ q e)) (λ n e. refl)
+close_kept l ook fsk q = when_refused (λ (a : Called). next a ≡ (l, ook, fsk)) (close_refusal l (length ook) (length fsk)) _ _ q (λ n. refl)
 
 not_ok : (k : Result ⊤ Refusal) → (k ≡ Ok tt → ⊥) → is_ok k ≡ false
 not_ok (Ok u) h = absurd (h refl)
@@ -63,34 +61,19 @@ well : (c : Call) (cs : List Call) → ((b : Bool) → lent_well b c ≡ true) �
 unfolding handed_on
 well c cs w h y = rw (w (accepts y c)) (h (advanced (accepts y c) y c))
 
--- accepted or not, each of these is lent well
-opening_well : (s : Settings) (b : Bool) → lent_well b (opening s) ≡ true
+-- a call that is lent well where it is accepted is so in any case
+lent_always : (c : Call) → lent_well true c ≡ true → (b : Bool) → lent_well b c ≡ true
 unfolding lent_well
-opening_well s true = refl
-opening_well s false = refl
-
-begin_well : (a : BeginArgs) (ook fsk : List ℕ) (b : Bool) → lent_well b (begin a ook fsk) ≡ true
-unfolding lent_well
-begin_well a ook fsk true = refl
-begin_well a ook fsk false = refl
-
-step_well : (s : StepArgs) (fsk : List ℕ) (b : Bool) → lent_well b (step s as_left fsk) ≡ true
-unfolding lent_well
-step_well s fsk true = refl
-step_well s fsk false = refl
-
-close_well : (fsk : List ℕ) (b : Bool) → lent_well b (close as_left fsk) ≡ true
-unfolding lent_well
-close_well fsk true = refl
-close_well fsk false = refl
+lent_always c h true = h
+lent_always c h false = refl
 
 one_handed : (p : State) (k : Found) (cs : List Call) → ((y : Yardstick) → handed_on y cs ≡ true) → (y : Yardstick) → handed_on y (call_of p k ++ cs) ≡ true
-unfolding call_of
-one_handed p (Ok (Open s)) cs h = well (opening s) cs (opening_well s) h
-one_handed p (Ok (OpenCarry s)) cs h = well (opening s) cs (opening_well s) h
-one_handed p (Ok (Begin b)) cs h = well (begin b p.1 p.2) cs (begin_well b p.1 p.2) h
-one_handed p (Ok (Step s)) cs h = well (step s as_left p.2) cs (step_well s p.2) h
-one_handed p (Ok Close) cs h = well (close as_left p.2) cs (close_well p.2) h
+unfolding call_of lent_well
+one_handed p (Ok (Open s)) cs h = well (opening s) cs (lent_always _ refl) h
+one_handed p (Ok (OpenCarry s)) cs h = well (opening s) cs (lent_always _ refl) h
+one_handed p (Ok (Begin b)) cs h = well (begin b p.1 p.2) cs (lent_always _ refl) h
+one_handed p (Ok (Step s)) cs h = well (step s as_left p.2) cs (lent_always _ refl) h
+one_handed p (Ok Close) cs h = well (close as_left p.2) cs (lent_always _ refl) h
 one_handed p (Err m) cs h = h
 
 pub handed_on_lem : (p : State) (ks : List Found) (y : Yardstick) → handed_on y (calls_of p ks) ≡ true
@@ -248,14 +231,14 @@ module _ (k : Place the_lane) (p : State) (ts : List Given) (F : Follows k p ts)
   unfolding after refusal called lent lent_well returned_by
   step_advances s =
       advances (Ok (Step s)) (step s as_left p.2) (λ l ook. stepped l s ook p.2) (λ l n. step_refusal l s n (length p.2)) refl refl (λ a. refl)
-      (step_well s p.2) refl
+      (lent_always _ refl) refl
       (λ l ook. step_refuses l s ook p.2) (λ l ook q. step_kept l s ook p.2 q) (λ l n. step_tells l s n (length p.2))
 
   close_advances : Advances (Ok Close) (close as_left p.2)
   unfolding after refusal called lent lent_well returned_by
   close_advances =
       advances (Ok Close) (close as_left p.2) (λ l ook. closed l ook p.2) (λ l n. close_refusal l n (length p.2)) refl refl (λ a. refl)
-      (close_well p.2) refl
+      (lent_always _ refl) refl
       (λ l ook. close_refuses l ook p.2) (λ l ook q. close_kept l ook p.2 q) (λ l n. close_tells l n (length p.2))
 
 -- ---- over a list

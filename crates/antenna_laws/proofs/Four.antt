@@ -7,7 +7,7 @@ use mathlib.Core.List.{List, [], ◌∷◌}
 use native.Mathlib.Omega.{arith}
 use lib.ListN.{length, set}
 use lib.Dec.{leb}
-use borrow.Author.Tests.{leb-false, eq-eqb, ne_eqb}
+use borrow.Author.Tests.{leb-false}
 use Rattle.std.specs.Prelude.{⊤, Result, Ok, Err}
 use Rattle.shared.specs.declared.Settings.{Settings}
 use Rattle.refusals.specs.declared.Refusal.{Refusal}
@@ -17,11 +17,11 @@ use Rattle.lane.specs.declared.BeginArgs.{BeginArgs}
 use Rattle.lane.specs.declared.StepArgs.{StepArgs}
 use Rattle.lane.specs.Refusals.{open_refusal, begin_refusal, step_refusal, close_refusal}
 use Rattle.lane.specs.Idle.{idle_lane}
-use Rattle.lane.specs.Begin.{lead_lane}
 use Rattle.lane.specs.Advance.{advance_of}
 use Rattle.lane.specs.Close.{close_of}
-use Rattle.lane.specs.Serial.{stamp_of, stamped, stamped_with}
-use Rattle.lane.specs.Step.{new_lane, refuse, unless_refused, stay, opened, begun, stepped, closed}
+use Rattle.lane.specs.Serial.{stamp_of, stamped_with}
+use Rattle.lane.specs.Step.{new_lane, refuse, unless_refused, opened, begun, stepped, closed}
+use Rattle.lane.proofs.Refusals.{by_refusal}
 use Rattle.commands.specs.Command.{Found}
 use Rattle.commands.specs.declared.Command.TheVariants.{Open, OpenCarry, Begin, Step, Close}
 use Rattle.calls.specs.Turn.{State, Called, called}
@@ -35,21 +35,20 @@ use Rattle.antenna_laws.proofs.One.{among_alone, among_twelve, answer_own, after
 
 pub out_busy : (l : Lane) → (l.phase ≡ 0 → ⊥) → out_of l ≡ 1
 unfolding out_of
-out_busy l h = rw (ne_eqb l.phase 0 h) refl
+out_busy l h = grind arith
 
 pub out_idle : (l : Lane) → l.phase ≡ 0 → out_of l ≡ 0
 unfolding out_of
-out_idle l h = rw (eq-eqb l.phase 0 h) refl
+out_idle l h = grind arith
 
 -- ---- an opening, a step and a close take no place
 
 open_takes : (l : Lane) (s : Settings) → out_of (opened l s).lane ≤ out_of l
 unfolding opened stamp_of idle_lane
-open_takes l s = go (open_refusal l s)
-  where
-    go : (k : Result ⊤ Refusal) → out_of (unless_refused k (stamped l (stay (idle_lane 1 s))) (λ r. refuse r l)).lane ≤ out_of l
-    go (Ok u) = omega (arith, out_idle (stamp_of (l.serial + 1) (idle_lane 1 s)) refl)
-    go (Err r) = omega arith
+open_takes l s =
+    by_refusal (λ (a : Answer). out_of a.lane ≤ out_of l) (open_refusal l s)
+    (λ q. omega (arith, out_idle (stamp_of (l.serial + 1) (idle_lane 1 s)) refl))
+    (λ r q. omega arith)
 
 -- a step and a close are accepted only of a lane that is out of idle
 busy_takes : (k : Result ⊤ Refusal) (l : Lane) (a : Called) (ook fsk : List ℕ) → (k ≡ Ok tt → l.phase ≡ 0 → ⊥) → out_of (unless_refused k a (λ r. (refuse r l, ook, fsk))).0.lane ≤ out_of l
@@ -69,14 +68,7 @@ close_takes l ook fsk = busy_takes (close_refusal l (length ook) (length fsk)) l
 -- a begin that comes before 12 is refused
 early_begin : (l : Lane) (b : BeginArgs) (ook fsk : List ℕ) → late_of (begun l b ook fsk).reply ≡ false → (begun l b ook fsk).lane ≡ l
 unfolding begun
-early_begin l b ook fsk = go (begin_refusal l b (length ook) (length fsk))
-  where
-    answer : Result ⊤ Refusal → Answer
-    answer k = unless_refused k (stamped l (stay (lead_lane l b))) (λ r. refuse r l)
-
-    go : (k : Result ⊤ Refusal) → late_of (answer k).reply ≡ false → (answer k).lane ≡ l
-    go (Ok u) h = absurd (true≢false h)
-    go (Err r) h = refl
+early_begin l b ook fsk = by_refusal (λ (a : Answer). late_of a.reply ≡ false → a.lane ≡ l) (begin_refusal l b (length ook) (length fsk)) (λ q h. absurd (true≢false h)) (λ r q h. refl)
 
 begin_takes : (n : ℕ) (p : State) (b : BeginArgs) → (out_of (called_among n p (Ok (Begin b))).0.lane ≤ out_of p.0) ⊎ (n < places)
 unfolding called

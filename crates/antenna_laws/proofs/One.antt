@@ -12,6 +12,7 @@ use borrow.Author.Tests.{ltb-true, ltb-false, ne_eqb, lt-ltb, le-ltb}
 use Rattle.std.specs.Prelude.{Ok, Err}
 use Rattle.refusals.specs.declared.Refusal.TheVariants as refusal
 use Rattle.lane.specs.Answers.{refusal_number_of}
+use Rattle.shared.proofs.Cases.{either}
 use Rattle.lane.specs.Step.{new_lane, refuse}
 use Rattle.commands.specs.Command.{Found}
 use Rattle.commands.specs.declared.Command.TheVariants.{Open, OpenCarry, Begin, Step, Close}
@@ -56,7 +57,7 @@ module _ (p : Lanes) (i : ℕ) (k : Found) where
 
   pub after_own : i < antennas → after_call p i k ≡ put_at p i (next (answer_to p i k))
   unfolding after_call
-  after_own h = ap (λ (b : Bool). cond b (put_at p i (next (answer_to p i k))) p) (lt-ltb i antennas h)
+  after_own h = rw (lt-ltb i antennas h) refl
 
   pub answer_none : antennas ≤ i → answer_to p i k ≡ unchanged (no_antenna k) (lane_at p i)
   unfolding answer_to
@@ -64,7 +65,7 @@ module _ (p : Lanes) (i : ℕ) (k : Found) where
 
   pub after_none : antennas ≤ i → after_call p i k ≡ p
   unfolding after_call
-  after_none h = ap (λ (b : Bool). cond b (put_at p i (next (answer_to p i k))) p) (le-ltb i antennas h)
+  after_none h = rw (le-ltb i antennas h) refl
 
 -- whether there is such an antenna
 pub inside : (i : ℕ) {P : Type 0} → (i < antennas → P) → (antennas ≤ i → P) → P
@@ -81,11 +82,7 @@ put_sized p i q s = record { lanes = length-set p.0 i q.0 ∙ s.lanes; ooks = le
 
 pub after_sized : (p : Lanes) (i : ℕ) (k : Found) → Sized p → Sized (after_call p i k)
 unfolding after_call
-after_sized p i k s = go (ltb i antennas)
-  where
-    go : (b : Bool) → Sized (cond b (put_at p i (next (answer_to p i k))) p)
-    go true = put_sized p i (next (answer_to p i k)) s
-    go false = s
+after_sized p i k s = either Sized (ltb i antennas) (put_sized p i (next (answer_to p i k)) s) s
 
 -- the antenna's own lane is the one that the answer has
 pub put_own : (p : Lanes) (i : ℕ) (q : State) → i < antennas → Sized p → lane_at (put_at p i q) i ≡ q
@@ -107,11 +104,7 @@ put_other p i j q h =
 
 pub after_other : (p : Lanes) (i j : ℕ) (k : Found) → (i ≡ j → ⊥) → lane_at (after_call p i k) j ≡ lane_at p j
 unfolding after_call
-after_other p i j k h = go (ltb i antennas)
-  where
-    go : (b : Bool) → lane_at (cond b (put_at p i (next (answer_to p i k))) p) j ≡ lane_at p j
-    go true = put_other p i j (next (answer_to p i k)) h
-    go false = refl
+after_other p i j k h = either (λ (q : Lanes). lane_at q j ≡ lane_at p j) (ltb i antennas) (put_other p i j (next (answer_to p i k)) h) refl
 
 -- a lane put back changes nothing
 pub put_back : (p : Lanes) (i : ℕ) → put_at p i (lane_at p i) ≡ p

@@ -10,18 +10,18 @@ use lib.ListN.{length, get_or}
 use lib.Dec.{eqb, leb}
 use borrow.Author.Tests.{leb-true, le-leb}
 use Rattle.shared.proofs.Tests.{both_true}
+use Rattle.lane.specs.declared.Answer.{Answer}
 use Rattle.lane.specs.declared.Lane.{Lane}
 use Rattle.lane.specs.declared.BeginArgs.{BeginArgs}
-use Rattle.std.specs.Prelude.{⊤, Result, Ok, Err}
+use Rattle.std.specs.Prelude.{Ok, Err}
 use Rattle.shared.specs.declared.Next.TheVariants.{Stay}
 use Rattle.refusals.specs.declared.Refusal.{Refusal}
 use Rattle.refusals.specs.declared.Refusal.TheVariants as refusal
 use Rattle.refusals.specs.Order.{number_of}
 use Rattle.lane.specs.Answers.{Reply, refusal_number_of}
 use Rattle.lane.specs.Refusals.{begin_refusal}
-use Rattle.lane.specs.Begin.{lead_lane}
-use Rattle.lane.specs.Serial.{stamped}
-use Rattle.lane.specs.Step.{new_lane, refuse, unless_refused, stay, begun}
+use Rattle.lane.specs.Step.{new_lane, begun}
+use Rattle.lane.proofs.Refusals.{by_refusal}
 use Rattle.commands.specs.Command.{Found}
 use Rattle.commands.specs.declared.Command.TheVariants.{Open, OpenCarry, Begin, Step, Close}
 use Rattle.commands.specs.declared.Missing.TheVariants as missing
@@ -74,28 +74,15 @@ twelve_keeps p i k e =
 
 -- no other refusal has the number 8
 is_eighth : (k : Refusal) → eqb (number_of k) 8 ≡ true → k ≡ refusal.Room
-is_eighth refusal.Room h = refl
-is_eighth refusal.Unknown h = absurd (false≢true h)
-is_eighth refusal.Short h = absurd (false≢true h)
-is_eighth refusal.Settings h = absurd (false≢true h)
-is_eighth refusal.Lane h = absurd (false≢true h)
-is_eighth refusal.Phase h = absurd (false≢true h)
-is_eighth refusal.Index h = absurd (false≢true h)
-is_eighth refusal.Float h = absurd (false≢true h)
-is_eighth refusal.Places h = absurd (false≢true h)
-is_eighth refusal.Serial h = absurd (false≢true h)
+is_eighth k h = grind arith
 
 -- a begin that 12 comes before is accepted, or refused by 8
 late_begin : (l : Lane) (b : BeginArgs) (ook fsk : List ℕ) → late_of (begun l b ook fsk).reply ≡ true → ((begun l b ook fsk).reply ≡ Ok Stay) ⊎ ((begun l b ook fsk).reply ≡ Err refusal.Room)
 unfolding begun
-late_begin l b ook fsk = go (begin_refusal l b (length ook) (length fsk))
-  where
-    reply : Result ⊤ Refusal → Reply
-    reply k = (unless_refused k (stamped l (stay (lead_lane l b))) (λ r. refuse r l)).reply
-
-    go : (k : Result ⊤ Refusal) → late_of (reply k) ≡ true → (reply k ≡ Ok Stay) ⊎ (reply k ≡ Err refusal.Room)
-    go (Ok u) h = inl refl
-    go (Err r) h = inr (ap (λ (x : Refusal). Err x) (is_eighth r h))
+late_begin l b ook fsk =
+    by_refusal (λ (a : Answer). late_of a.reply ≡ true → (a.reply ≡ Ok Stay) ⊎ (a.reply ≡ Err refusal.Room)) (begin_refusal l b (length ook) (length fsk))
+    (λ q h. inl refl)
+    (λ r q h. inr (ap (λ (x : Refusal). Err x) (is_eighth r h)))
 
 late_is : (p : State) (k : Found) → is_begin_of k ≡ true → late_of (called p k).0.reply ≡ true → ((called p k).0.reply ≡ Ok Stay) ⊎ ((called p k).0.reply ≡ Err refusal.Room)
 unfolding called
@@ -107,8 +94,7 @@ late_is p (Ok Close) h = absurd (false≢true h)
 late_is p (Err m) h = absurd (false≢true h)
 
 is_late : (r : Reply) → (r ≡ Ok Stay) ⊎ (r ≡ Err refusal.Room) → late_of r ≡ true
-is_late r (inl e) = ap late_of e
-is_late r (inr e) = ap late_of e
+is_late r h = grind arith
 
 given : (p : Lanes) (i : ℕ) (k : Found) → (answer_to p i k).0.reply ≡ Err refusal.Places → Twelve p i k
 given p i k e =
