@@ -15,6 +15,7 @@ use Rattle.shared.specs.declared.Next.{Next}
 use Rattle.shared.specs.declared.Next.TheVariants as next
 use Rattle.shared.specs.Counts.{inc}
 use Rattle.shared.proofs.Counts.{inc_exact}
+use Rattle.refusals.specs.declared.Refusal.{Refusal}
 use Rattle.refusals.proofs.Domain.{InDomain}
 use Rattle.refusals.proofs.Order.{is_passed}
 use Rattle.burst.specs.declared.Lead.{Lead}
@@ -165,7 +166,7 @@ module _ (w : Settings → ℕ) (N : (p : Settings) → InDomain p → Enough p 
   quiet_rests y n (in_burst q D H) o t = clash (sym t ∙ (H o).0.loud)
 
 -- ---- the answer
-next_idles : (n : Next) → phase_of n ≡ 0 → idles (Ok n) ≡ true
+next_idles : (n : Next) → phase_of n ≡ 0 → idles {E = Refusal} (Ok n) ≡ true
 unfolding phase_of
 next_idles n q = grind arith
 
