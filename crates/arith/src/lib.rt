@@ -43,8 +43,8 @@ pub const RUN_FIX: f64 = 64.0;
 
 // ---- what the Rust takes from its language and libraries
 
-// The magnitude: the sign of a zero goes too. By the pattern, with no branch on the sign: with std's `f32::abs` a call of an FSK or Auto stream takes
-// 1.0 % more instructions.
+// The magnitude: the sign of a zero goes too. By the pattern, with no branch on the sign: with std's `f32::abs` a call of an FSK or Auto
+// stream takes 1.0 % more instructions.
 pub fn abs(x: f32) -> f32
     ensures { result ≡ abs_of x }
 {
@@ -70,14 +70,14 @@ pub fn flush_denormal(x: f32) -> f32
     if abs(x) < f32::MIN_POSITIVE { 0.0 } else { x }
 }
 
-// The larger, and the other where one is a NaN: std's `max`, which answers either of two zeros, and this the first.
+// The larger, and the other where one is a NaN. It is not std's `max`, since of two zeros that may answer either, and this the first.
 pub fn max<F: Float>(a: F, b: F) -> F
     ensures { F.float result ≡ max_of (F.float a) (F.float b) }
 {
     if a.is_nan() || a < b { b } else { a }
 }
 
-// The smaller, and the other where one is a NaN: std's `min` with the first of two zeros.
+// The smaller, and the other where one is a NaN. It is not std's `min`, for the same reason.
 pub fn min<F: Float>(a: F, b: F) -> F
     ensures { F.float result ≡ min_of (F.float a) (F.float b) }
 {
@@ -158,7 +158,8 @@ pub fn fsk_width(a: f64, b: f64) -> Steps
 // What is not above this counts as 0.
 const FLUSH: f32 = 1e-30;
 
-// What brings a sample of this envelope near 1: a power of two at or above the square's inverse, read off the exponent's field, so that no sample costs a division.
+// What brings a sample of this envelope near 1: a power of two at or above the square's inverse, read off the exponent's field, so that no
+// sample costs a division.
 #[tactic(auto, unfolding(crate::specs::Leaves::gain_of))]
 pub fn a_gain(e: f32) -> f32
     ensures { result ≡ gain_of e }

@@ -23,18 +23,20 @@ pub struct Runs {
     pub prev: Option<f64>,
 }
 
-// The transition x is one more, and the run before it may be the shortest.
-#[tactic(auto, unfolding(crate::specs::Guess::shorter_of, crate::specs::Guess::runs_step))]
-fn runs_step(s: Runs, x: f64) -> Runs
-    requires { s.count < 0xffff_ffff_ffff_ffff }
-    ensures { result ≡ runs_step s x }
-{
-    Runs {
-        count: s.count + 1,
-        shortest: s
-            .prev
-            .map_or(s.shortest, |tp| arith::min(s.shortest, x - tp)),
-        prev: Some(x),
+impl Runs {
+    // The transition x is one more, and the run before it may be the shortest.
+    #[tactic(auto, unfolding(crate::specs::Guess::shorter_of, crate::specs::Guess::runs_step))]
+    fn runs_step(self, x: f64) -> Runs
+        requires { self.count < 0xffff_ffff_ffff_ffff }
+        ensures { result ≡ runs_step self x }
+    {
+        Runs {
+            count: self.count + 1,
+            shortest: self
+                .prev
+                .map_or(self.shortest, |tp| arith::min(self.shortest, x - tp)),
+            prev: Some(x),
+        }
     }
 }
 
@@ -46,7 +48,7 @@ pub fn runs_of(ends: &[u32]) -> Runs
         shortest: f64::INFINITY,
         ..Runs::default()
     };
-    fit::transitions(ends, none, runs_step)
+    fit::transitions(ends, none, Runs::runs_step)
 }
 
 // ---- the mean of the runs of one symbol
@@ -72,18 +74,23 @@ pub struct Mean {
     pub prev: Option<f64>,
 }
 
-// The run to the transition x is added where it is one symbol long.
-#[tactic(auto, unfolding(crate::specs::Guess::added_of, crate::specs::Guess::mean_step))]
-fn mean_step(s: Mean, x: f64, shortest: f64) -> Mean
-    ensures { result ≡ mean_step shortest s x }
-{
-    match run_to(shortest, s.prev, x) {
-        Some(d) => Mean {
-            sum: s.sum + d,
-            n: s.n + 1.0,
-            prev: Some(x),
-        },
-        None => Mean { prev: Some(x), ..s },
+impl Mean {
+    // The run to the transition x is added where it is one symbol long.
+    #[tactic(auto, unfolding(crate::specs::Guess::added_of, crate::specs::Guess::mean_step))]
+    fn mean_step(self, x: f64, shortest: f64) -> Mean
+        ensures { result ≡ mean_step shortest self x }
+    {
+        match run_to(shortest, self.prev, x) {
+            Some(d) => Mean {
+                sum: self.sum + d,
+                n: self.n + 1.0,
+                prev: Some(x),
+            },
+            None => Mean {
+                prev: Some(x),
+                ..self
+            },
+        }
     }
 }
 
@@ -91,7 +98,7 @@ fn mean_step(s: Mean, x: f64, shortest: f64) -> Mean
 fn mean_of(ends: &[u32], shortest: f64) -> Mean
     ensures { result ≡ mean_of shortest (times 0 ends.now) }
 {
-    fit::transitions(ends, Mean::default(), |s, x| mean_step(s, x, shortest))
+    fit::transitions(ends, Mean::default(), |s, x| s.mean_step(x, shortest))
 }
 
 // ---- the grid of the smallest cost
@@ -115,19 +122,24 @@ pub struct Tries {
     pub prev: Option<f64>,
 }
 
-// The run to the transition x is tried as a guess where it is one symbol long, while fewer than GRID_CAND were.
-#[tactic(auto, unfolding(crate::specs::Guess::tried_of, crate::specs::Guess::try_step))]
-fn try_step(ends: &[u32], mean: Fitted, shortest: f64, s: Tries, x: f64) -> Tries
-    requires { Known ends.now mean }
-    ensures { result ≡ try_step (times 0 ends.now) shortest s x }
-{
-    match run_to(shortest, s.prev, x) {
-        Some(guess) if s.tried < GRID_CAND => Tries {
-            tried: s.tried + 1,
-            grid: better(s.grid, fit::grid_fit(ends, mean, guess)),
-            prev: Some(x),
-        },
-        _ => Tries { prev: Some(x), ..s },
+impl Tries {
+    // The run to the transition x is tried as a guess where it is one symbol long, while fewer than GRID_CAND were.
+    #[tactic(auto, unfolding(crate::specs::Guess::tried_of, crate::specs::Guess::try_step))]
+    fn try_step(self, x: f64, ends: &[u32], mean: Fitted, shortest: f64) -> Tries
+        requires { Known ends.now mean }
+        ensures { result ≡ try_step (times 0 ends.now) shortest self x }
+    {
+        match run_to(shortest, self.prev, x) {
+            Some(guess) if self.tried < GRID_CAND => Tries {
+                tried: self.tried + 1,
+                grid: better(self.grid, fit::grid_fit(ends, mean, guess)),
+                prev: Some(x),
+            },
+            _ => Tries {
+                prev: Some(x),
+                ..self
+            },
+        }
     }
 }
 
@@ -138,11 +150,11 @@ fn search(ends: &[u32], shortest: f64, m: Mean) -> Option<Grid>
     let line = fit::fit_with(ends, m.sum / m.n);
     let grid = fit::second_fit(ends, line);
     let mean = Fitted { line, grid };
-    let none = Tries {
+    let first = Tries {
         grid,
         ..Tries::default()
     };
-    fit::transitions(ends, none, |s, x| try_step(ends, mean, shortest, s, x)).grid
+    fit::transitions(ends, first, |s, x| s.try_step(x, ends, mean, shortest)).grid
 }
 
 // The grid of a frame: none where it has fewer than GRID_MIN transitions or no run of one symbol.

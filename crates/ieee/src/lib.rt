@@ -9,8 +9,9 @@ ghost use Rattle.ieee.specs.Rounding.{round_of, narrow_of, widen_of};
 
 // ---- bit patterns
 
-// A trait over both widths would be no plainer: each of these four is one call of std, and the trait would add a type for the pattern, its
-// format and an impl of both for each width.
+// Each of these four, and `widen` below, is one call of std. They stay for their contracts, which are the standard's own words (`to_bits`,
+// `of_bits`, convertFormat) and what the crates above cite. A trait over both widths would be no plainer: it would add a type for the
+// pattern, its format and an impl of both for each width.
 
 // The pattern of a float. That of the NaN is quiet, with no other digit set.
 pub fn bits_of_f32(x: f32) -> u32

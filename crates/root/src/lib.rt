@@ -85,8 +85,5 @@ fn round_exact(e: Exact) -> f32
 pub fn sqrt(x: f32) -> f32
     ensures { result ≡ sqrt_of x }
 {
-    match special(x) {
-        Some(root) => root,
-        None => round_exact(exact_root(x)),
-    }
+    special(x).unwrap_or_else(|| round_exact(exact_root(x)))
 }

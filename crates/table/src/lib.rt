@@ -63,7 +63,7 @@ fn entries() -> &'static [u8; 768]
 pub fn first_digits(i: u64) -> u64
     ensures { result ≡ entry_of i }
 {
-    if i < 256 || 1024 <= i {
+    if !(256..1024).contains(&i) {
         return 0;
     }
     u64::from(entries()[(i - 256) as usize])

@@ -42,7 +42,8 @@ pub fn f32_at(o: &[u8], i: usize) -> f32
 
 // ---- lists of words
 
-// Both loops count the words: of what a `zip` with the chunks of four bytes writes, by way of an adapter of `iter_mut`, a proof is told nothing.
+// Both loops count the words. A `zip` of the words with the chunks of four bytes would say the same with no index, but one side is written
+// through (`iter_mut` here, `chunks_exact_mut` in `write_all`), and of what is written through a `zip` a proof is told nothing.
 
 // The words of the bytes, into a buffer of exactly that many.
 fn read_all(bytes: &[u8], buf: &mut [u32])
