@@ -35,24 +35,8 @@ pub fn last_rise(slots: &[u32]) -> usize
         .unwrap_or(0)
 }
 
-// `step` over the transitions: a slot that is above the one before it ends a run, and its time is a transition.
-pub fn transitions<S, F: Fn(S, f64) -> S>(ends: &[u32], first: S, step: F) -> S
-    requires { CallableInFold (F.pre step) (F.post step) first (times 0 ends.now) }
-    ensures { FoldsTo (F.post step) first (times 0 ends.now) result }
-{
-    let mut s = first;
-    let mut before: u32 = 0;
-    for &v in ends {
-        if before < v {
-            s = step(s, time_of(arith::Fix64(v)));
-        }
-        before = v;
-    }
-    s
-}
-
-// The same, up to the first transition where `step` gives none. A function of its own, and not `transitions` over an Option: after a
-// transition that is off a grid the others need not be walked, which `lane_fsk_widths` feels (3.6 % more instructions at 600 slots).
+// `step` over the transitions, up to the first where it gives none: a slot that is above the one before it ends a run, and its time is a
+// transition.
 fn try_transitions<S, F: Fn(S, f64) -> Option<S>>(ends: &[u32], first: S, step: F) -> Option<S>
     requires { CallableInFold (F.pre step) (IsSomeOf (F.post step)) first (times 0 ends.now) }
     ensures { TryFoldsTo (F.post step) first (times 0 ends.now) result }
@@ -66,6 +50,17 @@ fn try_transitions<S, F: Fn(S, f64) -> Option<S>>(ends: &[u32], first: S, step: 
         before = v;
     }
     Some(s)
+}
+
+// `step` over all transitions.
+pub fn transitions<S, F: Fn(S, f64) -> S>(ends: &[u32], first: S, step: F) -> S
+    requires { CallableInFold (F.pre step) (F.post step) first (times 0 ends.now) }
+    ensures { FoldsTo (F.post step) first (times 0 ends.now) result }
+{
+    let always = |s: S, x: f64| -> Option<S>
+        requires { F.pre step s x }
+    { Some(step(s, x)) };
+    try_transitions(ends, first, always).unwrap()
 }
 
 // ---- the fit of a line

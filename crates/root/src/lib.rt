@@ -81,9 +81,13 @@ fn round_exact(e: Exact) -> f32
     f32::from_bits(base + kept)
 }
 
-// The square root of x.
+// The square root of x. A `match` and no `unwrap_or_else`: that x is positive where nothing is answered, the closure would have to be told
+// in a clause of its own.
 pub fn sqrt(x: f32) -> f32
     ensures { result ≡ sqrt_of x }
 {
-    special(x).unwrap_or_else(|| round_exact(exact_root(x)))
+    match special(x) {
+        Some(root) => root,
+        None => round_exact(exact_root(x)),
+    }
 }
