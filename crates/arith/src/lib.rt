@@ -3,7 +3,7 @@
 #![tactic(auto)]
 
 ghost use Rattle.std.specs.Prelude.{◌≡◌};
-ghost use Rattle.arith.specs.Leaves.{abs_of, midpoint_of, flush_of, max_of, min_of, cmul_conj_of, cross_of, edge_of, step_of, whole_of, width_of, fsk_width_of, run_fix_of, gain_of, lead_len_of};
+ghost use Rattle.arith.specs.Leaves.{abs_of, midpoint_of, flush_of, max_of, min_of, plus_of, cmul_conj_of, cross_of, edge_of, step_of, whole_of, width_of, fsk_width_of, run_fix_of, gain_of, lead_len_of};
 
 use num_traits::Float;
 
@@ -16,7 +16,7 @@ pub use boundaries::{carried_at, width_by};
 // ---- units and types
 
 // Whole steps.
-#[derive(Clone, Copy, Default)]
+#[derive(Clone, Copy, Default, PartialEq, Eq, PartialOrd, Ord)]
 pub struct Steps(pub u32);
 
 // 64ths of a step.
@@ -95,6 +95,18 @@ pub fn lead_len(min_steps: u32) -> u32
     ensures { result ≡ lead_len_of min_steps }
 {
     BAND_PULSE_LEAD.min(min_steps.saturating_mul(4).saturating_sub(1))
+}
+
+impl C32 {
+    // The sum, part by part.
+    pub fn plus(self, y: C32) -> C32
+        ensures { result ≡ plus_of self y }
+    {
+        C32 {
+            re: self.re + y.re,
+            im: self.im + y.im,
+        }
+    }
 }
 
 // x times the conjugate of y.

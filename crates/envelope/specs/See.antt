@@ -4,7 +4,7 @@ use Rattle.std.specs.Prelude.{ℕ, Bool, cond, List, leb, eqb, Float}
 use Rattle.std.specs.Float.{binary32}
 use Rattle.std.specs.Float.Ieee.{add, sub, mul, lt, le, of_bits}
 use Rattle.arith.specs.declared.C32.{C32}
-use Rattle.arith.specs.Leaves.{midpoint_of, flush_of, cross_of, edge_of, cmul_conj_of}
+use Rattle.arith.specs.Leaves.{midpoint_of, flush_of, cross_of, edge_of, plus_of, cmul_conj_of}
 use Rattle.ook.specs.declared.Env.{Env}
 use Rattle.shared.specs.declared.Settings.{Settings}
 use Rattle.shared.specs.Params.{refine_at_of}
@@ -13,7 +13,6 @@ use Rattle.run.specs.declared.Move.{Move}
 use Rattle.run.specs.Run.{with_start, meets_of, begins_of}
 use Rattle.ook.specs.Run.{env_of, advance_of, pac_run_of}
 use Rattle.ook.specs.Refine.{refine_of}
-use Rattle.ook.specs.Train.{plus_of}
 use Rattle.envelope.specs.declared.At.{At}
 use Rattle.envelope.specs.declared.Seen.{Seen}
 

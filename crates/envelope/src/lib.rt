@@ -52,7 +52,7 @@ pub type Acted = ActedOf<Out>;
 
 pub type ActedCore = ActedOf<OutCore>;
 
-// What the end of a burst reads of presence: numbers of a lane, as in shared::Settings.
+// What the end of a burst reads of presence. Numbers and not flags: the definitions read the numbers of its run.
 #[derive(Clone, Copy)]
 pub struct Absence {
     pub frames: u32,
@@ -101,14 +101,7 @@ fn high_of(on: bool, e: f32, upper: f32, high: f32) -> f32
 fn pac_of(on: bool, pac: C32, d: C32) -> C32
     ensures { result ≡ pac_of on pac d }
 {
-    if on {
-        C32 {
-            re: pac.re + d.re,
-            im: pac.im + d.im,
-        }
-    } else {
-        pac
-    }
+    if on { pac.plus(d) } else { pac }
 }
 
 // The level, the run, its refinement, the signal level and the pulse's sum, in the Rust's order.
@@ -278,6 +271,7 @@ fn wait(p: Settings, n: u32, frames: u32, high: f32, b: EndedCore, ook: &mut [u3
     }
 }
 
+// A run of the carrier that is too long ends the burst, and so does a gap that is long enough where the carrier is gone.
 #[tactic(auto, unfolding(crate::specs::Tail::tail_of, crate::specs::Tail::carrier_of))]
 pub fn tail(
     p: Settings,

@@ -2,12 +2,11 @@
 // each over the part of the frame that it changes.
 #![tactic(auto)]
 
-ghost use Rattle.std.specs.Prelude.{◌≡◌, ◌+◌, ◌-◌, ◌*◌, ◌<◌, ◌≤◌, min, not, List, Float};
+ghost use Rattle.std.specs.Prelude.{◌≡◌, ◌≤◌, cond, not, List, Float, Some, None};
 ghost use Rattle.fsk.specs.Commit.{put_end_of, count_run_of, upper_run_of, close_pair_of, lower_run_of, fsk_commit_of};
-ghost use Rattle.fsk.specs.Makers.{runs_of};
 ghost use Rattle.fsk.specs.Core.{whole_cand, whole_frame};
 ghost use Rattle.shared.specs.Counts.{bit};
-ghost use Rattle.run.specs.Run.{edge_at, start_run_of};
+ghost use Rattle.run.specs.Run.{edge_at};
 ghost use Rattle.fsk.specs.RunStep.{lengthen_of, meets_of, move_runs_of, confirm_of, confirm_due_of, fsk_run_step_of};
 ghost use Rattle.fsk.specs.Resolve.{begin_frame_of, slice_thr_of, past_of, first_past_of, cand_at_of, before_of, turn_at_of, hi_lo_of, other_level_of, is_early_of, open_runs_of, second_run_of, settle_of, fsk_resolve_of};
 
@@ -28,7 +27,8 @@ pub struct Mean {
     pub fsk_cnt: u32,
 }
 
-// The candidates of the first transition, and the frequency before the first of them. The count fsk_cand is a lane's number, as in shared::Settings.
+// The candidates of the first transition, and the frequency before the first of them. The count fsk_cand is a lane's number, as in
+// shared::Settings.
 #[derive(Clone, Copy, Default)]
 pub struct Cand {
     pub cand_f: [f32; 8],
@@ -36,8 +36,8 @@ pub struct Cand {
     pub fsk_cand: u32,
 }
 
-// The same in the core: the candidates are an array of their own there, which is lent where one is stored or read. A field less, so no
-// type parameter joins the two.
+// The same in the core: the candidates are an array of their own there, which is lent where one is stored or read. A struct of its own: as
+// one struct over the type of the array, `()` here, each of these made in the core would state a field that it has not.
 #[derive(Clone, Copy, Default)]
 pub struct CandCore {
     pub cand_before: f32,
@@ -116,6 +116,9 @@ pub struct Opening {
     pub from: f64,
     pub done: Committed,
 }
+
+// Below, `max` and the slots stay two parameters: a struct that lends the slots needs a ghost name for what was written, as `lent` of
+// stream::Station, in each contract, where the slice says it itself.
 
 // The end t of a run goes into a slot, in 64ths of a step after the origin.
 #[tactic(auto, unfolding(crate::specs::Commit::put_end_of))]
@@ -210,7 +213,7 @@ impl Ran {
         ensures { (result, fsk.new) ≡ confirm_of max self.runs self.done upper fsk.old }
     {
         let r = self.runs.run;
-        let run = r.confirm_if(true);
+        let run = Run { confirmed: 1, ..r };
         if self.runs.fsk_has_prev == 1 {
             let done = self.done.commit(max, !upper, r.t_prev, r.t_run, fsk);
             Ran {
@@ -273,31 +276,19 @@ impl Runs {
     fn moved(self, level: u32, c: Crossing) -> Runs
         ensures { result ≡ move_runs_of (meets_of self level) self level (edge_at c) }
     {
-        let r = self.run;
-        match self.meets(level) {
-            Move::Same => self.lengthen(),
-            Move::Glitch => Runs {
-                run: r.rejoin(level),
-                fsk_has_prev: 0,
-            },
-            Move::Begins => Runs {
-                run: r.begin_run(level, c.edge_at()),
-                fsk_has_prev: 1,
+        let m = self.meets(level);
+        Runs {
+            run: self.run.moved(m, level, c),
+            fsk_has_prev: match m {
+                Move::Same => self.fsk_has_prev,
+                Move::Glitch => 0,
+                Move::Begins => 1,
             },
         }
     }
 }
 
-// No run yet: the first will start at t.
-fn no_run(t: f64) -> Runs
-    ensures { result ≡ runs_of (start_run_of t) 0 }
-{
-    Runs {
-        run: Run::start_run(t),
-        fsk_has_prev: 0,
-    }
-}
-
+// A sample of a frame whose levels are known: its frequency run after it, and what that commits.
 #[tactic(auto, unfolding(crate::specs::RunStep::fsk_run_step_of))]
 pub fn fsk_run_step(
     max: u32,
@@ -314,28 +305,26 @@ pub fn fsk_run_step(
     Ran { runs, done }.confirm_due(max, fsk_min, upper, fsk)
 }
 
+// A frame begins at the time t: no run and no level yet; f_origin and f_last stay, as in the Rust.
 #[tactic(auto, unfolding(crate::specs::Resolve::begin_frame_of))]
 pub fn begin_frame(fr: FrameCore, t: f64) -> FrameCore
     ensures { (cs : List Float) → whole_frame cs result ≡ begin_frame_of (whole_frame cs fr) t }
 {
     FrameCore {
-        tone: Tone::default(),
-        fsk_phase: 0,
-        mean: Mean::default(),
-        cand: CandCore::default(),
         early: Early {
             t_early: t,
             ..Early::default()
         },
-        levels: Levels::default(),
-        runs: no_run(t),
-        done: Committed {
-            fsk_open: 0,
-            fsk_n: 0,
-            fsk_runs: 0,
-            fsk_full: 0,
-            ..fr.done
+        runs: Runs {
+            run: Run::start_run(t),
+            ..Runs::default()
         },
+        done: Committed {
+            f_origin: fr.done.f_origin,
+            f_last: fr.done.f_last,
+            ..Committed::default()
+        },
+        ..FrameCore::default()
     }
 }
 
@@ -388,17 +377,14 @@ fn past(first_upper: bool, f: f32, thr: f32) -> bool
     if first_upper { f < thr } else { f > thr }
 }
 
-// The first of n candidates past the threshold, or other. A loop: with `position`, whose promise speaks of runs of calls, the proof did not close.
+// The first of n candidates past the threshold, or other.
 fn first_past(first_upper: bool, thr: f32, cs: &[f32; 8], n: u32, other: u32) -> u32
     requires { n ≤ 8 }
     ensures { result ≡ first_past_of first_upper thr cs.now other n 0 }
 {
-    for j in 0..n {
-        if past(first_upper, cs[j as usize], thr) {
-            return j;
-        }
-    }
-    other
+    (0..n)
+        .find(|&j| past(first_upper, cs[j as usize], thr))
+        .unwrap_or(other)
 }
 
 #[tactic(auto, unfolding(crate::specs::Resolve::cand_at_of))]
@@ -413,11 +399,7 @@ fn cand_at(cs: &[f32; 8], j: u32, other: f32) -> f32
 fn before_of(cs: &[f32; 8], before: f32, j: u32) -> f32
     ensures { result ≡ before_of cs.now before j }
 {
-    if j == 0 {
-        before
-    } else {
-        cand_at(cs, j.saturating_sub(1), before)
-    }
+    j.checked_sub(1).map_or(before, |i| cand_at(cs, i, before))
 }
 
 // The time of the transition, of which `second` samples are over at idx.
@@ -441,35 +423,36 @@ const EARLY_TOL: f32 = 0.3;
 
 const EARLY_MIN: f64 = 2.0;
 
-// Whether a short first run before the last restart is the first run of the frame.
+// Where the first run of the frame ends, if it is a short one before the last restart.
 #[tactic(auto, unfolding(crate::specs::Resolve::is_early_of))]
-fn is_early(e: Early, first_upper: bool, l: Levels, from: f64) -> bool
-    ensures { result ≡ is_early_of e first_upper l.f_hi l.f_lo from }
+fn early_end(e: Early, first_upper: bool, l: Levels, from: f64) -> Option<f64>
+    ensures { result ≡ cond (is_early_of e first_upper l.f_hi l.f_lo from) (Some e.t_early) None }
 {
-    e.early == 1
+    let early = e.early == 1
         && arith::abs(l.other_level(first_upper, e.f_early)) <= EARLY_TOL
-        && e.t_early - from >= EARLY_MIN
+        && e.t_early - from >= EARLY_MIN;
+    early.then_some(e.t_early)
 }
 
+// Such a run is committed, and the next one starts at its end.
 #[tactic(auto, unfolding(crate::specs::Resolve::open_runs_of))]
 fn open_runs(
     max: u32,
-    early: bool,
+    e: Early,
     first_upper: bool,
+    l: Levels,
     from: f64,
-    t_early: f64,
     c: Committed,
     fsk: &mut [u32],
 ) -> Opening
-    ensures { (result, fsk.new) ≡ open_runs_of max early first_upper from t_early c fsk.old }
+    ensures { (result, fsk.new) ≡ open_runs_of max (is_early_of e first_upper l.f_hi l.f_lo from) first_upper from e.t_early c fsk.old }
 {
-    if early {
-        Opening {
-            from: t_early,
-            done: c.commit(max, !first_upper, from, t_early, fsk),
-        }
-    } else {
-        Opening { from, done: c }
+    match early_end(e, first_upper, l, from) {
+        Some(t) => Opening {
+            from: t,
+            done: c.commit(max, !first_upper, from, t, fsk),
+        },
+        None => Opening { from, done: c },
     }
 }
 
@@ -514,6 +497,7 @@ fn settle(
     Ran { runs, done }
 }
 
+// The first transition of a frame is certain: its two levels, the end of its first run, and the second run under way.
 #[tactic(auto, unfolding(crate::specs::Resolve::fsk_resolve_of))]
 pub fn fsk_resolve(
     max: u32,
@@ -530,16 +514,7 @@ pub fn fsk_resolve(
     let from = fr.runs.run.t_run;
     let l = Levels::of(first_upper, fr.mean.f_ref, f);
     let t = turn_at(first_upper, l.slice_thr(first_upper), fr.cand, f, idx, cs);
-    let early = is_early(fr.early, first_upper, l, from);
-    let o = open_runs(
-        max,
-        early,
-        first_upper,
-        from,
-        fr.early.t_early,
-        fr.done,
-        fsk,
-    );
+    let o = open_runs(max, fr.early, first_upper, l, from, fr.done, fsk);
     let s = settle(max, fsk_min, first_upper, fr.runs.run.run_len, t, o, fsk);
     FrameCore {
         fsk_phase: 1,

@@ -7,8 +7,8 @@ ghost use Rattle.run.specs.Run.{edge_at};
 ghost use Rattle.shared.specs.Core.{whole_out};
 ghost use Rattle.ook.specs.Core.{whole_ended, whole_done};
 ghost use Rattle.ook.specs.Run.{advance_of, zero_if, pac_run_of, begin_env_of};
-ghost use Rattle.ook.specs.Refine.{refine_level_of, refine_lo_of, excess_of, best_at, split_at, best_split_of, refine_in_of, refine_of};
-ghost use Rattle.ook.specs.Train.{push_pulse_of, close_gap_of, empty_train_of, finish_of, end_train_of, longer_of, pushed_by, pulse_done_of, gap_ratio_exceeded_of};
+ghost use Rattle.ook.specs.Refine.{refine_level_of, refine_lo_of, excess_of, best_split_of, refine_in_of, refine_of};
+ghost use Rattle.ook.specs.Train.{push_pulse_of, close_gap_of, empty_train_of, finish_of, end_train_of, pulse_done_of, gap_ratio_exceeded_of};
 
 use arith::{C32, Steps};
 use run::{Crossing, Move, Run};
@@ -16,7 +16,8 @@ use shared::{Carrier, Next, Out, OutCore, Settings};
 
 // ---- what the run and the train are
 
-// The run of the envelope (flags are numbers, as in shared::Settings), whose edge t_run is refined once the run is long enough, and what that needs.
+// The run of the envelope (flags are numbers, as in shared::Settings), whose edge t_run is refined once the run is long enough, and what
+// that needs.
 #[derive(Clone, Copy, Default)]
 pub struct Env {
     pub run: Run,
@@ -28,7 +29,8 @@ pub struct Env {
     pub ref_pending: u32,
 }
 
-// The train of the pulses so far (flags and counts are numbers, as in shared::Settings); origin is the first pulse's edge, bound the last boundary in 64ths of a step after it.
+// The train of the pulses so far (flags and counts are numbers, as in shared::Settings); origin is the first pulse's edge, bound the last
+// boundary in 64ths of a step after it.
 #[derive(Clone, Copy, Default)]
 pub struct Train {
     pub start: u64,
@@ -43,15 +45,16 @@ pub struct Train {
     pub bound: u64,
 }
 
-// Whether a pulse had room, and the train. A flag beside it, and neither Option nor Result: both cases have a train.
+// Whether a pulse had room, and the train. As a Result both arms would be the same struct, and `pulse_done` puts the train beside the record
+// before it asks which.
 #[derive(Clone, Copy)]
 pub struct Pushed {
     pub fits: bool,
     pub train: Train,
 }
 
-// The train and the record beside it, as one stage hands them to the next: the record a caller's (`Ended`), or the core's (`EndedCore`). So
-// with each pair of names below and in the crates above: one struct, over the type in which the two differ.
+// The train and the record beside it, as one stage hands them to the next: the record a caller's (`Ended`), or the core's (`EndedCore`). Each
+// pair of names below, and in the crates above, is likewise one struct over the type in which the two differ.
 #[derive(Clone, Copy)]
 pub struct EndedOf<O> {
     pub train: Train,
@@ -243,10 +246,7 @@ impl Train {
                 fits: true,
                 train: Train {
                     open: 1,
-                    acc: C32 {
-                        re: self.acc.re + pac.re,
-                        im: self.acc.im + pac.im,
-                    },
+                    acc: self.acc.plus(pac),
                     ..self
                 },
             }
@@ -281,12 +281,6 @@ impl Train {
             ..Train::default()
         }
     }
-}
-
-fn longer(longest: Steps, len: Steps) -> Steps
-    ensures { result ≡ longer_of longest len }
-{
-    Steps(longest.0.max(len.0))
 }
 
 impl<O> EndedOf<O> {
@@ -366,7 +360,7 @@ impl EndedOf<OutCore> {
             .then(Next::Stay)
         } else {
             let q = Train {
-                longest: longer(t.longest, len),
+                longest: t.longest.max(len),
                 ..t
             }
             .push_pulse(p.max_pulses, pac, len, ook);

@@ -79,13 +79,10 @@ fn pres_thr(up: bool, noise: f32, factor: f32) -> f32
 fn move_pres(m: Move, s: Pres, level: u32, c: Crossing) -> Pres
     ensures { result ≡ move_pres_of m s level (edge_at c) }
 {
-    let r = s.run;
-    let run = match m {
-        Move::Same => r.lengthen(),
-        Move::Glitch => r.rejoin(level),
-        Move::Begins => r.begin_run(level, c.edge_at()),
-    };
-    Pres { run, ..s }
+    Pres {
+        run: s.run.moved(m, level, c),
+        ..s
+    }
 }
 
 // The carrier was away only for a glitch: the frequency run goes on through those samples.

@@ -3,11 +3,11 @@
 #![tactic(auto)]
 
 ghost use Rattle.std.specs.Prelude.{◌≡◌};
-ghost use Rattle.run.specs.Run.{edge_at, is_high_of, meets_of, begins_of, lengthen_of, rejoin_of, begin_run_of, due_of, confirm_if_of, start_run_of};
+ghost use Rattle.run.specs.Run.{edge_at, is_high_of, meets_of, begins_of, lengthen_of, rejoin_of, begin_run_of, moved_of, due_of, confirm_if_of, start_run_of};
 
-// A run under way (flags are numbers, as in shared::Settings), with what a glitch needs to go back to the run before. The Rust has these six for each of the three, as
-// level, run_len, confirmed, prev_len, t_run, t_prev (envelope), p_level, p_run, p_confirmed, p_prev, p_t_run, p_t_prev (presence) and
-// fsk_level, fsk_run, fsk_confirmed, fsk_prev, ft_run, ft_prev (frequency).
+// A run under way (flags are numbers, as in shared::Settings), with what a glitch needs to go back to the run before. The Rust has these six
+// for each of the three, as level, run_len, confirmed, prev_len, t_run, t_prev (envelope), p_level, p_run, p_confirmed, p_prev, p_t_run,
+// p_t_prev (presence) and fsk_level, fsk_run, fsk_confirmed, fsk_prev, ft_run, ft_prev (frequency).
 #[derive(Clone, Copy, Default)]
 pub struct Run {
     // 1 where the run is high, 0 where it is low.
@@ -119,6 +119,17 @@ impl Run {
             prev_len: self.run_len,
             t_run: tc,
             t_prev: self.t_run,
+        }
+    }
+
+    // The run after a sample of this level.
+    pub fn moved(self, m: Move, level: u32, c: Crossing) -> Run
+        ensures { result ≡ moved_of m self level (edge_at c) }
+    {
+        match m {
+            Move::Same => self.lengthen(),
+            Move::Glitch => self.rejoin(level),
+            Move::Begins => self.begin_run(level, c.edge_at()),
         }
     }
 

@@ -1,7 +1,7 @@
 // What the whole lane shares: settings, answers and records, each by value.
 #![tactic(auto)]
 
-ghost use Rattle.std.specs.Prelude.{◌≡◌, ◌+◌, ◌-◌, ◌<◌, slice_set};
+ghost use Rattle.std.specs.Prelude.{◌≡◌, slice_set};
 ghost use Rattle.ieee.specs.Constants.{zero32};
 ghost use Rattle.shared.specs.Answers.{next_number_of, next_envelope_of, is_stay_of, carrier_kind_of, carrier_first_of, carrier_second_of};
 ghost use Rattle.shared.specs.Core.{whole_out, numbered};
@@ -57,8 +57,9 @@ pub struct Out {
     pub serial: u64,
 }
 
-// The same in the core, where nothing has a serial yet: numbers as in Settings, and for its reason. A struct of its own: a serial beside a
-// generic record would put one struct more between a reader and each field.
+// The same in the core, where nothing has a serial yet: numbers as in Settings, and for its reason. A struct of its own: as one struct over
+// the type of the serial, `()` here, each record made in the core would state a field that it has not; `whole_out` and `core_out` are the
+// price, nine fields one by one.
 #[derive(Clone, Copy, Default)]
 pub struct OutCore {
     pub index: u64,
@@ -73,7 +74,8 @@ pub struct OutCore {
 
 // ---- the pulse buffers
 
-// A slot past the end is not written. An index test: of a slice whose `get_mut` gave None nothing is known, not even that it stays.
+// A slot past the end is not written. An index test: of a slice whose `get_mut` gave None nothing is known, not even that the slice is
+// unchanged.
 pub fn put(pairs: &mut [u32], i: usize, v: u32)
     ensures { pairs.new ≡ slice_set pairs.old i v }
 {
@@ -85,6 +87,7 @@ pub fn put(pairs: &mut [u32], i: usize, v: u32)
 // ---- document 01's numbers of the two enums
 
 impl Next {
+    // 0, 1 or 2, as a caller in C reads what a call asks for.
     pub fn number(self) -> u32
         ensures { result ≡ next_number_of self }
     {
@@ -95,16 +98,17 @@ impl Next {
         }
     }
 
+    // The envelope to be idle at; 0 where none is asked for.
     pub fn envelope(self) -> f32
         ensures { result ≡ next_envelope_of self }
     {
         match self {
-            Next::Stay => 0.0,
-            Next::Idle => 0.0,
+            Next::Stay | Next::Idle => 0.0,
             Next::IdleAt(e) => e,
         }
     }
 
+    // Whether the burst goes on.
     pub fn is_stay(self) -> bool
         ensures { result ≡ is_stay_of self }
     {
@@ -121,6 +125,7 @@ impl Default for Carrier {
 }
 
 impl Carrier {
+    // 1 for an angle, 0 for the two sums.
     pub fn kind(self) -> u32
         ensures { result ≡ carrier_kind_of self }
     {
@@ -130,6 +135,7 @@ impl Carrier {
         }
     }
 
+    // The angle, or the real sum.
     pub fn first(self) -> f32
         ensures { result ≡ carrier_first_of self }
     {
@@ -139,6 +145,7 @@ impl Carrier {
         }
     }
 
+    // 0 beside an angle, or the imaginary sum.
     pub fn second(self) -> f32
         ensures { result ≡ carrier_second_of self }
     {
@@ -149,7 +156,7 @@ impl Carrier {
     }
 }
 
-// The record of a caller, made from that of the core and its serial, and back. No `From`: one way takes a serial.
+// The record of a caller, made from that of the core and its serial. No `From`, here and on the way back: one way takes a serial.
 pub fn whole_out(o: OutCore, serial: u64) -> Out
     ensures { result ≡ numbered serial (whole_out o) }
 {
@@ -166,6 +173,7 @@ pub fn whole_out(o: OutCore, serial: u64) -> Out
     }
 }
 
+// The record without its serial.
 pub fn core_out(o: Out) -> OutCore
     ensures { numbered o.serial (whole_out result) ≡ o }
 {
@@ -196,6 +204,7 @@ pub fn fsk_min(min_steps: u32) -> u32
     }
 }
 
+// The samples after which an edge is refined: min_steps, and no more than the ring of 32 holds beside the samples before the edge.
 pub fn refine_at(min_steps: u32) -> u32
     ensures { result ≡ refine_at_of min_steps }
 {
