@@ -40,7 +40,8 @@ pub type Burst = BurstOf<Cand, Out>;
 
 pub type BurstCore = BurstOf<CandCore, OutCore>;
 
-// The lead-in: its samples wait until there are lead_len of them; lead_x[0] is the sample before. The count lead_n is a lane's number, as in shared::Settings.
+// The lead-in: its samples wait until there are lead_len of them; lead_x[0] is the sample before. The count lead_n is a lane's number,
+// as in shared::Settings.
 #[derive(Clone, Copy, Default)]
 pub struct Lead {
     pub lead_at: u64,
@@ -55,8 +56,6 @@ pub struct SampledOf<C, O> {
     pub next: Next,
     pub burst: BurstOf<C, O>,
 }
-
-pub type Sampled = SampledOf<Cand, Out>;
 
 pub type SampledCore = SampledOf<CandCore, OutCore>;
 
@@ -150,7 +149,7 @@ impl BurstCore {
     }
 }
 
-// Presence, and then the end; ep is the envelope before this sample.
+// Presence, of which there is none in OOK mode; ep is the envelope before this sample.
 #[tactic(auto, unfolding(crate::specs::Core::beside_of))]
 fn present(
     p: Settings,
@@ -178,6 +177,7 @@ fn present(
     }
 }
 
+// Presence, and then the end of the burst, unless presence has ended it.
 fn rest(
     p: Settings,
     a: At,
@@ -206,6 +206,8 @@ fn rest(
     n.with_done(d)
 }
 
+// One sample of a burst: the envelope's run, the train of pulses, and then the rest. The buffers are lent to it and to what it calls one
+// by one, as at step::Core.
 pub fn sample(
     p: Settings,
     a: At,

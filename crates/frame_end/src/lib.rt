@@ -2,30 +2,26 @@
 #![tactic(auto)]
 
 ghost use Rattle.std.specs.Prelude.{◌≡◌, ◌+◌, ◌-◌, ◌*◌, ◌<◌, List, slice_index, Float};
+ghost use Rattle.shared.specs.declared.Out.{Out};
 ghost use Rattle.frame_end.specs.End.{is_split_of, enough_runs_of, is_frame_of, last_run_of, close_pair_of, widths_in_of, carrier_of, out_of, end_frame_of};
 ghost use Rattle.frame_end.specs.Cut.{gap_at_of, keep_next_of, keep_before_of, start_kept_of, cut_train_of};
 ghost use Rattle.frame_end.specs.Done.{frame_done_of};
 ghost use Rattle.shared.specs.Core.{whole_out};
 ghost use Rattle.ook.specs.Core.{whole_ended};
 ghost use Rattle.fsk.specs.Core.{whole_frame};
-ghost use Rattle.frame_end.specs.Core.{whole_framed, whole_body};
+ghost use Rattle.frame_end.specs.Core.{framed_in, whole_body};
 
 use arith::C32;
-use fsk::{Cand, CandCore, Committed, FrameCore, FrameOf, Levels, Runs};
+use fsk::{CandCore, Committed, FrameCore, FrameOf, Levels, Runs};
 use ook::{EndedCore, Train};
-use shared::{Carrier, Out, OutCore, Settings};
+use shared::{Carrier, OutCore, Settings};
 
-// Whether a presence was a frame, the frame, and the record of frames.
+// The frame that a presence was, and its record.
 #[derive(Clone, Copy)]
-pub struct FramedOf<C, O> {
-    pub is_fsk: bool,
-    pub frame: FrameOf<C>,
-    pub out: O,
+pub struct FramedCore {
+    pub frame: FrameCore,
+    pub out: OutCore,
 }
-
-pub type Framed = FramedOf<Cand, Out>;
-
-pub type FramedCore = FramedOf<CandCore, OutCore>;
 
 // Where the pulses before a frame end: the time after the last kept one and its gap, how many, and one past the last.
 #[derive(Clone, Copy)]
@@ -44,8 +40,6 @@ pub struct BodyOf<C, O> {
     pub out_ook: O,
     pub out_fsk: O,
 }
-
-pub type Body = BodyOf<Cand, Out>;
 
 pub type BodyCore = BodyOf<CandCore, OutCore>;
 
@@ -86,7 +80,7 @@ fn last_run(max: u32, phase: u32, r: Runs, c: Committed, end: f64, fsk: &mut [u3
 }
 
 #[tactic(auto, unfolding(crate::specs::End::close_pair_of, shared::specs::Counts::inc))]
-fn close_pair(c: Committed, fsk: &mut [u32]) -> Committed
+fn close_open(c: Committed, fsk: &mut [u32]) -> Committed
     ensures { (result, fsk.new) ≡ close_pair_of c fsk.old }
 {
     if c.fsk_open == 1 {
@@ -133,6 +127,7 @@ fn out_of(start: f64, end: f64, c: Committed, high: f32, carrier: Carrier) -> Ou
     }
 }
 
+// The end of a presence that was a frame; None where it was none.
 #[tactic(auto, unfolding(crate::specs::End::end_frame_of))]
 pub fn end_frame(
     p: Settings,
@@ -141,29 +136,23 @@ pub fn end_frame(
     pac: C32,
     start: f64,
     end: f64,
-    out: OutCore,
     fsk: &mut [u32],
-) -> FramedCore
-    ensures { (cs : List Float) → (whole_framed cs result, fsk.new) ≡ end_frame_of p (whole_frame cs fr) high pac start end (whole_out out) fsk.old }
+) -> Option<FramedCore>
+    ensures { (cs : List Float) (out : Out) → (framed_in (whole_frame cs fr) out cs result, fsk.new) ≡ end_frame_of p (whole_frame cs fr) high pac start end out fsk.old }
 {
     let split = is_split(fr.fsk_phase, fr.levels, p.fsk_split);
     let enough = enough_runs(fr.done.fsk_runs, fr.runs.fsk_has_prev);
     if is_frame(p.mode, split, enough) {
         let ended = last_run(p.max_pulses, fr.fsk_phase, fr.runs, fr.done, end, fsk);
-        let done = close_pair(ended, fsk);
+        let done = close_open(ended, fsk);
         widths_in(fsk, 2 * (done.fsk_n as usize));
         let carrier = carrier_of(fr.fsk_phase, fr.levels, pac);
-        FramedCore {
-            is_fsk: true,
+        Some(FramedCore {
             frame: FrameCore { done, ..fr },
             out: out_of(start, end, done, high, carrier),
-        }
+        })
     } else {
-        FramedCore {
-            is_fsk: false,
-            frame: fr,
-            out,
-        }
+        None
     }
 }
 
@@ -210,7 +199,7 @@ fn start_kept(from: u64) -> Kept
     }
 }
 
-// The pulses that start before limit. A loop that breaks: by `try_fold` its end would be an `Err` that holds what an `Ok` holds.
+// The pulses that start before limit. A loop that breaks: by `try_fold` both its ends, `Ok` and `Err`, would hold the same struct.
 fn keep_before(ook: &[u32], n: u32, total: u32, from: u64, limit: f64) -> Kept
     ensures { result ≡ keep_before_of ook.now n total from limit }
 {
@@ -224,6 +213,7 @@ fn keep_before(ook: &[u32], n: u32, total: u32, from: u64, limit: f64) -> Kept
     s
 }
 
+// A frame began at start: the pulses before it end as a train of their own, and the others are dropped.
 #[tactic(auto, unfolding(crate::specs::Cut::cut_train_of))]
 pub fn cut_train(t: Train, high: f32, out: OutCore, start: f64, ook: &mut [u32]) -> EndedCore
     ensures { (whole_ended result, ook.new) ≡ cut_train_of t high (whole_out out) start ook.old }
@@ -245,6 +235,7 @@ pub fn cut_train(t: Train, high: f32, out: OutCore, start: f64, ook: &mut [u32])
     EndedCore { train: kept, out }.end_train(high, ook)
 }
 
+// The end of a presence: where it was a frame it counts, and in Auto mode it cuts the train of pulses.
 #[tactic(auto, unfolding(crate::specs::Done::frame_done_of, shared::specs::Counts::sat_add_of))]
 pub fn frame_done(
     p: Settings,
@@ -258,18 +249,14 @@ pub fn frame_done(
 ) -> BodyCore
     ensures { (cs : List Float) → (whole_body cs result, ook.new, fsk.new) ≡ frame_done_of p (whole_body cs b) high pac start end ook.old fsk.old }
 {
-    let f = end_frame(p, b.frame, high, pac, start, end, b.out_fsk, fsk);
-    let ended = BodyCore {
+    let Some(f) = end_frame(p, b.frame, high, pac, start, end, fsk) else {
+        return b;
+    };
+    let counted = BodyCore {
         frame: f.frame,
+        frames: b.frames.saturating_add(1),
         out_fsk: f.out,
         ..b
-    };
-    if !f.is_fsk {
-        return ended;
-    }
-    let counted = BodyCore {
-        frames: b.frames.saturating_add(1),
-        ..ended
     };
     if p.mode != 2 {
         return counted;

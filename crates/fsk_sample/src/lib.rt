@@ -4,7 +4,7 @@
 ghost use Rattle.std.specs.Prelude.{◌≡◌, ◌+◌, ◌-◌, ◌*◌, ◌<◌, min, List, Float};
 ghost use Rattle.fsk_sample.specs.Tone.{low_pass_of, tone_of, upper_of, follow_of};
 ghost use Rattle.fsk_sample.specs.Seek.{seed_of, average_of, start_of, before_if_of, push_cand_of, restart_at_of, restart_early_of, clear_of, far_from_of, store_of};
-ghost use Rattle.fsk_sample.specs.Sample.{seek_frame_of, restart_of, away_of, seek_of, fsk_sample_of, track_of};
+ghost use Rattle.fsk_sample.specs.Sample.{seek_frame_of, restart_in, away_in, seek_of, fsk_sample_of, track_of};
 ghost use Rattle.fsk.specs.Core.{whole_cand, whole_frame};
 
 use arith::C32;
@@ -152,54 +152,44 @@ fn far_from(f: f32, f_ref: f32, delta: f32) -> bool
 
 // The frame before its first transition: the levels and the committed runs stay.
 #[tactic(auto, unfolding(crate::specs::Sample::seek_frame_of))]
-fn seek_frame(fr: FrameCore, t: Tone, mean: Mean, c: CandCore, e: Early) -> FrameCore
-    ensures { (old cs : List Float) → whole_frame cs result ≡ seek_frame_of (whole_frame old fr) t mean (whole_cand cs c) e }
+fn seek_frame(fr: FrameCore, t: Tone, mean: Mean, c: CandCore) -> FrameCore
+    ensures { (old cs : List Float) → whole_frame cs result ≡ seek_frame_of (whole_frame old fr) t mean (whole_cand cs c) fr.early }
 {
     FrameCore {
         tone: t,
         mean,
         cand: c,
-        early: e,
         runs: fr.runs.lengthen(),
         ..fr
     }
 }
 
 // The mean had too few samples to stand for a level: it begins anew with the candidates.
-#[tactic(auto, unfolding(crate::specs::Sample::restart_of))]
-fn restart(fr: FrameCore, t: Tone, mean: Mean, c: CandCore, idx: u64, cs: &[f32; 8]) -> FrameCore
-    ensures { (old : List Float) → whole_frame cs.now result ≡ restart_of (whole_frame old fr) t mean (whole_cand cs.now c) idx }
+fn restart(n: FrameCore, idx: u64, cs: &[f32; 8]) -> FrameCore
+    ensures { whole_frame cs.now result ≡ restart_in (whole_frame cs.now n) idx }
 {
-    let e = restart_early(fr.early, mean, c, t.f_prev, idx, cs);
-    let fresh = Mean {
-        f_ref: t.f_prev,
-        fsk_cnt: 1,
-    };
-    seek_frame(fr, t, fresh, clear(c), e)
+    let f = n.tone.f_prev;
+    FrameCore {
+        mean: Mean {
+            f_ref: f,
+            fsk_cnt: 1,
+        },
+        cand: clear(n.cand),
+        early: restart_early(n.early, n.mean, n.cand, f, idx, cs),
+        ..n
+    }
 }
 
-// A sample away from the first level, which is the last candidate of c.
-#[tactic(auto, unfolding(crate::specs::Sample::away_of))]
-fn away(
-    max: u32,
-    m: u32,
-    fr: FrameCore,
-    t: Tone,
-    mean: Mean,
-    c: CandCore,
-    idx: u64,
-    cs: &[f32; 8],
-    fsk: &mut [u32],
-) -> FrameCore
-    ensures { (old : List Float) → (whole_frame cs.now result, fsk.new) ≡ away_of max m (whole_frame old fr) t mean (whole_cand cs.now c) idx fsk.old }
+// A sample away from the first level, which is the last candidate of n.
+fn away(max: u32, m: u32, n: FrameCore, idx: u64, cs: &[f32; 8], fsk: &mut [u32]) -> FrameCore
+    ensures { (whole_frame cs.now result, fsk.new) ≡ away_in max m (whole_frame cs.now n) idx fsk.old }
 {
-    if c.fsk_cand < m {
-        seek_frame(fr, t, mean, c, fr.early)
-    } else if mean.fsk_cnt < m {
-        restart(fr, t, mean, c, idx, cs)
+    if n.cand.fsk_cand < m {
+        n
+    } else if n.mean.fsk_cnt < m {
+        restart(n, idx, cs)
     } else {
-        let n = seek_frame(fr, t, mean, c, fr.early);
-        fsk::fsk_resolve(max, m, n, t.f_prev, idx, cs, fsk)
+        fsk::fsk_resolve(max, m, n, n.tone.f_prev, idx, cs, fsk)
     }
 }
 
@@ -219,9 +209,9 @@ fn seek(
     let mean = seed(fr.mean, fr.cand.fsk_cand, t.f_prev);
     if far_from(t.f_prev, mean.f_ref, p.fsk_delta) {
         let c = push_cand(fr.cand, mean.f_ref, t.f_prev, fr.tone.f_prev, cs);
-        away(p.max_pulses, m, fr, t, mean, c, idx, cs, fsk)
+        away(p.max_pulses, m, seek_frame(fr, t, mean, c), idx, cs, fsk)
     } else {
-        seek_frame(fr, t, average(mean, t.f_prev), clear(fr.cand), fr.early)
+        seek_frame(fr, t, average(mean, t.f_prev), clear(fr.cand))
     }
 }
 
@@ -249,6 +239,7 @@ fn track(p: Settings, m: u32, fr: FrameCore, t: Tone, idx: u64, fsk: &mut [u32])
     }
 }
 
+// One sample of a frame: d is the product of the sample and the conjugate of the one before, e its envelope, high the signal level.
 #[tactic(auto, unfolding(crate::specs::Sample::fsk_sample_of))]
 pub fn fsk_sample(
     p: Settings,

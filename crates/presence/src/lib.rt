@@ -3,7 +3,7 @@
 
 ghost use Rattle.std.specs.Prelude.{◌≡◌, ◌+◌, ◌*◌, ◌-◌, ◌<◌, List, Float};
 ghost use Rattle.presence.specs.Move.{pres_thr_of, move_pres_of, extend_of, move_frame_of};
-ghost use Rattle.presence.specs.Presence.{slice_if_of, sure_if_of, ends_of, in_window_of, end_of, end_if_of, long_of, end_carrier_of, carrier_if_of, advance_of, presence_of, near_start_of, snap_of};
+ghost use Rattle.presence.specs.Presence.{slice_if_of, ends_of, in_window_of, end_of, end_if_of, end_carrier_of, carrier_if_of, advance_of, presence_of, near_start_of, snap_of};
 ghost use Rattle.run.specs.Run.{edge_at};
 ghost use Rattle.fsk.specs.Core.{whole_frame};
 ghost use Rattle.frame_end.specs.Core.{whole_body};
@@ -11,10 +11,10 @@ ghost use Rattle.presence.specs.Core.{whole_advanced, whole_present, whole_snapp
 
 use arith::C32;
 use frame_end::{BodyCore, BodyOf};
-use fsk::{Cand, CandCore, FrameCore, FrameOf};
+use fsk::{CandCore, FrameCore, FrameOf};
 use ook::EndedCore;
 use run::{Crossing, Move, Run};
-use shared::{Next, Out, OutCore, Settings};
+use shared::{Next, OutCore, Settings};
 
 // The run of the presence, which is high while the envelope is above the trigger, and the trigger as a factor of the noise.
 #[derive(Clone, Copy, Default)]
@@ -46,8 +46,6 @@ pub struct AdvancedOf<C> {
     pub frame: FrameOf<C>,
 }
 
-pub type Advanced = AdvancedOf<Cand>;
-
 pub type AdvancedCore = AdvancedOf<CandCore>;
 
 // What the sample asks for, the presence, and what the end of a frame may have changed.
@@ -58,11 +56,9 @@ pub struct PresentOf<C, O> {
     pub body: BodyOf<C, O>,
 }
 
-pub type Present = PresentOf<Cand, Out>;
-
 pub type PresentCore = PresentOf<CandCore, OutCore>;
 
-// The trigger, an eighth (HYSTERESIS) below where the carrier is present and an eighth above where it is not.
+// The trigger, an eighth below where the carrier is present and an eighth above where it is not.
 #[tactic(auto, unfolding(crate::specs::Move::pres_thr_of))]
 fn pres_thr(up: bool, noise: f32, factor: f32) -> f32
     ensures { result ≡ pres_thr_of up noise factor }
@@ -85,7 +81,8 @@ fn move_pres(m: Move, s: Pres, level: u32, c: Crossing) -> Pres
     }
 }
 
-// The carrier was away only for a glitch: the frequency run goes on through those samples.
+// The carrier was away only for a glitch: the frequency run goes on through those samples. Changed in place, here, in end_carrier and in
+// snap: the field is two or three structs down, and `..` at each level is no plainer.
 #[tactic(auto, unfolding(crate::specs::Move::extend_of, shared::specs::Counts::sat_add_of))]
 fn extend(mut fr: FrameCore, n: u32) -> FrameCore
     ensures { (cs : List Float) → whole_frame cs result ≡ extend_of (whole_frame cs fr) n }
@@ -100,15 +97,9 @@ fn move_frame(m: Move, on: bool, n: u32, c: Crossing, fr: FrameCore) -> FrameCor
     ensures { (cs : List Float) → whole_frame cs result ≡ move_frame_of m on n (edge_at c) (whole_frame cs fr) }
 {
     match m {
-        Move::Same => fr,
-        Move::Glitch => { if on { extend(fr, n) } else { fr } }
-        Move::Begins => {
-            if on {
-                fsk::begin_frame(fr, c.edge_at())
-            } else {
-                fr
-            }
-        }
+        Move::Glitch if on => extend(fr, n),
+        Move::Begins if on => fsk::begin_frame(fr, c.edge_at()),
+        _ => fr,
     }
 }
 
@@ -158,16 +149,6 @@ fn advance(
     let moved = move_frame(m, on, r.run_len, c, fr);
     let frame = slice_if(p, a, on, moved, cs, fsk);
     AdvancedCore { on, pres, frame }
-}
-
-#[tactic(auto, unfolding(crate::specs::Presence::sure_if_of))]
-fn sure_if(due: bool, s: Pres) -> Pres
-    ensures { result ≡ sure_if_of due s }
-{
-    Pres {
-        run: s.run.confirm_if(due),
-        ..s
-    }
 }
 
 #[tactic(auto, unfolding(crate::specs::Presence::ends_of))]
@@ -220,20 +201,12 @@ fn end_if(
 {
     if ends {
         let end = end_of(a.level, a.c_run, q.t_run);
-        // Copies, and in carrier_if: a struct that is handed on here would else stand in memory on the other way too, and an FSK stream
-        // take 29 % more instructions.
+        // Copies, here and in carrier_if: without them an FSK stream takes 29 % more instructions.
         let k = p;
         let c = b;
         return frame_end::frame_done(k, c, a.high, a.pac, q.t_prev, end, ook, fsk);
     }
     b
-}
-
-#[tactic(auto, unfolding(crate::specs::Presence::long_of))]
-fn long_of(on: bool, run: u32, long_steps: u32) -> bool
-    ensures { result ≡ long_of on run long_steps }
-{
-    on && run > long_steps
 }
 
 // A carrier: the frame so far is kept, cut, and the train ends too.
@@ -263,7 +236,7 @@ fn end_carrier(
     }
 }
 
-#[tactic(auto, unfolding(crate::specs::Presence::carrier_if_of))]
+#[tactic(auto, unfolding(crate::specs::Presence::carrier_if_of, crate::specs::Presence::long_of))]
 fn carrier_if(
     p: Settings,
     a: Inputs,
@@ -275,7 +248,7 @@ fn carrier_if(
 ) -> PresentCore
     ensures { (cs : List Float) → (whole_present cs result, ook.new, fsk.new) ≡ carrier_if_of p a on s (whole_body cs b) ook.old fsk.old }
 {
-    if long_of(on, s.run.run_len, p.long_steps) {
+    if on && s.run.run_len > p.long_steps {
         // Copies, as in end_if.
         let c = b;
         let q = p;
@@ -292,7 +265,8 @@ fn carrier_if(
     }
 }
 
-#[tactic(auto, unfolding(crate::specs::Presence::presence_of))]
+// One sample of the presence machine, and of the frame where the carrier is present: what it asks for, the presence, and the body.
+#[tactic(auto, unfolding(crate::specs::Presence::presence_of, crate::specs::Presence::sure_if_of))]
 pub fn presence(
     p: Settings,
     a: Inputs,
@@ -313,7 +287,10 @@ pub fn presence(
     };
     let due = run.due(p.min_steps);
     let ends = ends_of(due, l.on, run.prev_len, p.min_steps);
-    let sure = sure_if(due, l.pres);
+    let sure = Pres {
+        run: run.confirm_if(due),
+        ..l.pres
+    };
     let ended = end_if(ends, p, a, run, body, ook, fsk);
     carrier_if(p, a, l.on, sure, ended, ook, fsk)
 }
@@ -324,8 +301,6 @@ pub struct SnappedOf<C> {
     pub pres: Pres,
     pub frame: FrameOf<C>,
 }
-
-pub type Snapped = SnappedOf<Cand>;
 
 pub type SnappedCore = SnappedOf<CandCore>;
 
