@@ -3,7 +3,7 @@
 
 ghost use Rattle.std.specs.Prelude.{◌≡◌, ◌+◌, ◌*◌, ◌-◌, ◌<◌, List, Float};
 ghost use Rattle.presence.specs.Move.{pres_thr_of, move_pres_of, extend_of, move_frame_of};
-ghost use Rattle.presence.specs.Presence.{slice_if_of, ends_of, in_window_of, end_of, end_if_of, end_carrier_of, carrier_if_of, advance_of, presence_of, near_start_of, snap_of};
+ghost use Rattle.presence.specs.Presence.{slice_if_of, sure_if_of, ends_of, in_window_of, end_of, end_if_of, end_carrier_of, carrier_if_of, advance_of, presence_of, near_start_of, snap_of};
 ghost use Rattle.run.specs.Run.{edge_at};
 ghost use Rattle.fsk.specs.Core.{whole_frame};
 ghost use Rattle.frame_end.specs.Core.{whole_body};
@@ -23,8 +23,9 @@ pub struct Pres {
     pub p_factor: f32,
 }
 
-// What the presence machine reads beside its own state. The level is the number of the envelope's run, as a caller's lane has it
-// (shared::Settings). It goes with the settings through six functions: a struct of the two would only put a name before each field.
+// What the presence machine reads beside its own state. The level is the number of the envelope's run, since the
+// definitions (`inputs_of`, `end_of`) hand it on and test it as one. It goes with the settings through six functions: they in it, at the
+// same speed, would be one parameter less, and `a.p.min_steps` for `p.min_steps` here and in each definition and law of a presence.
 #[derive(Clone, Copy)]
 pub struct Inputs {
     pub idx: u64,
@@ -151,6 +152,17 @@ fn advance(
     AdvancedCore { on, pres, frame }
 }
 
+// A function, though of one expression: with that written in `presence` itself, the search for its proof gives up at a limit.
+#[tactic(auto, unfolding(crate::specs::Presence::sure_if_of))]
+fn sure_if(due: bool, s: Pres) -> Pres
+    ensures { result ≡ sure_if_of due s }
+{
+    Pres {
+        run: s.run.confirm_if(due),
+        ..s
+    }
+}
+
 #[tactic(auto, unfolding(crate::specs::Presence::ends_of))]
 fn ends_of(due: bool, on: bool, prev: u32, min_steps: u32) -> bool
     ensures { result ≡ ends_of due on prev min_steps }
@@ -266,7 +278,7 @@ fn carrier_if(
 }
 
 // One sample of the presence machine, and of the frame where the carrier is present: what it asks for, the presence, and the body.
-#[tactic(auto, unfolding(crate::specs::Presence::presence_of, crate::specs::Presence::sure_if_of))]
+#[tactic(auto, unfolding(crate::specs::Presence::presence_of))]
 pub fn presence(
     p: Settings,
     a: Inputs,
@@ -287,10 +299,7 @@ pub fn presence(
     };
     let due = run.due(p.min_steps);
     let ends = ends_of(due, l.on, run.prev_len, p.min_steps);
-    let sure = Pres {
-        run: run.confirm_if(due),
-        ..l.pres
-    };
+    let sure = sure_if(due, l.pres);
     let ended = end_if(ends, p, a, run, body, ook, fsk);
     carrier_if(p, a, l.on, sure, ended, ook, fsk)
 }
