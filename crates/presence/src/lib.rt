@@ -3,7 +3,7 @@
 
 ghost use Rattle.std.specs.Prelude.{◌≡◌, ◌+◌, ◌*◌, ◌-◌, ◌<◌, List, Float};
 ghost use Rattle.presence.specs.Move.{pres_thr_of, move_pres_of, extend_of, move_frame_of};
-ghost use Rattle.presence.specs.Presence.{slice_if_of, sure_if_of, ends_of, in_window_of, end_of, end_if_of, end_carrier_of, carrier_if_of, advance_of, presence_of, near_start_of, snap_of};
+ghost use Rattle.presence.specs.Presence.{slice_if_of, ends_of, in_window_of, end_of, end_if_of, end_carrier_of, carrier_if_of, advance_of, presence_of, near_start_of, snap_of};
 ghost use Rattle.run.specs.Run.{edge_at};
 ghost use Rattle.fsk.specs.Core.{whole_frame};
 ghost use Rattle.frame_end.specs.Core.{whole_body};
@@ -152,17 +152,6 @@ fn advance(
     AdvancedCore { on, pres, frame }
 }
 
-// A function, though of one expression: with that written in `presence` itself, the search for its proof gives up at a limit.
-#[tactic(auto, unfolding(crate::specs::Presence::sure_if_of))]
-fn sure_if(due: bool, s: Pres) -> Pres
-    ensures { result ≡ sure_if_of due s }
-{
-    Pres {
-        run: s.run.confirm_if(due),
-        ..s
-    }
-}
-
 #[tactic(auto, unfolding(crate::specs::Presence::ends_of))]
 fn ends_of(due: bool, on: bool, prev: u32, min_steps: u32) -> bool
     ensures { result ≡ ends_of due on prev min_steps }
@@ -299,7 +288,10 @@ pub fn presence(
     };
     let due = run.due(p.min_steps);
     let ends = ends_of(due, l.on, run.prev_len, p.min_steps);
-    let sure = sure_if(due, l.pres);
+    let sure = Pres {
+        run: run.confirm_if(due),
+        ..l.pres
+    };
     let ended = end_if(ends, p, a, run, body, ook, fsk);
     carrier_if(p, a, l.on, sure, ended, ook, fsk)
 }
