@@ -27,6 +27,7 @@ pub fn feed<S: Station>(
     requires { S.is_sound station.old }
     ensures feeds { Feeds S.machine (S.state station.old) (take end buf.old) last result (S.state station.new) buf.new text.new }
     ensures sound { S.is_sound station.new }
+    ensures same { S.lent station.new ≡ S.lent station.old }
 {
     let n = end.min(buf.len());
     let r = stream::block(station, &buf[..n], last, text);

@@ -30,6 +30,7 @@ fn pass<R: Read, W: Write, S: Station>(
 ) -> Result<Passed, Failed>
     requires { (p.fed.left ≤ length buf.old) × S.is_sound station.old }
     ensures sound { S.is_sound station.new }
+    ensures same { S.lent station.new ≡ S.lent station.old }
     ensures carries { MatchResult result (λ q. Carries S.machine (S.state station.old) p.fed p.last buf.old (S.state station.new) q.fed q.last buf.new text.new (R.remaining from.old) (R.remaining from.new) (W.contents to.old) (W.contents to.new) true) (λ _. Fails S.machine (S.state station.old) p.fed p.last buf.old (S.state station.new) (R.remaining from.old) (R.remaining from.new) (W.contents to.old) (W.contents to.new)) }
 {
     let q = p.fed;
@@ -52,6 +53,7 @@ pub fn run<R: Read, W: Write, S: Station>(
     ensures runs { Runs S.machine (S.state station.old) (S.state station.new) (is_ok result) }
     ensures writes { Writes (printed_of S.machine (S.state station.old)) (R.remaining from.old) (W.contents to.old) (W.contents to.new) (is_ok result) }
     ensures sound { S.is_sound station.new }
+    ensures same { S.lent station.new ≡ S.lent station.old }
 {
     let fed = Fed {
         left: 0,
