@@ -1,6 +1,7 @@
-// The lane by value: opening, begin, close, and the part of a buffer that a record names; its step is the crate `step`. Every value of every argument
-// ends with the reply of document 01 or with the first refusal that applies, lane and buffers then as they were. The two buffers are lent as two
-// slices, here and below, and not as a struct of both: so a signature says which of them a call may write, as `begin` none and `close` one.
+// The lane by value: opening, begin, close, and the part of a buffer that a record names; its step is the crate `step`. Every value of
+// every argument ends with the reply of document 01 or with the first refusal that applies, lane and buffers then as they were. The two
+// buffers are lent as two slices, here and below, and not as a struct of both: so a signature says which of them a call may write, as
+// `begin` none and `close` one.
 #![tactic(auto)]
 
 ghost use Rattle.std.specs.Prelude.{◌≡◌, true, ℕ, ◌≤◌, List};
@@ -24,8 +25,8 @@ use presence::Pres;
 use refusals::Refusal;
 use shared::{Next, Out, OutCore, Settings};
 
-// The seven envelopes before begin's, nearest first. Seven fields and not an array: in the definitions an array is a list of any length, and
-// `begin_back` (commands/proofs/Encode), which has no such condition now, would hold of lists of seven alone.
+// The seven envelopes before begin's, nearest first. Seven fields and not an array: in the definitions an array is a list of any length,
+// so that the theorem `begin_back` (commands/proofs/Encode) would need the condition "of seven".
 #[derive(Clone, Copy)]
 pub struct History {
     pub e1: f32,
@@ -65,8 +66,9 @@ pub struct StepArgs {
     pub x: C32,
 }
 
-// Numbers and flags, here and in the structs within, are as in shared::Settings: refusal 4 names a lane that holds others. The ring is a plain
-// array: one function reads it (ook::refine), and a struct of it would put a field more into each definition that speaks of it.
+// Numbers and flags, here and in the structs within, are as in shared::Settings: refusal 4 names a lane that holds others. The ring is a
+// plain array, which the core's callers lend as one (step::step_core): its rule, index mod 32, is a line in each of the two functions that
+// write it here and in ook's that reads it, so a struct with three methods of one line each is no shorter.
 #[derive(Clone, Copy, Default)]
 pub struct Lane {
     // 0 where it never had settings, 1 where it has.
@@ -228,7 +230,8 @@ pub fn new_lane() -> Lane
     idle_lane(0, Settings::default(), 0)
 }
 
-// A refused call gives the lane back.
+// A refused call gives the lane back. An `Answer` has the lane whether the call is refused or not, so it is no `Result` for `?`: with an
+// inner function for `?` the four calls would need one more each, and still a `match` on what it gives.
 pub fn refused(l: Lane, k: Refusal) -> Answer
     ensures { result ≡ refuse k l }
 {
@@ -350,6 +353,7 @@ pub fn begin(l: Lane, b: BeginArgs, ook: &[u32], fsk: &[u32]) -> Answer
 
 // ---- close
 
+// The core's record of a call that decides nothing. A function of its own for its contract, which says that the record is `no_out`.
 pub fn no_core_out() -> OutCore
     ensures { whole_out result ≡ no_out }
 {
@@ -384,7 +388,7 @@ fn idle_with(l: Lane, burst: Burst, serial: u64) -> Lane
     }
 }
 
-// Close: the burst ends as if its gap had run out. In lead there is no train. The FSK buffer is measured alone.
+// Close: the burst ends as if its gap had run out. In lead there is no train. The FSK buffer is only measured.
 #[tactic(auto, unfolding(crate::specs::Step::closed))]
 pub fn close(l: Lane, ook: &mut [u32], fsk: &[u32]) -> Answer
     ensures { (result, ook.new, fsk.now) ≡ closed l ook.old fsk.now }

@@ -15,8 +15,8 @@ use presence::Pres;
 use run::Run;
 use shared::{Out, Settings};
 
-// Why a call is refused: document 01's numbers 1 to 8, and document 02's 12 and 13. 9 is of the host library alone, which gives it by number;
-// 10 and 11 are not in use.
+// Why a call is refused: document 01's numbers 1 to 8, and document 02's 12 and 13. 9 is of the host library alone, which gives it by
+// number; 10 and 11 are not in use.
 #[derive(Clone, Copy, PartialEq, Eq)]
 pub enum Refusal {
     // The command byte is none of the commands'.
@@ -55,7 +55,8 @@ fn within_range(lo: u32, hi: u32, n: u32) -> bool
     (lo..=hi).contains(&n)
 }
 
-// Two comparisons, of each float of a step: a range's `contains` goes by the floats' partial order, which has four outcomes.
+// Two comparisons, which the definition has too: tried, `(lo..=hi).contains(&x)` is not proved without an answer, since its contract
+// speaks of the order that compares two floats and no definition here does.
 fn between_floats(lo: f32, hi: f32, x: f32) -> bool
     ensures { result ≡ between lo hi x }
 {

@@ -4,7 +4,7 @@
 
 ghost use Rattle.std.specs.Prelude.{◌≡◌, true, ℕ, ◌≤◌, ◌<◌, List, Float, pos, length, get_or, eqb};
 ghost use Rattle.lane.specs.Answers.{phase_of, answer_of};
-ghost use Rattle.lane.specs.Refusals.{step_refusal_by};
+ghost use Rattle.lane.specs.Refusals.{step_refusal_by, step_refusal};
 ghost use Rattle.lane.specs.Begin.{cleared_of};
 ghost use Rattle.step.specs.Core.{zip_of, reals_of, imaginaries_of, lead_in, joined_of, at_call, with_cand, with_frame};
 ghost use Rattle.shared.specs.Core.{whole_out};
@@ -28,9 +28,9 @@ use shared::{Next, OutCore, Settings};
 
 // ---- refusals
 
+// Why a step of a sound lane is refused. Settings, phase and last index come one by one: both the core and the lane have them.
 #[tactic(auto, unfolding(refusals::specs::Order::first_failed))]
-fn step_refusal(
-    lane: bool,
+fn core_refusal(
     p: Settings,
     phase: u32,
     last: u64,
@@ -38,9 +38,8 @@ fn step_refusal(
     ook: usize,
     fsk: usize,
 ) -> Result<(), Refusal>
-    ensures { result ≡ step_refusal_by lane p phase last s ook fsk }
+    ensures { result ≡ step_refusal_by true p phase last s ook fsk }
 {
-    refusals::check(lane, Refusal::Lane)?;
     refusals::check(phase != 0, Refusal::Phase)?;
     refusals::check(
         refusals::index_ok(s.index) & lane::follows(last, s.index),
@@ -48,6 +47,15 @@ fn step_refusal(
     )?;
     refusals::check(lane::step_floats_ok(s), Refusal::Float)?;
     refusals::check(refusals::room_ok(p, ook, fsk), Refusal::Room)
+}
+
+// The same of any lane, which is checked first.
+#[tactic(auto, unfolding(lane::specs::Refusals::step_refusal, refusals::specs::Order::first_failed))]
+fn step_refusal(l: Lane, s: StepArgs, ook: usize, fsk: usize) -> Result<(), Refusal>
+    ensures { result ≡ step_refusal l s ook fsk }
+{
+    refusals::check(lane::lane_ok(l), Refusal::Lane)?;
+    core_refusal(l.settings, l.phase, l.last, s, ook, fsk)
 }
 
 // ---- answers
@@ -65,8 +73,9 @@ fn phase_of(n: Next) -> u32
 // ---- the core: the lane but for its arrays, which are lent
 
 // The lead-in's envelopes and samples, the ring and the candidates stand beside it: es, re and im, ring, cs. The serial is
-// that of both records too. Its numbers are a lane's, as in shared::Settings. The samples are two arrays of numbers: as one of C32 an OOK stream takes 5 % more instructions a call,
-// with all the arrays in one struct that is lent 4 %.
+// that of both records too. Its numbers are a lane's, as in shared::Settings. The samples are two arrays of numbers, and the arrays are
+// lent one by one, as the laws of the core (proofs/Ways), calls and sixteen have them: neither other form is slower where a call takes
+// 411 to 641 instructions (one array of C32 takes 1 to 2 % fewer, one struct of all the arrays 0.4 %), but neither is proved.
 #[derive(Clone, Copy)]
 pub struct Core {
     pub opened: u32,
@@ -157,39 +166,42 @@ pub fn core_of(l: Lane) -> Core
     }
 }
 
-// The arrays of the lead-in: its envelopes, and the real and the imaginary parts of its samples.
+// The envelopes of the lead-in.
 pub fn envelopes(l: Lane) -> [f32; 16]
     ensures { (result ≡ l.lead.lead_e) × (length result ≡ 16) }
 {
     l.lead.lead_e
 }
 
-// The real and the imaginary parts, in one pass: by `xs.map(|x| x.re)` and `xs.map(|x| x.im)` a call of an OOK stream takes 1.5 to 4 % more
-// instructions.
-fn parts_of(xs: [C32; 17]) -> ([f32; 17], [f32; 17])
-    ensures { (result.0 ≡ reals_of xs) × (result.1 ≡ imaginaries_of xs) × (length result.0 ≡ 17) × (length result.1 ≡ 17) }
+// The real and the imaginary parts of its samples, in one pass over them.
+pub fn parts(l: Lane) -> ([f32; 17], [f32; 17])
+    ensures { (result.0 ≡ reals_of l.lead.lead_x) × (result.1 ≡ imaginaries_of l.lead.lead_x) × (length result.0 ≡ 17) × (length result.1 ≡ 17) }
 {
     let mut re = [0.0; 17];
     let mut im = [0.0; 17];
-    for (i, x) in xs.iter().enumerate() {
+    for (i, x) in l.lead.lead_x.iter().enumerate() {
         re[i] = x.re;
         im[i] = x.im;
     }
     (re, im)
 }
 
+// The real parts alone.
 pub fn reals(l: Lane) -> [f32; 17]
     ensures { (result ≡ reals_of l.lead.lead_x) × (length result ≡ 17) }
 {
-    parts_of(l.lead.lead_x).0
+    parts(l).0
 }
 
+// The imaginary parts alone.
 pub fn imaginaries(l: Lane) -> [f32; 17]
     ensures { (result ≡ imaginaries_of l.lead.lead_x) × (length result ≡ 17) }
 {
-    parts_of(l.lead.lead_x).1
+    parts(l).1
 }
 
+// Not by `std::array::from_fn`: tried, its contract tells each element by a call of the closure in some state, and that this state has
+// the two arrays was not proved.
 fn pairs_of(re: [f32; 17], im: [f32; 17]) -> [C32; 17]
     ensures { result ≡ zip_of re im }
 {
@@ -340,7 +352,7 @@ pub fn step_core(
     ensures { ((answer_of result.reply (joined_of result.core es.new re.new im.new ring.new cs.new), ook.new, fsk.new) ≡ stepped_by (step_refusal_by true c.settings c.phase c.last s (length ook.old) (length fsk.old)) (joined_of c es.old re.old im.old ring.old cs.old) s ook.old fsk.old) × (length es.new ≡ length es.old) × (length re.new ≡ length re.old) × (length im.new ≡ length im.old) }
 {
     let p = c.settings;
-    if let Err(k) = step_refusal(true, p, c.phase, c.last, s, ook.len(), fsk.len()) {
+    if let Err(k) = core_refusal(p, c.phase, c.last, s, ook.len(), fsk.len()) {
         return CoreAnswer {
             reply: Err(k),
             core: c,
@@ -382,17 +394,15 @@ pub fn step_core(
 }
 
 // Step: one sample of the lead or of the burst.
-#[tactic(auto, unfolding(lane::specs::Step::stepped, lane::specs::Refusals::step_refusal))]
+#[tactic(auto, unfolding(lane::specs::Step::stepped))]
 pub fn step(l: Lane, s: StepArgs, ook: &mut [u32], fsk: &mut [u32]) -> Answer
     ensures { (result, ook.new, fsk.new) ≡ stepped l s ook.old fsk.old }
 {
-    let sound = lane::lane_ok(l);
-    if let Err(k) = step_refusal(sound, l.settings, l.phase, l.last, s, ook.len(), fsk.len()) {
+    if let Err(k) = step_refusal(l, s, ook.len(), fsk.len()) {
         return lane::refused(l, k);
     }
     let mut es = envelopes(l);
-    let mut re = reals(l);
-    let mut im = imaginaries(l);
+    let (mut re, mut im) = parts(l);
     let mut ring = l.ring;
     let mut cs = l.burst.frame.cand.cand_f;
     let a = step_core(

@@ -17,14 +17,14 @@ long : {xs ys : List Float} → xs ≡ ys → length xs ≡ length ys
 long e = ap (λ (x : List Float). length x) e
 
 pub returns-in-Err : goal.returns-in-Err
-returns-in-Err c = (simp (← c.step_refusal.ensures, c.in-Err.is), refl, refl, refl)
+returns-in-Err c = (simp (← c.core_refusal.ensures, c.in-Err.is), refl, refl, refl)
 
 pub returns-then-m-len : goal.returns-then-m-len
 returns-then-m-len c =
     let args = c.args in
     let adds = c.lead_add.ensures in (
       core_fills args.c args.s args.es.now args.re.now args.im.now args.ring.now args.cs.now args.ook.now args.fsk.now
-          c.step_refusal.result _ c.step_refusal.ensures _ c.clear_core.result c.in_default.is
+          c.core_refusal.result _ c.core_refusal.ensures _ c.clear_core.result c.in_default.is
           c.ring_put.ensures c.clear_core.ensures c.lead_add.new.es c.lead_add.new.re c.lead_add.new.im (core_of args.c args.c.phase args.s.index args.s.x c.lead_add.result c.clear_core.result (args.c.serial + 1))
           c.lead_add.result c.lead_len-len.result _ _ _ refl refl refl c.if-leads.true-raw adds.0 c.lead_len-len.ensures (lt-ltb _ _ c.if-m-len.true) refl
           _ refl,
@@ -38,7 +38,7 @@ returns c =
     let args = c.args in
     let told =
     core_samples args.c args.s args.es.now args.re.now args.im.now args.ring.now args.cs.now args.ook.now args.fsk.now
-    c.step_refusal.result _ c.step_refusal.ensures _ c.clear_core.result c.in_default.is
+    c.core_refusal.result _ c.core_refusal.ensures _ c.clear_core.result c.in_default.is
     c.ring_put.ensures c.clear_core.ensures c.if-leads.es c.if-leads.re c.if-leads.im c.if-leads.m
     c.samples-w.result _ _ _ c.at_of-q.result _ c.if-leads.n c.phase_of.result (Ok c.samples-w.result.next)
     c.at_of-q.ensures c.phase_of.ensures refl (c.samples-w.ensures (at_in_of _ c.at_of-q.result c.if-leads.es c.if-leads.re c.if-leads.im) (λ i a below given. search rules)) in
