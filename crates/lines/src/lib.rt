@@ -236,11 +236,9 @@ impl<'a> Text<'a> {
     }
 
     // The lines of a call, each after a tag, which is empty for a program with one lane: first `fsk`,
-    // then `ook`, then the phase line. A refused call has its number alone. Printing stays a call of its
-    // own: inlined into the loop over the steps it makes that loop slower (529 instructions for a call of
-    // an OOK stream in place of 498). The records, their parts and the index come one by one: both callers have
-    // them so, and a struct of them would be put together there only to be taken apart here.
-    #[inline(never)]
+    // then `ook`, then the phase line. A refused call has its number alone. The records, their parts and the
+    // index come one by one: both callers have them so, and a struct of them would be put together there only
+    // to be taken apart here.
     pub fn put_call(
         &mut self,
         tag: &[u8],
