@@ -1,5 +1,5 @@
 -- By the library's law of `find` over a range.
-use Rattle.std.proofs.Common.{◌≡◌, true, false, rules, ◌∙◌}
+use Rattle.std.proofs.Common.{◌≡◌, true, false, rules, ◌∙◌, arith}
 use Rattle.std.proofs.lemmas.Iterator.{first_from_Range}
 use lib.ListN.{get_or}
 use lib.Ieee.{nan}
