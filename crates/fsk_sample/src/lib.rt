@@ -87,8 +87,8 @@ fn start_of(n: u32, side: bool, last: bool) -> u32
     if side == last { n } else { 0 }
 }
 
-// A place past the end is not written: an index test, as in shared::put. That one is of a caller's pulses (u32): generic, it would put its
-// type's context into each answer that cites it, to save these three lines.
+// A place past the end is not written: an index test, as in shared::put. That one, were it generic, would save these three lines and cost
+// a law: its promise (slice_set) tests the length, and store_of the number 8.
 #[tactic(auto, unfolding(crate::specs::Seek::store_of))]
 fn store(cs: &mut [f32; 8], i: usize, f: f32)
     ensures { cs.new ≡ store_of cs.old i f }
