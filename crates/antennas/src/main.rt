@@ -30,6 +30,7 @@ fn run<R: Read, W: Write>(
 
 // The text has room for the 172,463 bytes that one call may take, and is written once for each read
 // where the calls print less than the rest of it. A run that fails ends with a status that is not zero.
+// It begins as `listing` does, and why neither shares it is said there.
 fn main(rt: HostRuntime) -> ExitCode {
     let mut buf = [0u8; 65536];
     let mut text = [0u8; 262144];

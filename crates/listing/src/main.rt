@@ -36,6 +36,8 @@ fn run<R: Read, W: Write>(
 
 // The text has room for the 172,400 bytes that one call may take, and is written once for each read
 // where the calls print less than the rest of it. A run that fails ends with a status that is not zero.
+// `antennas` begins alike: one helper for both would take its `run`, whose contract is of any reader and writer,
+// as a closure of four arguments over std's own two, and reads no plainer than these lines.
 fn main(rt: HostRuntime) -> ExitCode {
     let mut buf = [0u8; 65536];
     let mut text = [0u8; 262144];

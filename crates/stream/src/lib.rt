@@ -55,7 +55,8 @@ pub struct Fed {
 // Where a turn leads.
 #[derive(Clone, Copy, Debug, PartialEq, Eq)]
 pub struct Turned {
-    // The place after its commands; the one before them where the stream ends.
+    // The place after its commands. The one before them where the stream ends: there the machine's own `size`
+    // is 0, and `Passed` reads a place that stays the same way.
     pub used: usize,
     // The place after their lines.
     pub at: usize,
@@ -81,7 +82,8 @@ pub trait Station {
 
     // A turn: the command at a place of the bytes, and those after it that print nothing up to one that
     // prints, whose lines stand at a place of the text. Or why there is no turn: the command waits for more
-    // bytes, or the text has no room. `last` says that no byte will come after these.
+    // bytes, or the text has no room. `last` says that no byte will come after these. `text` and `at` are the
+    // pair that `lines::Text` is; this crate stands on none, and knows of no lines.
     fn turn(
         &mut self,
         s: &[u8],
