@@ -173,8 +173,8 @@ pub fn envelopes(l: Lane) -> [f32; 16]
     l.lead.lead_e
 }
 
-// The real and the imaginary parts of its samples, in one pass over them. By `map` twice a call of an OOK stream took 1.5 % more
-// instructions, counted where `calls::steps` takes `reals` and `imaginaries` one by one.
+// The real and the imaginary parts of its samples, in one pass over them. By `map` twice, here and below, a call of an
+// OOK stream takes 410 instructions in place of 400, and one of an FSK stream 640 in place of 632.
 pub fn parts(l: Lane) -> ([f32; 17], [f32; 17])
     ensures { (result.0 ≡ reals_of l.lead.lead_x) × (result.1 ≡ imaginaries_of l.lead.lead_x) × (length result.0 ≡ 17) × (length result.1 ≡ 17) }
 {
