@@ -2,11 +2,12 @@
 use Prim.Native.Nat.{ℕ, ◌+◌, ◌-◌, ◌<◌, ◌≤◌, ◌^◌}
 use mathlib.Core.Bool.{Bool, true, false}
 use mathlib.Core.Path.{◌≡◌, refl, sym, ◌∙◌, ap, subst}
-use mathlib.Core.List.{List, []}
+use mathlib.Core.List.{List, [], ◌∷◌}
 use native.Mathlib.Omega.{arith}
 use lib.ListN.{length, drop, set, get_or, length-set}
 use Rattle.std.proofs.lemmas.List.{map-set, get_or-map, length-map}
 use Rattle.std.proofs.Common.{map}
+use Rattle.std.specs.List.{fold}
 use Rattle.lane.specs.declared.Lane.{Lane}
 use Rattle.lane.specs.Step.{new_lane}
 use Rattle.reached.specs.Reached.{Sound}
@@ -14,7 +15,7 @@ use Rattle.calls.specs.Turn.{State, waits, most_of}
 use Rattle.addressed.specs.Addressed.{addressed_of, antenna_of}
 use Rattle.tagged.specs.Tagged.{tagged_room}
 use Rattle.among.specs.Among.{antennas, Lanes, lane_at, put_at, out_of, outs, others_out, Sized}
-use Rattle.among.proofs.Laws.{outs_take, outs_fit, outs_put}
+use Rattle.among.proofs.Laws.{outs_take, outs_fit, outs_put, outs_most}
 use Rattle.stream.specs.declared.Stop.TheVariants.{Waiting, NoRoom}
 use Rattle.stream.specs.declared.Turned.{Turned}
 use Rattle.stream.specs.Blocks.{waiting, no_room, Passed, Turn, Stays}
@@ -98,6 +99,18 @@ module _ (a : Antennas) (sound : IsSound a) (i j : ℕ) (is_j : j ≡ row_of i) 
           lanes = subst AllSound (sym e) (sound_set (state_of a).0 j n.lane sound.lanes h);
           count = outs_put (state_of a).0 j new_lane n.lane w a.out o own_out sound.count is_o inside ∙ ap outs (sym e);
         }
+
+-- the lanes out of idle, counted from channel to channel
+abbrev pub out_in : Channel → ℕ
+out_in c = out_of c.lane
+
+pub outs_channels : (cs : List Channel) (n : ℕ) → fold (λ a c. a + out_in c) n cs ≡ n + outs (lanes_of cs).0
+unfolding outs
+outs_channels [] n = omega arith
+outs_channels (c ∷ cs) n = omega (arith, outs_channels cs (n + out_of c.lane))
+
+pub outs_few : (cs : List Channel) → outs (lanes_of cs).0 ≤ length cs
+outs_few cs = omega (arith, outs_most (lanes_of cs).0, length-map cs lane_in)
 
 -- ---- a turn, or none
 

@@ -9,9 +9,9 @@ ghost use Rattle.lines.specs.Text.{RoomFor, Puts};
 ghost use Rattle.reached.specs.Reached.{Sound};
 ghost use Rattle.calls.specs.Turn.{Called, most_of};
 ghost use Rattle.lane.specs.Answers.{answer_of};
-ghost use Rattle.among.specs.Among.{antennas};
+ghost use Rattle.among.specs.Among.{antennas, outs};
 ghost use Rattle.sixteen.specs.Sixteen.{heard_text, none_text, spoken_text, row_of, at_first};
-ghost use Rattle.sixteen.specs.Spoken.{Stands, one_of, Heard, spoken_room, has_tagged_room, Told, held, state_of, IsSound};
+ghost use Rattle.sixteen.specs.Spoken.{Stands, one_of, Heard, spoken_room, has_tagged_room, Told, held, lanes_of, state_of, AllSound, IsSound};
 
 use calls::Past;
 use commands::{Found, Missing};
@@ -199,15 +199,23 @@ impl Channel {
 
 // ---- sixteen
 
-// The row of an antenna's lane; the first where there is no such antenna. As an `Option` it would be
-// unwrapped to the first at once: the room of a refusal is asked for by a lane too, as in the machine's `most`.
+// The row of an antenna's lane; the first where there is no such antenna. By `channels.get_mut(i)` the case
+// without a channel would name the first all the same: the machine's `most` asks a lane for a refusal's room too.
 fn row_of(i: usize) -> usize
     ensures { result ≡ row_of i }
 {
-    if i < 16 {
-        return i;
-    }
-    0
+    if i < 16 { i } else { 0 }
+}
+
+// How many of the lanes are out of idle.
+fn count_out(channels: &[Channel; 16]) -> u32
+    ensures counted { result ≡ outs (lanes_of channels.now).0 }
+    ensures sized { length channels.now ≡ antennas }
+{
+    channels
+        .iter()
+        .map(|c| u32::from(among::is_out(&c.lane)))
+        .sum()
 }
 
 // Sixteen lanes, each with its own pair of buffers, and how many of them are out of idle.
@@ -231,6 +239,18 @@ impl Antennas {
         Antennas {
             channels: [channel; 16],
             out: 0,
+        }
+    }
+
+    // Any sixteen sound lanes, as they are.
+    pub fn of(channels: [Channel; 16]) -> Antennas
+        requires { AllSound (lanes_of channels).0 }
+        ensures state { state_of result ≡ lanes_of channels }
+        ensures sound { IsSound result }
+    {
+        Antennas {
+            channels,
+            out: count_out(&channels),
         }
     }
 }
