@@ -30,8 +30,8 @@ pub fn command_at(s: &[u8], at: usize) -> Found
     commands::decode_by(u[0], &u[2..])
 }
 
-// The antenna's number, 0 where its byte is not there. No command stands there then, and the one caller
-// names some antenna for that too: it would take an `Option` for 0 again.
+// The antenna's number, 0 where its byte is not there. No command stands there then, and a refusal names
+// no antenna: of an `Option` the caller would make 0 again, to ask that lane for the room of the refusal.
 pub fn antenna_at(s: &[u8], at: usize) -> usize
     ensures { (result ≡ antenna_of (drop at s.now)) × (result < 256) }
 {

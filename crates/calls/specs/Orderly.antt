@@ -1,4 +1,5 @@
 -- The listing program is one over a stream: a command that is not waited for is decoded from a part as from the whole.
+-- The lemmas stand here too: the impl of `Station` names `orderly`, and what a contract names may not use the proofs of its own crate.
 use Prim.Native.Nat.{ℕ, ◌<◌}
 use mathlib.Core.Bool.{true, false}
 use mathlib.Core.Path.{◌≡◌, refl, sym, ◌∙◌, ap}

@@ -111,7 +111,9 @@ pub struct Past {
     pub reply: Reply,
 }
 
-// Whether a call prints nothing: it stays, and decides no record.
+// Whether a call prints nothing: it stays, and decides no record. It takes the two records' states, since
+// the loop over steps has them in a `step::Core`, and its callers in a `Lane`. As `shown`, it holds for any
+// refusals, not for ours alone: a narrower type would ask more of who calls it.
 pub fn is_quiet<E: Copy>(r: Result<Next, E>, f: u32, o: u32) -> bool
     ensures { result ≡ quiet_of r f o }
 {

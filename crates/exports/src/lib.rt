@@ -129,7 +129,7 @@ fn call(l: Lane, k: Command, ook: &mut [u32], fsk: &mut [u32]) -> Answer
 }
 
 // As `lane_buffers`, with no lines, and each step by the entry that is lent the lane. Each command goes on by its own length and
-// some end the loop, so there is no index or part of one size for a `for` to go through.
+// what is no command ends the loop, so there is no index or part of one size for a `for` to go through.
 #[unsafe(no_mangle)]
 pub extern "C" fn lane_buffers_lent(commands: &[u8], ook: &mut [u32], fsk: &mut [u32]) -> usize
     ensures { LeftWhole commands.now result ook.old fsk.old ook.new fsk.new }

@@ -1,5 +1,5 @@
 -- The program of sixteen antennas is one over a stream: what stands at the front of the bytes is the same whatever comes after it, once it is not
--- waited for.
+-- waited for. The lemmas stand here too: the impl of `Station` names `orderly`, and what a contract names may not use the proofs of its own crate.
 use Prim.Native.Nat.{ℕ, ◌<◌}
 use mathlib.Core.Bool.{Bool, true, false, cond}
 use mathlib.Core.Path.{◌≡◌, refl, sym, ◌∙◌, ap}

@@ -21,7 +21,8 @@ use refusals::Refusal;
 use shared::Next;
 use stream::{Station, Stop, Turned};
 
-// A command for an antenna, and how many of the other antennas' lanes are out of idle.
+// A command for an antenna, and how many of the other antennas' lanes are out of idle. The bytes and the
+// place stay beside it: `Stands` says in one word what an invariant would, and this has no lifetime.
 #[derive(Clone, Copy)]
 pub struct Asked {
     pub others: u32,
