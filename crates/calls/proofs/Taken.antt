@@ -6,7 +6,7 @@ use mathlib.Core.List.{List, []}
 use native.Mathlib.Omega.{arith}
 use lib.ListN.{length, take, drop, length-drop}
 use lib.Dec.{eqb}
-use Rattle.std.specs.Prelude.{Ok, Err}
+use Rattle.std.specs.Prelude.{Some, Ok, Err}
 use borrow.Author.Tests.{not-true}
 use Rattle.shared.proofs.Tests.{both_true, clash}
 use Rattle.lane.specs.declared.Lane.{Lane}
@@ -16,19 +16,19 @@ use Rattle.lane.specs.Answers.{Reply, answer_of}
 use Rattle.lane.specs.Step.{stepped}
 use Rattle.reached.specs.Reached.{Sound}
 use Rattle.commands.specs.declared.Command.TheVariants.{Step}
-use Rattle.commands.specs.Command.{Found, decoded, size_of, is_step_of}
-use Rattle.commands.proofs.Stream.{step_there}
+use Rattle.commands.specs.Command.{Found, decoded, size_of, step_of, is_step_of}
+use Rattle.commands.proofs.Stream.{step_there, step_given}
 use Rattle.lines.specs.Line.{record_line, call_text, has_room, put}
 use Rattle.lines.proofs.Room.{room_there}
 use Rattle.stream.specs.declared.Stop.TheVariants.{Waiting, NoRoom}
 use Rattle.stream.specs.Blocks.{waiting, no_room, Turn, Stays}
 use Rattle.stream.proofs.Taken.{stored, passed_one, passed_then}
 use Rattle.calls.specs.Turn.{State, Called, called, next, answer_text, called_text, text_of, waits, most_of, Shown}
-use Rattle.calls.specs.Steps.{quiet_of, Took}
+use Rattle.calls.specs.Steps.{quiet_of, Stepped, Went, Took}
 use Rattle.calls.specs.Stream.{machine}
 use Rattle.calls.proofs.Laws.{there, shown_most, called_short, too_few_left}
 use Rattle.calls.specs.Orderly.{orderly, step_settled}
-use Rattle.calls.proofs.Silent.{call_sound, kept_room, Steps, none, some, steps_sound, core_step, gave}
+use Rattle.calls.proofs.Silent.{call_sound, kept_room, Steps, none, some, steps_sound, went_all}
 
 -- ---- a step among the commands
 
@@ -72,12 +72,11 @@ StepsTaken p s from used r q = Steps (λ (u : ℕ) (z : Reply) (n : State). Took
 
 -- one step more
 module _ {p : State} {s : List ℕ} {from used : ℕ} {r : Reply} {q : State} (a : StepArgs) (end : ℕ) (z : Reply) (n : State) (sound : Sound p.0) (so : StepsTaken p s from used r q)
-    (inside : used < length s) (is_a : Ok (Step a) ≡ decoded (drop used s)) (is_end : end ≡ used + 25)
-    (gives : (answer_of z n.0, n.1, n.2) ≡ core_step q.0 a q.1 q.2) (is_ook : length n.1 ≡ length q.1) (is_fsk : length n.2 ≡ length q.2) where
+    (inside : used < length s) (is_a : Ok (Step a) ≡ decoded (drop used s)) (is_end : end ≡ used + 25) (step : Stepped q a z n) where
   one : Took q s used end z n
-  one = took_one q s used (Ok (Step a)) end z n 25 inside (steps_sound sound so) is_a refl refl is_end (gave a end z n sound so gives is_ook is_fsk) is_ook is_fsk
+  one = took_one q s used (Ok (Step a)) end z n 25 inside (steps_sound sound so) is_a refl refl is_end step.gave step.ook step.fsk
 
-  pub step_on : Took p s from end z n
+  step_on : Took p s from end z n
   step_on = go so
     where
       go : StepsTaken p s from used r q → Took p s from end z n
@@ -90,6 +89,15 @@ module _ {p : State} {s : List ℕ} {from used : ℕ} {r : Reply} {q : State} (a
                 passed_then machine orderly p s from used _ q end _ n g.passes (silent r q.0 q.1 q.2 quiet) up
                 (λ t. step_settled (drop used s) t (ap is_step_of (sym is_a))) (omega (arith, is_end)) one.passes;
           }
+
+-- steps wherever a step is decoded
+pub steps_taken : {At : ℕ → StepArgs → Type 0} (p : State) (s : List ℕ) (from used : ℕ) (r : Reply) (q : State) → Sound p.0
+    → ((at : ℕ) (a : StepArgs) → At at a → Some a ≡ step_of (decoded (drop at s))) → Went At 25 p from used r q → Took p s from used r q
+steps_taken p s from used r q sound is went =
+    went_all (λ (u : ℕ) (z : Reply) (n : State). Took p s from u z n) sound (omega arith)
+    (λ used r q a z n so here step.
+    let there = step_given (decoded (drop used s)) a (sym (is used a here)) in
+    step_on a (used + 25) z n sound so (omega (arith, step_room s used a there)) there refl step) went
 
 -- ---- commands with their lines
 

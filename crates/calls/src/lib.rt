@@ -2,17 +2,17 @@
 // with both buffers lent, and the call's lines written; and the turns of a whole block of bytes.
 #![tactic(auto)]
 
-ghost use Rattle.std.specs.Prelude.{◌≡◌, true, false, List, ℕ, ◌≤◌, ◌<◌, length, drop, MatchResult};
+ghost use Rattle.std.specs.Prelude.{◌≡◌, true, false, List, ℕ, ◌+◌, ◌^◌, ◌≤◌, ◌<◌, length, drop, Some, None, MatchResult};
 ghost use Rattle.commands.specs.Command.{decoded, is_step_of};
 ghost use Rattle.reached.specs.Reached.{Sound};
 ghost use Rattle.lines.specs.Line.{larger_of, has_room, put};
 ghost use Rattle.calls.specs.Turn.{Called, called, missed, shown_of, answer_text, waits as Turn·waits, slots_of, most_of};
-ghost use Rattle.calls.specs.Steps.{quiet_of, Took};
+ghost use Rattle.calls.specs.Steps.{quiet_of, Took, Went};
 ghost use Rattle.calls.specs.Stream.{machine};
 ghost use Rattle.stream.specs.Blocks.{Streamed, Turn, Stays};
 
 use commands::{Command, Found, Missing};
-use lane::{Answer, Lane, Reply};
+use lane::{Answer, Lane, Reply, StepArgs};
 use refusals::Refusal;
 use shared::{Next, Out};
 use stream::{Ran, Station, Stop, Turned};
@@ -123,12 +123,19 @@ pub fn is_quiet<E: Copy>(r: Result<Next, E>, f: u32, o: u32) -> bool
     }
 }
 
-// The steps from a place of the bytes on, where one is, up to the first that prints: core and arrays
-// are changed in place. A sound lane never meets refusal 4, so it is not asked for. Where the steps end is known only at each
-// place, by its byte and by what the step before it answered, so there are no parts for a `for` to go through.
-fn steps(lane: &mut Lane, s: &[u8], from: usize, ook: &mut [u32], fsk: &mut [u32]) -> Past
-    requires { (from < length s.now) × (is_step_of (decoded (drop from s.now)) ≡ true) × Sound lane.old }
-    ensures { Took (lane.old, ook.old, fsk.old) s.now from result.used result.reply (lane.new, ook.new, fsk.new) }
+// The steps from a place on, where one is, up to the first that prints: core and arrays are changed in place. `step_at` says which step
+// stands at a place, and each takes `size` bytes. A sound lane never meets refusal 4, so it is not asked for. Where the steps end is
+// known only at each place, by its byte and by what the step before it answered, so there are no parts for a `for` to go through.
+pub fn steps<F: Fn(usize) -> Option<StepArgs>>(
+    step_at: F,
+    size: usize,
+    lane: &mut Lane,
+    from: usize,
+    ook: &mut [u32],
+    fsk: &mut [u32],
+) -> Past
+    requires { ((at : ℕ) → F.pre step_at at) × ((at : ℕ) (b : StepArgs) → F.post step_at at (Some b) → at + size < 2 ^ 64) × (0 < size) × (F.post step_at from None → ⊥) × Sound lane.old }
+    ensures { Went (λ at b. F.post step_at at (Some b)) size (lane.old, ook.old, fsk.old) from result.used result.reply (lane.new, ook.new, fsk.new) }
 {
     let mut c = step::core_of(*lane);
     let mut es = step::envelopes(*lane);
@@ -138,13 +145,13 @@ fn steps(lane: &mut Lane, s: &[u8], from: usize, ook: &mut [u32], fsk: &mut [u32
     let mut cs = lane.burst.frame.cand.cand_f;
     let mut used = from;
     let mut reply = Ok(Next::Stay);
-    while let Some(b) = commands::step_at(s, used) {
+    while let Some(b) = step_at(used) {
         let a = step::step_core(
             c, b, &mut es, &mut re, &mut im, &mut ring, &mut cs, ook, fsk,
         );
         reply = a.reply;
         c = a.core;
-        used += 25;
+        used += size;
         let quiet = is_quiet(reply, c.burst.out_fsk.state, c.burst.out_ook.state);
         if !quiet {
             break;
@@ -161,7 +168,7 @@ fn pass(lane: &mut Lane, k: Found, s: &[u8], from: usize, ook: &mut [u32], fsk: 
     ensures { Took (lane.old, ook.old, fsk.old) s.now from result.used result.reply (lane.new, ook.new, fsk.new) }
 {
     if is_step(k) {
-        return steps(lane, s, from, ook, fsk);
+        return steps(|at| commands::step_at(s, at), 25, lane, from, ook, fsk);
     }
     let a = call_other(*lane, k, ook, fsk);
     *lane = a.lane;

@@ -7,10 +7,10 @@ use mathlib.Core.List.{List, []}
 use native.Mathlib.Omega.{arith}
 use lib.ListN.{length, take, drop, length-drop}
 use lib.Dec.{eqb, ltb, leb}
-use borrow.Author.Tests.{ltb-true, ltb-false, not-true}
+use borrow.Author.Tests.{ltb-true, ltb-false, not-true, eqb-true, eq-eqb}
 use Rattle.shared.proofs.Tests.{both_true, clash}
 use Rattle.lane.specs.declared.Lane.{Lane}
-use Rattle.std.specs.Prelude.{Result, Ok, Err}
+use Rattle.std.specs.Prelude.{Result, Ok, Err, Option, Some, None}
 use Rattle.shared.specs.declared.Next.{Next}
 use Rattle.shared.specs.declared.Next.TheVariants.{Stay, Idle, IdleAt}
 use Rattle.refusals.specs.declared.Refusal.{Refusal}
@@ -23,8 +23,8 @@ use Rattle.commands.specs.declared.Command.{Command}
 use Rattle.commands.specs.declared.Command.TheVariants.{Step}
 use Rattle.commands.specs.declared.Missing.{Missing}
 use Rattle.commands.specs.declared.Missing.TheVariants as missing
-use Rattle.commands.specs.Command.{Found, is_step_of}
-use Rattle.commands.proofs.Stream.{a_step}
+use Rattle.commands.specs.Command.{Found, step_of, is_step_of}
+use Rattle.commands.proofs.Stream.{step_given, a_step}
 use Rattle.lines.specs.Line.{call_text, record_line, train_room, has_room, put, Put}
 use Rattle.lines.proofs.Room.{room_there}
 use Rattle.lines.proofs.Writers as lines
@@ -33,9 +33,9 @@ use Rattle.lines.specs.Text.{Puts}
 use Rattle.calls.specs.Turn.{State, Called, unchanged, called, next, shown_of, by_number, waits, most_of}
 use Rattle.calls.specs.Turn.{Shown}
 use Rattle.calls.proofs.Laws.{shown_most, too_few_left}
-use Rattle.calls.specs.Steps.{quiet_of}
+use Rattle.calls.specs.Steps.{quiet_of, Quiet, Stepped, Went}
 use Rattle.calls.specs.Orderly.{step_whole}
-use Rattle.calls.proofs.Silent.{Quiet, Kept, kept_room, Steps, none, some, steps_sound, core_step, gave}
+use Rattle.calls.proofs.Silent.{Kept, kept_room, Steps, none, some, steps_sound, went_all}
 use Rattle.addressed.specs.Addressed.{addressed_of, antenna_of, addressed_size}
 use Rattle.addressed.proofs.Laws.{size_fits, step_there}
 use Rattle.tagged.specs.Tagged.{tagged, tagged_text, tagged_room}
@@ -216,8 +216,7 @@ step_room s used b e = omega (arith, step_there (drop used s) (ap is_step_of (sy
 
 module _ (a : Asked) (p : State) (s : List ℕ) (from used : ℕ) (r : Reply) (q : State) (b : StepArgs) (end : ℕ) (z : Reply) (n : State)
     (here : ltb a.antenna antennas ≡ true) (steps : is_step_of a.command ≡ true) (sound : Sound p.0) (so : StepsHeard a p s from used r q)
-    (inside : used < length s) (is_b : Ok (Step b) ≡ addressed_of (drop used s)) (is_i : a.antenna ≡ antenna_of (drop used s)) (is_end : end ≡ used + 26)
-    (gives : (answer_of z n.0, n.1, n.2) ≡ core_step q.0 b q.1 q.2) (is_ook : length n.1 ≡ length q.1) (is_fsk : length n.2 ≡ length q.2) where
+    (inside : used < length s) (is_b : Ok (Step b) ≡ addressed_of (drop used s)) (is_i : a.antenna ≡ antenna_of (drop used s)) (is_end : end ≡ used + 26) (step : Stepped q b z n) where
   abbrev asked : Asked
   asked = record { others = a.others; antenna = a.antenna; command = Ok (Step b) }
 
@@ -226,7 +225,7 @@ module _ (a : Asked) (p : State) (s : List ℕ) (from used : ℕ) (r : Reply) (q
   lone = simp here
 
   one : Heard asked q s used (past_of end z) n
-  one = heard_one asked q s used (past_of end z) n 26 (omega arith) (steps_sound sound so) is_b is_i refl refl is_end (gave b end z n sound so gives is_ook is_fsk ∙ lone) is_ook is_fsk
+  one = heard_one asked q s used (past_of end z) n 26 (omega arith) (steps_sound sound so) is_b is_i refl refl is_end (step.gave ∙ lone) step.ook step.fsk
 
   sees : (t : List ℕ) → Seen machine s used t
   sees t = whole_settled (drop used s) t (step_whole (addressed_of (drop used s)) (ap is_step_of (sym is_b)))
@@ -236,7 +235,7 @@ module _ (a : Asked) (p : State) (s : List ℕ) (from used : ℕ) (r : Reply) (q
   same_lines c = sym (step_text a.antenna a.command c steps)
 
   -- one step more
-  pub step_on : Heard a p s from (past_of end z) n
+  step_on : Heard a p s from (past_of end z) n
   step_on = go so
     where
       c : Called
@@ -271,6 +270,34 @@ module _ (a : Asked) (p : State) (s : List ℕ) (from used : ℕ) (r : Reply) (q
       go : StepsHeard a p s from used r q → Heard a p s from (past_of end z) n
       go (none e d) = first e d
       go (some up quiet keeps still h) = further up quiet keeps h
+
+-- what stands at a place for the antenna i
+abbrev pub For : ℕ → List ℕ → Option StepArgs
+For i u = cond (eqb (antenna_of u) i) (step_of (addressed_of u)) None
+
+-- a step of it
+pub step_here : (u : List ℕ) (i : ℕ) (b : StepArgs) → Some b ≡ For i u → (Ok (Step b) ≡ addressed_of u) × (i ≡ antenna_of u)
+step_here u i b h = go (eqb (antenna_of u) i) refl h
+  where
+    go : (e : Bool) → eqb (antenna_of u) i ≡ e → Some b ≡ cond e (step_of (addressed_of u)) None → (Ok (Step b) ≡ addressed_of u) × (i ≡ antenna_of u)
+    go true q g = (step_given (addressed_of u) b (sym g), sym (eqb-true (antenna_of u) i q))
+    go false q g = absurd (let z : ◌≡◌ {A = Option StepArgs} (Some b) None = g in cc)
+
+-- or none of it, where a step stands
+pub other_there : (u : List ℕ) (i : ℕ) → None ≡ For i u → is_step_of (addressed_of u) ≡ true → i ≡ antenna_of u → ⊥
+other_there u i h e own =
+    let b = a_step (addressed_of u) e in
+    let z : ◌≡◌ {A = Option StepArgs} None (Some b.args) = h ∙ simp (eq-eqb (antenna_of u) i (sym own)) (ap step_of b.is) in
+    absurd (cc)
+
+-- steps wherever one of the antenna stands
+pub steps_heard : {At : ℕ → StepArgs → Type 0} (a : Asked) (p : State) (s : List ℕ) (from used : ℕ) (r : Reply) (q : State) → ltb a.antenna antennas ≡ true → is_step_of a.command ≡ true → Sound p.0
+    → ((at : ℕ) (b : StepArgs) → At at b → Some b ≡ For a.antenna (drop at s)) → Went At 26 p from used r q → Heard a p s from (past_of used r) q
+steps_heard a p s from used r q here steps sound is went =
+    went_all (λ (u : ℕ) (z : Reply) (n : State). Heard a p s from (past_of u z) n) sound (omega arith)
+    (λ used r q b z n so at step.
+    let there = step_here (drop used s) a.antenna b (is used b at) in
+    step_on a p s from used r q b (used + 26) z n here steps sound so (omega (arith, step_room s used b there.0)) there.0 there.1 refl step) went
 
 -- ---- commands with their lines
 

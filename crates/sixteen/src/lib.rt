@@ -2,7 +2,7 @@
 // with that lane's own pair of buffers, and its lines written after the antenna's number.
 #![tactic(auto)]
 
-ghost use Rattle.std.specs.Prelude.{◌≡◌, true, false, ◌&&◌, ltb, ◌+◌, ◌≤◌, ◌<◌, length};
+ghost use Rattle.std.specs.Prelude.{◌≡◌, true, false, ◌&&◌, ltb, ◌+◌, ◌≤◌, length};
 ghost use Rattle.commands.specs.Command.{is_step_of};
 ghost use Rattle.lines.specs.Line.{Put};
 ghost use Rattle.lines.specs.Text.{RoomFor, Puts};
@@ -18,7 +18,6 @@ use commands::{Found, Missing};
 use lane::{Answer, Lane, Reply};
 use lines::Text;
 use refusals::Refusal;
-use shared::Next;
 use stream::{Station, Stop, Turned};
 
 // A command for an antenna, and how many of the other antennas' lanes are out of idle. The bytes and the
@@ -31,37 +30,6 @@ pub struct Asked {
 }
 
 // ---- one antenna
-
-// The step at a place of the bytes and those of the same antenna that follow it, up to the first that
-// prints: core and arrays are changed in place, as `calls::steps` does.
-fn steps(q: Asked, lane: &mut Lane, s: &[u8], from: usize, ook: &mut [u32], fsk: &mut [u32]) -> Past
-    requires { Stands q s.now from × (is_step_of q.command ≡ true) × (q.antenna < antennas) × Sound lane.old }
-    ensures { Heard q (lane.old, ook.old, fsk.old) s.now from result (lane.new, ook.new, fsk.new) }
-{
-    let i = q.antenna;
-    let mut c = step::core_of(*lane);
-    let mut es = step::envelopes(*lane);
-    let mut re = step::reals(*lane);
-    let mut im = step::imaginaries(*lane);
-    let mut ring = lane.ring;
-    let mut cs = lane.burst.frame.cand.cand_f;
-    let mut used = from;
-    let mut reply = Ok(Next::Stay);
-    while let Some(b) = addressed::step_for(s, used, i) {
-        let a = step::step_core(
-            c, b, &mut es, &mut re, &mut im, &mut ring, &mut cs, ook, fsk,
-        );
-        reply = a.reply;
-        c = a.core;
-        used += 26;
-        let quiet = calls::is_quiet(reply, c.burst.out_fsk.state, c.burst.out_ook.state);
-        if !quiet {
-            break;
-        }
-    }
-    *lane = step::joined(c, es, re, im, ring, cs);
-    Past { used, reply }
-}
 
 // The answer to a command that is no step, and to any of an antenna that is not there.
 fn call_one(q: Asked, l: Lane, ook: &mut [u32], fsk: &[u32]) -> Answer
@@ -85,7 +53,8 @@ fn pass(q: Asked, lane: &mut Lane, s: &[u8], from: usize, ook: &mut [u32], fsk: 
 {
     let fast = calls::is_step(q.command) & (q.antenna < 16);
     if fast {
-        return steps(q, lane, s, from, ook, fsk);
+        let i = q.antenna;
+        return calls::steps(|at| addressed::step_for(s, at, i), 26, lane, from, ook, fsk);
     }
     let a = call_one(q, *lane, ook, fsk);
     *lane = a.lane;
