@@ -15,3 +15,8 @@ pub first_over : (n : ℕ) (r : Option ℕ) → n < 256 * 256
     → MatchOption r ((k : ℕ) → 0 ≤ k → k < 255 → (k + 1) * (k + 1) ≤ n) (λ i. (0 ≤ i) × (i < 255) × (n < (i + 1) * (i + 1)) × ((k : ℕ) → 0 ≤ k → k < i → (k + 1) * (k + 1) ≤ n)) → IsLargest n (unwrap_or r 255)
 first_over n None l h = (below n 255 (λ k u. h k (omega arith) u), l)
 first_over n (Some i) l h = (below n i (λ k u. h.3 k (omega arith) u), h.2)
+
+-- a number whose square is above another is above 0
+pub over_zero : (k n : ℕ) → n < k * k → 0 < k
+over_zero zero n h = omega (arith, h)
+over_zero (suc k) n h = omega arith
