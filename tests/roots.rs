@@ -1,4 +1,4 @@
-//! The table that the square root begins from, three times over: the words in the source of crate table, what the program `roots`
+//! The table that the square root begins from, three times over: the array in the source of crate table, what the program `roots`
 //! prints, and its rule, worked out here.
 //!
 //!     roots PROGRAM
@@ -14,26 +14,18 @@ const SOURCE: &str = include_str!("../crates/table/src/lib.rt");
 
 const FIRST: u64 = 256;
 const NUMBERS: usize = 768;
-const BYTES: usize = 8;
 
 /// The largest whole number whose square is at most 64 * i.
 fn by_rule(i: u64) -> u64 {
     (0..).take_while(|r| r * r <= 64 * i).last().unwrap()
 }
 
-/// The bytes of the words in the source, the first in the lowest place. The arms of the match must stand in order, from the first on.
+/// The bytes of the array in the source, the entry of 256 first.
 fn in_source() -> Result<Vec<u64>, String> {
-    let arms = SOURCE.lines().filter_map(|line| line.trim().strip_suffix(',')?.split_once(" => 0x"));
-    let mut numbers = Vec::new();
-    for (arm, word) in arms {
-        let place = FIRST / BYTES as u64 + (numbers.len() / BYTES) as u64;
-        if arm.parse() != Ok(place) {
-            return Err(format!("the source has the arm {arm} where that of {place} should stand"));
-        }
-        let word = u64::from_str_radix(word, 16).map_err(|e| format!("{word}: {e}"))?;
-        numbers.extend(word.to_le_bytes().map(u64::from));
-    }
-    Ok(numbers)
+    let (_, rest) = SOURCE.split_once("static ENTRIES: [u8; 768] = [").ok_or("the source has no array of 768 bytes")?;
+    let (entries, _) = rest.split_once("];").ok_or("the array in the source does not end")?;
+    let words = entries.split(',').map(str::trim).filter(|word| !word.is_empty());
+    words.map(|word| word.parse::<u8>().map(u64::from).map_err(|e| format!("{word}: {e}"))).collect()
 }
 
 fn by_program(program: &str) -> Result<Vec<u64>, String> {

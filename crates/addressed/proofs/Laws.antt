@@ -1,20 +1,21 @@
 -- Laws of the commands of sixteen antennas that a reader of a stream needs. With two bytes there the command is the one that its bytes are
 -- without the second, so each law is that of `listing`'s decoder; with one byte no command fits but one that no antenna would change.
-use Prim.Native.Nat.{ℕ, suc, ◌+◌, ◌<◌, ◌≤◌}
-use mathlib.Core.Bool.{Bool, true, false, cond}
+use Prim.Native.Nat.{ℕ, suc, ◌<◌, ◌≤◌}
+use mathlib.Core.Bool.{Bool, true, false}
 use mathlib.Core.Path.{◌≡◌, refl, ap, sym, ◌∙◌}
 use mathlib.Core.List.{List, [], ◌∷◌, ◌++◌}
 use native.Mathlib.Omega.{arith}
 use native.Mathlib.Nat.{not-suc-le-zero}
 use lib.ListN.{length, get_or, drop}
 use lib.Dec.{eqb}
-use borrow.Author.Tests.{le-ltb}
-use Rattle.commands.specs.declared.Command.{Command}
-use Rattle.commands.specs.declared.Command.TheVariants.{End, Open, Begin, Step, Unknown, Short, Close}
-use Rattle.commands.specs.Command.{step_args_of, decoded, size_of, is_step_of}
+use borrow.Author.Tests.{le-ltb, ne_eqb, eq-eqb}
+use Rattle.commands.specs.declared.Command.TheVariants.{Open, OpenCarry, Begin, Step, Close}
+use Rattle.commands.specs.declared.Missing.TheVariants as missing
+use Rattle.commands.specs.Command.{Found, step_of, step_args_of, decoded, size_of, is_step_of}
 use Rattle.commands.specs.Stream.{whole}
 use Rattle.shared.proofs.Tests.{clash}
-use Rattle.commands.proofs.Stream.{decoded_more, is_end, a_step, some_there as some_decoded, size_fits as fits, step_there as step_in, long_front as front}
+use Rattle.commands.proofs.Stream.{decoded_more, no_step_given, is_end, a_step, some_there as some_decoded, size_fits as fits, step_there as step_in, long_front as front}
+use Rattle.std.specs.Prelude.{Some, None, Ok, Err}
 use Rattle.addressed.specs.Addressed.{without_antenna, addressed_of, antenna_of, addressed_size}
 
 -- ---- the layout
@@ -40,19 +41,18 @@ addressed_lone c = refl
 
 -- ---- where the bytes end
 
-pub none_there : addressed_of [] ≡ End
+pub none_there : addressed_of [] ≡ Err missing.End
 unfolding addressed_of decoded
 none_there = refl
 
 -- without the antenna only 05 differs: what says the same of it and of bytes that are short says the same
-lone : {A : Type 0} (F : Command → A) → F Short ≡ F Close → (k : Command) → F (without_antenna k) ≡ F k
-lone F h End = refl
-lone F h (Open p carries) = refl
-lone F h (Begin b) = refl
-lone F h (Step s) = refl
-lone F h Unknown = refl
-lone F h Short = refl
-lone F h Close = h
+lone : {A : Type 0} (F : Found → A) → F (Err missing.Short) ≡ F (Ok Close) → (k : Found) → F (without_antenna k) ≡ F k
+lone F h (Ok (Open p)) = refl
+lone F h (Ok (OpenCarry p)) = refl
+lone F h (Ok (Begin b)) = refl
+lone F h (Ok (Step s)) = refl
+lone F h (Ok Close) = h
+lone F h (Err m) = refl
 
 pub some_there : (b : ℕ) (o : List ℕ) → is_end (addressed_of (b ∷ o)) ≡ false
 some_there b [] = ap is_end (addressed_lone b) ∙ lone is_end refl (decoded (b ∷ [])) ∙ some_decoded b []
@@ -61,53 +61,46 @@ some_there b (i ∷ o) = ap is_end (addressed_by b i o) ∙ some_decoded b o
 -- ---- a command that lies in the bytes takes no more of them than there are
 
 -- of one byte nothing is a command with an antenna
-lone_size : (k : Command) → size_of k ≤ 1 → size_of (without_antenna k) ≡ 0
-lone_size End h = refl
-lone_size (Open p true) h = absurd (omega arith)
-lone_size (Open p false) h = absurd (omega arith)
-lone_size (Begin b) h = absurd (omega arith)
-lone_size (Step s) h = absurd (omega arith)
-lone_size Unknown h = refl
-lone_size Short h = refl
-lone_size Close h = refl
+lone_none : (k : Found) → size_of k ≤ 1 → addressed_size (without_antenna k) ≡ 0
+lone_none (Ok (Open p)) h = absurd (omega arith)
+lone_none (Ok (OpenCarry p)) h = absurd (omega arith)
+lone_none (Ok (Begin b)) h = absurd (omega arith)
+lone_none (Ok (Step s)) h = absurd (omega arith)
+lone_none (Ok Close) h = refl
+lone_none (Err m) h = refl
 
-grown : (n m : ℕ) → n ≤ m → cond (eqb n 0) 0 (n + 1) ≤ suc m
-grown n m h = go (eqb n 0)
-  where
-    go : (b : Bool) → cond b 0 (n + 1) ≤ suc m
-    go true = omega arith
-    go false = omega arith
+grown : (k : Found) (m : ℕ) → size_of k ≤ m → addressed_size k ≤ suc m
+grown (Ok k) m h = omega (arith, h)
+grown (Err n) m h = omega arith
 
 pub size_fits : (s : List ℕ) → addressed_size (addressed_of s) ≤ length s
 size_fits [] = simp none_there (omega arith)
-size_fits (b ∷ []) = simp (addressed_lone, lone_size (decoded (b ∷ [])) (fits (b ∷ []))) (omega arith)
-size_fits (b ∷ i ∷ o) = simp addressed_by (grown (size_of (decoded (b ∷ o))) (suc (length o)) (fits (b ∷ o)))
+size_fits (b ∷ []) = simp (addressed_lone, lone_none (decoded (b ∷ [])) (fits (b ∷ []))) (omega arith)
+size_fits (b ∷ i ∷ o) = simp addressed_by (grown (decoded (b ∷ o)) (suc (length o)) (fits (b ∷ o)))
 
 -- no command takes more than 62 bytes
-pub size_small : (k : Command) → size_of k ≤ 61
-size_small End = omega arith
-size_small (Open p true) = omega arith
-size_small (Open p false) = omega arith
-size_small (Begin b) = omega arith
-size_small (Step s) = omega arith
-size_small Unknown = omega arith
-size_small Short = omega arith
-size_small Close = omega arith
+pub size_small : (k : Found) → size_of k ≤ 61
+size_small (Ok (Open p)) = omega arith
+size_small (Ok (OpenCarry p)) = omega arith
+size_small (Ok (Begin b)) = omega arith
+size_small (Ok (Step s)) = omega arith
+size_small (Ok Close) = omega arith
+size_small (Err m) = omega arith
 
 -- ---- bytes that come after a whole command change nothing
 
 -- one byte is whole only where no command begins with it
-lone_whole : (k : Command) → size_of k ≤ 1 → whole (without_antenna k) ≡ true → k ≡ Unknown
-lone_whole End h w = clash (sym w)
-lone_whole (Open p true) h w = absurd (omega arith)
-lone_whole (Open p false) h w = absurd (omega arith)
-lone_whole (Begin b) h w = absurd (omega arith)
-lone_whole (Step s) h w = absurd (omega arith)
-lone_whole Unknown h w = refl
-lone_whole Short h w = clash (sym w)
-lone_whole Close h w = clash (sym w)
+lone_whole : (k : Found) → size_of k ≤ 1 → whole (without_antenna k) ≡ true → k ≡ Err missing.Unknown
+lone_whole (Err missing.End) h w = clash (sym w)
+lone_whole (Ok (Open p)) h w = absurd (omega arith)
+lone_whole (Ok (OpenCarry p)) h w = absurd (omega arith)
+lone_whole (Ok (Begin b)) h w = absurd (omega arith)
+lone_whole (Ok (Step s)) h w = absurd (omega arith)
+lone_whole (Err missing.Unknown) h w = refl
+lone_whole (Err missing.Short) h w = clash (sym w)
+lone_whole (Ok Close) h w = clash (sym w)
 
-unknown_lone : (b : ℕ) → whole (addressed_of (b ∷ [])) ≡ true → decoded (b ∷ []) ≡ Unknown
+unknown_lone : (b : ℕ) → whole (addressed_of (b ∷ [])) ≡ true → decoded (b ∷ []) ≡ Err missing.Unknown
 unknown_lone b w = lone_whole (decoded (b ∷ [])) (fits (b ∷ [])) (sym (ap whole (addressed_lone b)) ∙ w)
 
 nothing_whole : whole (addressed_of []) ≡ true → ⊥
@@ -137,11 +130,11 @@ step_there (b ∷ []) e =
 step_there (b ∷ i ∷ o) e = omega (arith, (step_in (b ∷ o) (sym (ap is_step_of (addressed_by b i o)) ∙ e)).0)
 
 -- so its size is 26
-pub step_size : (k : Command) → is_step_of k ≡ true → addressed_size k ≡ 26
+pub step_size : (k : Found) → is_step_of k ≡ true → addressed_size k ≡ 26
 step_size k e = ap addressed_size (a_step k e).is
 
 -- and its operands are those from place 2 on
-pub step_operands : (s : List ℕ) → is_step_of (addressed_of s) ≡ true → Step (step_args_of (drop 2 s)) ≡ addressed_of s
+pub step_operands : (s : List ℕ) → is_step_of (addressed_of s) ≡ true → Ok (Step (step_args_of (drop 2 s))) ≡ addressed_of s
 step_operands [] e = absurd (omega (arith, step_there [] e))
 step_operands (b ∷ []) e = absurd (omega (arith, step_there (b ∷ []) e))
 step_operands (b ∷ i ∷ o) e = (step_in (b ∷ o) (sym (ap is_step_of (addressed_by b i o)) ∙ e)).1 ∙ sym (addressed_by b i o)
@@ -158,3 +151,14 @@ pub long_front : (s : List ℕ) → 26 ≤ length s → eqb (get_or s 0 0) 3 ≡
 long_front [] h = absurd (omega arith)
 long_front (b ∷ []) h = absurd (omega arith)
 long_front (b ∷ i ∷ o) h = front (b ∷ o) (omega arith) ∙ sym (ap is_step_of (addressed_by b i o))
+
+-- fewer bytes, or another command byte, give none
+pub short_given : (s : List ℕ) → length s < 26 → step_of (addressed_of s) ≡ None
+short_given s h = no_step_given (addressed_of s) (short_front s h)
+
+pub other_given : (s : List ℕ) → 26 ≤ length s → (get_or s 0 0 ≡ 3 → ⊥) → step_of (addressed_of s) ≡ None
+other_given s h n = no_step_given (addressed_of s) (sym (long_front s h) ∙ ne_eqb (get_or s 0 0) 3 n)
+
+-- and otherwise the operands
+pub step_front : (s : List ℕ) → 26 ≤ length s → get_or s 0 0 ≡ 3 → step_of (addressed_of s) ≡ Some (step_args_of (drop 2 s))
+step_front s h e = sym (ap step_of (step_operands s (sym (long_front s h) ∙ eq-eqb (get_or s 0 0) 3 e)))

@@ -7,10 +7,11 @@ use mathlib.Core.Path.{◌≡◌, refl, sym, ◌∙◌, ap, subst}
 use mathlib.Core.List.{List, [], ◌∷◌}
 use native.Mathlib.Omega.{arith}
 use native.Mathlib.Nat.{not-suc-le-zero, le_of_suc-le-suc}
-use lib.ListN.{length, set, get_or, drop, replicate}
+use lib.ListN.{length, set, get_or, replicate}
 use lib.Dec.{leb, ltb, eqb}
 use borrow.Author.Tests.{ltb-true, ltb-false, le-leb, lt-leb}
-use Rattle.std.specs.Prelude.{Ok}
+use Rattle.std.specs.Prelude.{Ok, Err}
+use Rattle.std.specs.List.{fold}
 use Rattle.refusals.specs.Domain.{index_ok, room_ok}
 use Rattle.refusals.specs.Serial.{serial_left}
 use Rattle.refusals.specs.Order.{check, first_failed}
@@ -22,8 +23,8 @@ use Rattle.lane.specs.Refusals.{lane_ok, begin_floats_ok, begin_refusal}
 use Rattle.lane.specs.Idle.{idle_lane}
 use Rattle.lane.specs.Step.{new_lane, refuse, begun, begun_by}
 use Rattle.reached.specs.Reached.{Sound}
-use Rattle.commands.specs.declared.Command.{Command}
-use Rattle.commands.specs.declared.Command.TheVariants.{End, Open, Begin, Step, Unknown, Short, Close}
+use Rattle.commands.specs.Command.{Found}
+use Rattle.commands.specs.declared.Command.TheVariants.{Open, OpenCarry, Begin, Step, Close}
 use Rattle.calls.specs.Turn.{State, Called, called}
 use Rattle.calls.proofs.Silent.{call_sound}
 use Rattle.among.specs.Among.{places, begin_refusal_among, begun_among, called_among, out_of, outs}
@@ -53,30 +54,29 @@ seventh l b true true true true true true false true = refl
 seventh l b true true true true true true false false = refl
 seventh l b settings lane phase serial index floats true room = refl
 
-begin_settled : (n : ℕ) (l : Lane) (b : BeginArgs) (ook fsk : List ℕ) → begun_among n l b ook fsk ≡ settled_of n (Begin b) l (begun l b ook fsk)
+begin_settled : (n : ℕ) (l : Lane) (b : BeginArgs) (ook fsk : List ℕ) → begun_among n l b ook fsk ≡ settled_of n (Ok (Begin b)) l (begun l b ook fsk)
 unfolding begun_among begin_refusal_among begun begin_refusal settled_of
 begin_settled n l b ook fsk =
     seventh l b (not (eqb l.opened 0)) (lane_ok l) (eqb l.phase 0) (serial_left l.serial) (index_ok b.index) (begin_floats_ok b) (ltb n places) (room_ok l.settings (length ook) (length fsk))
     ∙ ap (λ (full : Bool). cond (full && late_of (begun l b ook fsk).reply) (refuse refusal.Places l) (begun l b ook fsk)) (sym (full_or_free n))
 
 -- so the order of checks is kept by what the code does: the lane's own answer first, and then 12 in place of what it comes before
-pub settled : (n : ℕ) (p : State) (k : Command) → called_among n p k ≡ (settled_of n k p.0 (called p k).0, (called p k).1, (called p k).2)
+pub settled : (n : ℕ) (p : State) (k : Found) → called_among n p k ≡ (settled_of n k p.0 (called p k).0, (called p k).1, (called p k).2)
 unfolding called_among called settled_of
-settled n p End = refl
-settled n p (Open s carries) = refl
-settled n p (Begin b) = ap (λ (a : Answer). (a, p.1, p.2)) (begin_settled n p.0 b p.1 p.2)
-settled n p (Step s) = refl
-settled n p Unknown = refl
-settled n p Short = refl
-settled n p Close = refl
+settled n p (Ok (Open s)) = refl
+settled n p (Ok (OpenCarry s)) = refl
+settled n p (Ok (Begin b)) = ap (λ (a : Answer). (a, p.1, p.2)) (begin_settled n p.0 b p.1 p.2)
+settled n p (Ok (Step s)) = refl
+settled n p (Ok Close) = refl
+settled n p (Err m) = refl
 
 -- as the code has it: the lane's own call, and then 12
-pub settled_call : (n : ℕ) (p : State) (k : Command) (a r : Answer) (ook fsk : List ℕ) → ◌≡◌ {A = Called} (a, ook, fsk) (called p k) → r ≡ settled_of n k p.0 a → ◌≡◌ {A = Called} (r, ook, fsk) (called_among n p k)
+pub settled_call : (n : ℕ) (p : State) (k : Found) (a r : Answer) (ook fsk : List ℕ) → ◌≡◌ {A = Called} (a, ook, fsk) (called p k) → r ≡ settled_of n k p.0 a → ◌≡◌ {A = Called} (r, ook, fsk) (called_among n p k)
 settled_call n p k a r ook fsk e q = ap (λ (z : Answer). (z, ook, fsk)) q ∙ ap (λ (c : Called). (settled_of n k p.0 c.0, c.1, c.2)) e ∙ sym (settled n p k)
 
 -- ---- a sound lane stays sound
 
-settled_sound : (n : ℕ) (k : Command) (l : Lane) (a : Answer) → Sound l → Sound a.lane → Sound (settled_of n k l a).lane
+settled_sound : (n : ℕ) (k : Found) (l : Lane) (a : Answer) → Sound l → Sound a.lane → Sound (settled_of n k l a).lane
 unfolding settled_of
 settled_sound n k l a h g = go (is_begin_of k && (leb places n && late_of a.reply))
   where
@@ -84,7 +84,7 @@ settled_sound n k l a h g = go (is_begin_of k && (leb places n && late_of a.repl
     go true = h
     go false = g
 
-pub among_sound : (n : ℕ) (p : State) (k : Command) → Sound p.0 → Sound (called_among n p k).0.lane
+pub among_sound : (n : ℕ) (p : State) (k : Found) → Sound p.0 → Sound (called_among n p k).0.lane
 among_sound n p k h = subst (λ (c : Called). Sound c.0.lane) (sym (settled n p k)) (settled_sound n k p.0 (called p k).0 h (call_sound p k h))
 
 -- ---- the number of lanes out of idle
@@ -131,24 +131,11 @@ any_default [] i d e h = absurd (not-suc-le-zero h)
 any_default (l ∷ ls) zero d e h = refl
 any_default (l ∷ ls) (suc i) d e h = any_default ls i d e (le_of_suc-le-suc h)
 
--- a count from the front on: what is left, lane after lane
-outs_next : (ls : List Lane) (i : ℕ) (d : Lane) → i < length ls → outs (drop i ls) ≡ out_of (get_or ls i d) + outs (drop (suc i) ls)
+-- as a sum, from a number on
+pub outs_sum : (ls : List Lane) (n : ℕ) → fold (λ a l. a + out_of l) n ls ≡ n + outs ls
 unfolding outs
-outs_next [] i d h = absurd (not-suc-le-zero h)
-outs_next (l ∷ ls) zero d h = refl
-outs_next (l ∷ ls) (suc i) d h = outs_next ls i d (le_of_suc-le-suc h)
-
-pub outs_left : (ls : List Lane) (i : ℕ) (d : Lane) → i < length ls → outs (drop i ls) ≡ out_of (get_or ls i d) + outs (drop (i + 1) ls)
-outs_left ls i d h =
-    let more : suc i ≡ i + 1 = omega arith in
-    outs_next ls i d h ∙ ap (λ (j : ℕ). out_of (get_or ls i d) + outs (drop j ls)) more
-
-pub outs_over : (ls : List Lane) (i : ℕ) → length ls ≤ i → outs (drop i ls) ≡ 0
-unfolding outs
-outs_over [] zero h = refl
-outs_over [] (suc i) h = refl
-outs_over (l ∷ ls) zero h = absurd (not-suc-le-zero h)
-outs_over (l ∷ ls) (suc i) h = outs_over ls i (le_of_suc-le-suc h)
+outs_sum [] n = omega arith
+outs_sum (l ∷ ls) n = omega (arith, outs_sum ls (n + out_of l))
 
 -- new lanes are idle
 out_new : out_of new_lane ≡ 0

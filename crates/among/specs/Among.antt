@@ -1,7 +1,6 @@
 -- Document 02, R-4: "One receiver now serves sixteen lanes, and from sixteen idle ones at most four are ever out of idle together." A lane
 -- among others answers as it does alone, but for refusal 12 of begin.
 use Rattle.std.specs.Prelude.{ℕ, ◌+◌, ◌-◌, cond, not, ◌≡◌, List, [], ◌∷◌, length, set, get_or, eqb, ltb, ⊤, Result, Ok, Err}
-use Rattle.shared.specs.declared.Next.TheVariants.{Stay}
 use Rattle.refusals.specs.Domain.{index_ok, room_ok}
 use Rattle.refusals.specs.Serial.{serial_left}
 use Rattle.refusals.specs.Order.{check}
@@ -13,9 +12,9 @@ use Rattle.lane.specs.declared.BeginArgs.{BeginArgs}
 use Rattle.lane.specs.Answers.{Reply}
 use Rattle.lane.specs.Refusals.{lane_ok, begin_floats_ok}
 use Rattle.lane.specs.Step.{new_lane, begun_by}
-use Rattle.commands.specs.declared.Command.{Command}
-use Rattle.commands.specs.declared.Command.TheVariants.{End, Open, Begin, Step, Unknown, Short, Close}
-use Rattle.calls.specs.Turn.{State, Called, unchanged, called}
+use Rattle.commands.specs.Command.{Found}
+use Rattle.commands.specs.declared.Command.TheVariants.{Open, OpenCarry, Begin, Step, Close}
+use Rattle.calls.specs.Turn.{State, Called, unchanged, missed, called}
 
 -- "Lanes are numbered 0 to 15", and four of them may be out of idle
 abbrev pub antennas : ℕ
@@ -42,14 +41,13 @@ unfoldable pub begun_among : ℕ → Lane → BeginArgs → List ℕ → List �
 begun_among n l b ook fsk = begun_by (begin_refusal_among n l b (length ook) (length fsk)) l b
 
 -- the answer to a command: "Only the letting in depends on them, and only through their number."
-unfoldable pub called_among : ℕ → State → Command → Called
-called_among n p End = called p End
-called_among n p (Open s carries) = called p (Open s carries)
-called_among n p (Begin b) = (begun_among n p.0 b p.1 p.2, p.1, p.2)
-called_among n p (Step s) = called p (Step s)
-called_among n p Unknown = called p Unknown
-called_among n p Short = called p Short
-called_among n p Close = called p Close
+unfoldable pub called_among : ℕ → State → Found → Called
+called_among n p (Ok (Open s)) = called p (Ok (Open s))
+called_among n p (Ok (OpenCarry s)) = called p (Ok (OpenCarry s))
+called_among n p (Ok (Begin b)) = (begun_among n p.0 b p.1 p.2, p.1, p.2)
+called_among n p (Ok (Step s)) = called p (Ok (Step s))
+called_among n p (Ok Close) = called p (Ok Close)
+called_among n p (Err m) = called p (Err m)
 
 -- ---- sixteen
 
@@ -83,19 +81,14 @@ abbrev pub others_out : List Lane → ℕ → ℕ
 others_out ls i = outs ls - out_of (get_or ls i new_lane)
 
 -- "An antenna number above 15 is refusal 6, met right after 2."
-abbrev pub no_antenna : Command → Reply
-no_antenna End = Ok Stay
-no_antenna (Open s carries) = Err refusal.Index
-no_antenna (Begin b) = Err refusal.Index
-no_antenna (Step s) = Err refusal.Index
-no_antenna Unknown = Err refusal.Unknown
-no_antenna Short = Err refusal.Short
-no_antenna Close = Err refusal.Index
+abbrev pub no_antenna : Found → Reply
+no_antenna (Ok k) = Err refusal.Index
+no_antenna (Err m) = missed m
 
 -- the answer to a command of antenna i, with its buffers as the call leaves them
-unfoldable pub answer_to : Lanes → ℕ → Command → Called
+unfoldable pub answer_to : Lanes → ℕ → Found → Called
 answer_to p i k = cond (ltb i antennas) (called_among (others_out p.0 i) (lane_at p i) k) (unchanged (no_antenna k) (lane_at p i))
 
 -- the lanes after it: the antenna's own lane and buffers are changed, and no other
-unfoldable pub after_call : Lanes → ℕ → Command → Lanes
+unfoldable pub after_call : Lanes → ℕ → Found → Lanes
 after_call p i k = let c = answer_to p i k in cond (ltb i antennas) (put_at p i (c.0.lane, c.1, c.2)) p

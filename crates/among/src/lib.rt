@@ -7,20 +7,19 @@ ghost use Rattle.calls.specs.Turn.{Called};
 ghost use Rattle.among.specs.Among.{called_among, out_of, outs, no_antenna};
 ghost use Rattle.among.specs.Settled.{is_begin_of, late_of, settled_of};
 
-use commands::Command;
+use commands::{Command, Found};
 use lane::{Answer, Lane, Reply};
 use refusals::Refusal;
-use shared::Next;
 
 // How many lanes may be out of idle together.
 pub const PLACES: u32 = 4;
 
 // ---- one lane, others being out of idle
 
-fn is_begin(k: Command) -> bool
+fn is_begin(k: Found) -> bool
     ensures { result ≡ is_begin_of k }
 {
-    matches!(k, Command::Begin(_))
+    matches!(k, Ok(Command::Begin(_)))
 }
 
 // Whether refusal 12 comes before this reply to a begin: the checks up to 7 come before it. A match, as `is_none_or` over
@@ -35,13 +34,10 @@ fn is_late(r: Reply) -> bool
 }
 
 // The answer a that the lane l gave to k by itself, or refusal 12 in its place.
-pub fn settle(l: Lane, a: Answer, k: Command, others: u32) -> Answer
+pub fn settle(l: Lane, a: Answer, k: Found, others: u32) -> Answer
     ensures { result ≡ settled_of others k l a }
 {
-    let begins = is_begin(k);
-    let r = a.reply;
-    let late = is_late(r);
-    let refused = begins & ((PLACES <= others) & late);
+    let refused = is_begin(k) & ((PLACES <= others) & is_late(a.reply));
     if refused {
         return Answer {
             reply: Err(Refusal::Places),
@@ -53,7 +49,7 @@ pub fn settle(l: Lane, a: Answer, k: Command, others: u32) -> Answer
 
 // The answer of a lane to a command, `others` other lanes being out of idle. Begin writes to neither
 // buffer, so that refusal 12 leaves them as they were.
-pub fn call(l: Lane, others: u32, k: Command, ook: &mut [u32], fsk: &mut [u32]) -> Answer
+pub fn call(l: Lane, others: u32, k: Found, ook: &mut [u32], fsk: &mut [u32]) -> Answer
     ensures { ◌≡◌ {A = Called} (result, ook.new, fsk.new) (called_among others (l, ook.old, fsk.old) k) }
 {
     let a = calls::call(l, k, ook, fsk);
@@ -73,25 +69,15 @@ pub fn is_out(l: &Lane) -> bool
 pub fn count_out(lanes: &[Lane; 16]) -> u32
     ensures { result ≡ outs lanes.now }
 {
-    let mut n = 0;
-    for l in lanes {
-        n += u32::from(is_out(l));
-    }
-    n
+    lanes.iter().map(|l| u32::from(is_out(l))).sum()
 }
 
-// The reply to a command whose antenna is above 15: refusal 6, right after 1 and 2. Each command has its own line, as in its
-// definition, so that none falls under another's reply.
-pub fn no_antenna(k: Command) -> Reply
+// The reply to a command whose antenna is above 15: refusal 6, right after 1 and 2.
+pub fn no_antenna(k: Found) -> Reply
     ensures { result ≡ no_antenna k }
 {
     match k {
-        Command::End => Ok(Next::Stay),
-        Command::Open(_, _) => Err(Refusal::Index),
-        Command::Begin(_) => Err(Refusal::Index),
-        Command::Step(_) => Err(Refusal::Index),
-        Command::Unknown => Err(Refusal::Unknown),
-        Command::Short => Err(Refusal::Short),
-        Command::Close => Err(Refusal::Index),
+        Ok(_) => Err(Refusal::Index),
+        Err(m) => calls::missed(m),
     }
 }

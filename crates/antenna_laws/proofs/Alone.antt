@@ -8,7 +8,7 @@ use lib.Dec.{eqb, ltb, leb}
 use borrow.Author.Tests.{eqb-true, eqb-false}
 use Rattle.std.specs.Prelude.{Err}
 use Rattle.refusals.specs.declared.Refusal.TheVariants as refusal
-use Rattle.commands.specs.declared.Command.{Command}
+use Rattle.commands.specs.Command.{Found}
 use Rattle.calls.specs.Turn.{State, Called, called, next, unchanged}
 use Rattle.among.specs.Among.{antennas, places, called_among, Lanes, lane_at, others_out, no_antenna, answer_to, after_call, Sized}
 use Rattle.among.specs.Settled.{is_begin_of, late_of}
@@ -22,7 +22,7 @@ others_kept p i j k h = after_other p i j k h
 
 -- ---- one call of the antenna's own
 
-module _ (p : Lanes) (i : ℕ) (k : Command) (h : i < antennas) where
+module _ (p : Lanes) (i : ℕ) (k : Found) (h : i < antennas) where
   pub met_own : met12 (answer_to p i k).0.reply ≡ meets (others_out p.0 i) (lane_at p i) k
   met_own = ap (λ (c : Called). met12 c.0.reply) (answer_own p i k h) ∙ among_met (others_out p.0 i) (lane_at p i) k
 
@@ -35,17 +35,17 @@ module _ (p : Lanes) (i : ℕ) (k : Command) (h : i < antennas) where
 -- ---- a list of calls
 
 -- the commands with their answers, alone
-unfoldable pub paired : State → List Command → List (Command × Called)
+unfoldable pub paired : State → List Found → List (Found × Called)
 paired p [] = []
 paired p (k ∷ ks) = (k, called p k) ∷ paired (next (called p k)) ks
 
-pub paired_answers : (p : State) (ks : List Command) → answers_of (paired p ks) ≡ alone p ks
+pub paired_answers : (p : State) (ks : List Found) → answers_of (paired p ks) ≡ alone p ks
 unfolding paired alone
 paired_answers p [] = refl
 paired_answers p (k ∷ ks) = ap (λ (cs : List Called). called p k ∷ cs) (paired_answers (next (called p k)) ks)
 
 -- these are heard from the state p of the lane on, and lead to q
-abbrev Leads : State → List (Command × Called) → State → Type 0
+abbrev Leads : State → List (Found × Called) → State → Type 0
 Leads p hs q = (hs ≡ paired p (commands_of hs)) × (q ≡ alone_after p (commands_of hs))
 
 pub heard_leads : (j : ℕ) (p : Lanes) (cs : List Sent) → j < antennas → Sized p → Leads (lane_at p j) (heard j p cs) (lane_at (after_all p cs) j)
@@ -56,7 +56,7 @@ heard_leads j p (c ∷ cs) h s = go (heard_leads j q cs h (after_sized p i k s))
     i : ℕ
     i = c.0
 
-    k : Command
+    k : Found
     k = c.1
 
     a : Called
@@ -65,7 +65,7 @@ heard_leads j p (c ∷ cs) h s = go (heard_leads j q cs h (after_sized p i k s))
     q : Lanes
     q = after_call p i k
 
-    rest : List (Command × Called)
+    rest : List (Found × Called)
     rest = heard j q cs
 
     last : State
@@ -93,7 +93,7 @@ heard_leads j p (c ∷ cs) h s = go (heard_leads j q cs h (after_sized p i k s))
         let is : i ≡ j = eqb-true i j e in
         let same : a ≡ called (lane_at p j) k = own_alone p i k (there is) m ∙ ap (λ (n : ℕ). called (lane_at p n) k) is in
         let t = subst (λ (z : State). Leads z rest last) (own is ∙ ap next same) r in
-        (ap (λ (x : Called). (k, x) ∷ rest) same ∙ ap (λ (xs : List (Command × Called)). (k, called (lane_at p j) k) ∷ xs) t.0, t.1)
+        (ap (λ (x : Called). (k, x) ∷ rest) same ∙ ap (λ (xs : List (Found × Called)). (k, called (lane_at p j) k) ∷ xs) t.0, t.1)
 
 pub as_alone : AsAlone
 unfolding AsAlone
@@ -107,7 +107,7 @@ only_their_number p q j k e n =
     ap (λ (z : State). cond (ltb j antennas) (called_among (others_out p.0 j) z k) (unchanged (no_antenna k) z)) e
     ∙ ap (λ (m : ℕ). cond (ltb j antennas) (called_among m (lane_at q j) k) (unchanged (no_antenna k) (lane_at q j))) n
 
-not_begin : (n : ℕ) (p : State) (k : Command) → is_begin_of k ≡ false → called_among n p k ≡ called p k
+not_begin : (n : ℕ) (p : State) (k : Found) → is_begin_of k ≡ false → called_among n p k ≡ called p k
 not_begin n p k h = among_alone n p k (ap (λ (b : Bool). b && (leb places n && late_of (called p k).0.reply)) h)
 
 pub only_letting_in : OnlyLettingIn

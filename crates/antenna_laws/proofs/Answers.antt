@@ -1,7 +1,7 @@
 -- What a lane alone answers: it refuses a call where a check fails, and no check has the number 12.
 use Prim.Native.Nat.{ℕ}
 use mathlib.Core.Bool.{Bool, true, false, not, ◌&&◌}
-use mathlib.Core.Path.{◌≡◌, refl}
+use mathlib.Core.Path.{◌≡◌, refl, sym, ap, ◌∙◌}
 use mathlib.Core.List.{List}
 use native.Mathlib.Omega.{arith}
 use lib.ListN.{length}
@@ -19,15 +19,13 @@ use Rattle.lane.specs.declared.BeginArgs.{BeginArgs}
 use Rattle.lane.specs.declared.StepArgs.{StepArgs}
 use Rattle.lane.specs.Answers.{Reply, refusal_number_of}
 use Rattle.lane.specs.Refusals.{lane_ok, begin_floats_ok, step_floats_ok, follows_of, open_refusal, begin_refusal, step_refusal, close_refusal}
-use Rattle.lane.specs.Idle.{idle_lane}
-use Rattle.lane.specs.Begin.{lead_lane}
 use Rattle.lane.specs.Advance.{settle_of, fill_of, advance_of}
 use Rattle.lane.specs.Close.{idle_with, close_of}
-use Rattle.lane.specs.Serial.{stamped, stamped_with}
-use Rattle.lane.specs.Step.{refuse, unless_refused, stay, opened, begun, stepped, closed}
+use Rattle.lane.specs.Step.{unless_refused, opened, begun, stepped, closed}
 use Rattle.reached.proofs.Accepted.{step_ways, close_ways}
-use Rattle.commands.specs.declared.Command.{Command}
-use Rattle.commands.specs.declared.Command.TheVariants.{End, Open, Begin, Step, Unknown, Short, Close}
+use Rattle.commands.specs.Command.{Found}
+use Rattle.commands.specs.declared.Command.TheVariants.{Open, OpenCarry, Begin, Step, Close}
+use Rattle.commands.specs.declared.Missing.TheVariants as missing
 use Rattle.calls.specs.Turn.{State, called}
 
 -- ---- accepted calls are answered
@@ -42,43 +40,32 @@ close_answers l ook fsk = close_ways (λ (r : Answer × List ℕ × List ℕ). i
 
 -- ---- a call is refused exactly where a check fails
 
+-- an answer that is alone, or has the buffers with it
+refuses : {A : Type 0} (answer : A → Answer) (k : Result ⊤ Refusal) (a : A) (g : Refusal → A) → is_err (answer a).reply ≡ false → ((r : Refusal) → is_err (answer (g r)).reply ≡ true)
+    → is_err (answer (unless_refused k a g)).reply ≡ not (is_ok k)
+refuses answer (Ok u) a g h f = h
+refuses answer (Err r) a g h f = f r
+
 pub open_refuses : (l : Lane) (p : Settings) → is_err (opened l p).reply ≡ not (is_ok (open_refusal l p))
 unfolding opened
-open_refuses l p = go (open_refusal l p)
-  where
-    go : (k : Result ⊤ Refusal) → is_err (unless_refused k (stamped l (stay (idle_lane 1 p))) (λ r. refuse r l)).reply ≡ not (is_ok k)
-    go (Ok u) = refl
-    go (Err r) = refl
+open_refuses l p = refuses (λ (a : Answer). a) (open_refusal l p) _ _ refl (λ r. refl)
 
 pub begin_refuses : (l : Lane) (b : BeginArgs) (ook fsk : List ℕ) → is_err (begun l b ook fsk).reply ≡ not (is_ok (begin_refusal l b (length ook) (length fsk)))
 unfolding begun
-begin_refuses l b ook fsk = go (begin_refusal l b (length ook) (length fsk))
-  where
-    go : (k : Result ⊤ Refusal) → is_err (unless_refused k (stamped l (stay (lead_lane l b))) (λ r. refuse r l)).reply ≡ not (is_ok k)
-    go (Ok u) = refl
-    go (Err r) = refl
+begin_refuses l b ook fsk = refuses (λ (a : Answer). a) (begin_refusal l b (length ook) (length fsk)) _ _ refl (λ r. refl)
 
 pub step_refuses : (l : Lane) (s : StepArgs) (ook fsk : List ℕ) → is_err (stepped l s ook fsk).0.reply ≡ not (is_ok (step_refusal l s (length ook) (length fsk)))
 unfolding stepped
-step_refuses l s ook fsk = go (step_refusal l s (length ook) (length fsk))
-  where
-    go : (k : Result ⊤ Refusal) → is_err (unless_refused k (stamped_with l (advance_of l s ook fsk)) (λ r. (refuse r l, ook, fsk))).0.reply ≡ not (is_ok k)
-    go (Ok u) = advance_answers l s ook fsk
-    go (Err r) = refl
+step_refuses l s ook fsk = refuses (λ (q : Answer × List ℕ × List ℕ). q.0) (step_refusal l s (length ook) (length fsk)) _ _ (advance_answers l s ook fsk) (λ r. refl)
 
 pub close_refuses : (l : Lane) (ook fsk : List ℕ) → is_err (closed l ook fsk).0.reply ≡ not (is_ok (close_refusal l (length ook) (length fsk)))
 unfolding closed
-close_refuses l ook fsk = go (close_refusal l (length ook) (length fsk))
-  where
-    go : (k : Result ⊤ Refusal) → is_err (unless_refused k (stamped_with l (close_of l ook fsk)) (λ r. (refuse r l, ook, fsk))).0.reply ≡ not (is_ok k)
-    go (Ok u) = close_answers l ook fsk
-    go (Err r) = refl
+close_refuses l ook fsk = refuses (λ (q : Answer × List ℕ × List ℕ). q.0) (close_refusal l (length ook) (length fsk)) _ _ (close_answers l ook fsk) (λ r. refl)
 
 -- ---- never by 12
 
 not_refused : (r : Reply) → is_err r ≡ false → refusal_number_of r ≡ 12 → ⊥
-not_refused (Err k) h e = let z : ◌≡◌ {A = Bool} true false = h in let y : ◌≡◌ {A = ℕ} 0 1 = cc in omega arith
-not_refused (Ok n) h e = omega arith
+not_refused r h e = grind arith
 
 -- the number of the first check that fails, 0 where none does
 abbrev failed_number : Result ⊤ Refusal → ℕ
@@ -87,32 +74,17 @@ failed_number (Err k) = number_of k
 
 not_twelve : (s l p n i f r : Bool) → failed_number (first_failed s l p n i f r) ≡ 12 → ⊥
 unfolding first_failed
-not_twelve false l p n i f r e = omega arith
-not_twelve true false p n i f r e = omega arith
-not_twelve true true false n i f r e = omega arith
-not_twelve true true true false i f r e = omega arith
-not_twelve true true true true false f r e = omega arith
-not_twelve true true true true true false r e = omega arith
-not_twelve true true true true true true false e = omega arith
-not_twelve true true true true true true true e = omega arith
+not_twelve s l p n i f r e = grind arith
 
 opening_not_twelve : (l : Lane) (p : Settings) → failed_number (open_refusal l p) ≡ 12 → ⊥
-unfolding open_refusal
-opening_not_twelve l p = go (settings_ok p) (serial_left l.serial)
-  where
-    go : (s n : Bool) → failed_number (check refusal.Settings s (check refusal.Serial n (Ok tt))) ≡ 12 → ⊥
-    go false n e = omega arith
-    go true false e = omega arith
-    go true true e = omega arith
+unfolding open_refusal first_failed
+opening_not_twelve l p = not_twelve (settings_ok p) true true (serial_left l.serial) true true true
 
 -- a refusal by the first check that fails, or another answer that is no refusal
-by_check : (k : Result ⊤ Refusal) (l : Lane) (a : Answer) → is_err a.reply ≡ false → (failed_number k ≡ 12 → ⊥) → refusal_number_of (unless_refused k a (λ r. refuse r l)).reply ≡ 12 → ⊥
-by_check (Ok u) l a h k e = not_refused a.reply h e
-by_check (Err r) l a h k e = k e
-
-by_check_with : (k : Result ⊤ Refusal) (l : Lane) (a : Answer × List ℕ × List ℕ) (ook fsk : List ℕ) → is_err a.0.reply ≡ false → (failed_number k ≡ 12 → ⊥) → refusal_number_of (unless_refused k a (λ r. (refuse r l, ook, fsk))).0.reply ≡ 12 → ⊥
-by_check_with (Ok u) l a ook fsk h k e = not_refused a.0.reply h e
-by_check_with (Err r) l a ook fsk h k e = k e
+by_check : {A : Type 0} (answer : A → Answer) (k : Result ⊤ Refusal) (a : A) (g : Refusal → A) → is_err (answer a).reply ≡ false → (failed_number k ≡ 12 → ⊥)
+    → ((r : Refusal) → (answer (g r)).reply ≡ Err r) → refusal_number_of (answer (unless_refused k a g)).reply ≡ 12 → ⊥
+by_check answer (Ok u) a g h k f e = not_refused _ h e
+by_check answer (Err r) a g h k f e = k (sym (ap refusal_number_of (f r)) ∙ e)
 
 begin_not_twelve : (l : Lane) (b : BeginArgs) (m n : ℕ) → failed_number (begin_refusal l b m n) ≡ 12 → ⊥
 unfolding begin_refusal
@@ -126,17 +98,15 @@ close_not_twelve : (l : Lane) (m n : ℕ) → failed_number (close_refusal l m n
 unfolding close_refusal
 close_not_twelve l m n = not_twelve true (lane_ok l) (not (eqb l.phase 0)) true true true (room_ok l.settings m n)
 
-pub never_twelve : (p : State) (k : Command) → refusal_number_of (called p k).0.reply ≡ 12 → ⊥
+pub never_twelve : (p : State) (k : Found) → refusal_number_of (called p k).0.reply ≡ 12 → ⊥
 unfolding called opened begun stepped closed
-never_twelve p End e = omega arith
-never_twelve p (Open s carries) e = by_check (open_refusal p.0 s) p.0 (stamped p.0 (stay (idle_lane 1 s))) refl (opening_not_twelve p.0 s) e
-never_twelve p (Begin b) e =
-    by_check (begin_refusal p.0 b (length p.1) (length p.2)) p.0 (stamped p.0 (stay (lead_lane p.0 b))) refl (begin_not_twelve p.0 b (length p.1) (length p.2)) e
-never_twelve p (Step s) e =
-    by_check_with (step_refusal p.0 s (length p.1) (length p.2)) p.0 (stamped_with p.0 (advance_of p.0 s p.1 p.2)) p.1 p.2
-    (advance_answers p.0 s p.1 p.2) (step_not_twelve p.0 s (length p.1) (length p.2)) e
-never_twelve p Unknown e = omega arith
-never_twelve p Short e = omega arith
-never_twelve p Close e =
-    by_check_with (close_refusal p.0 (length p.1) (length p.2)) p.0 (stamped_with p.0 (close_of p.0 p.1 p.2)) p.1 p.2
-    (close_answers p.0 p.1 p.2) (close_not_twelve p.0 (length p.1) (length p.2)) e
+never_twelve p (Ok (Open s)) e = by_check (λ (a : Answer). a) (open_refusal p.0 s) _ _ refl (opening_not_twelve p.0 s) (λ r. refl) e
+never_twelve p (Ok (OpenCarry s)) e = by_check (λ (a : Answer). a) (open_refusal p.0 s) _ _ refl (opening_not_twelve p.0 s) (λ r. refl) e
+never_twelve p (Ok (Begin b)) e = by_check (λ (a : Answer). a) (begin_refusal p.0 b (length p.1) (length p.2)) _ _ refl (begin_not_twelve p.0 b (length p.1) (length p.2)) (λ r. refl) e
+never_twelve p (Ok (Step s)) e =
+    by_check (λ (q : Answer × List ℕ × List ℕ). q.0) (step_refusal p.0 s (length p.1) (length p.2)) _ _ (advance_answers p.0 s p.1 p.2) (step_not_twelve p.0 s (length p.1) (length p.2)) (λ r. refl) e
+never_twelve p (Ok Close) e =
+    by_check (λ (q : Answer × List ℕ × List ℕ). q.0) (close_refusal p.0 (length p.1) (length p.2)) _ _ (close_answers p.0 p.1 p.2) (close_not_twelve p.0 (length p.1) (length p.2)) (λ r. refl) e
+never_twelve p (Err missing.End) e = omega arith
+never_twelve p (Err missing.Unknown) e = omega arith
+never_twelve p (Err missing.Short) e = omega arith

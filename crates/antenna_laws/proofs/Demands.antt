@@ -11,8 +11,6 @@ use borrow.Author.Tests.{eqb-true, eqb-false}
 use Rattle.std.specs.Prelude.{⊤, Result, Ok, Err, is_ok, is_err}
 use Rattle.shared.specs.declared.Settings.{Settings}
 use Rattle.refusals.specs.declared.Refusal.{Refusal}
-use Rattle.refusals.proofs.Order.{not_passed}
-use Rattle.lane.proofs.Refusals.{by_refusal}
 use Rattle.lane.specs.declared.Lane.{Lane}
 use Rattle.lane.specs.declared.Answer.{Answer}
 use Rattle.lane.specs.declared.BeginArgs.{BeginArgs}
@@ -21,14 +19,15 @@ use Rattle.lane.specs.Refusals.{open_refusal, begin_refusal, step_refusal, close
 use Rattle.lane.specs.Idle.{idle_lane}
 use Rattle.lane.specs.Serial.{stamp_of}
 use Rattle.lane.specs.Step.{new_lane, opened, begun, stepped, closed}
-use Rattle.commands.specs.declared.Command.{Command}
-use Rattle.commands.specs.declared.Command.TheVariants.{End, Open, Begin, Step, Unknown, Short, Close}
+use Rattle.commands.specs.Command.{Found}
+use Rattle.commands.specs.declared.Missing.TheVariants as missing
+use Rattle.commands.specs.declared.Command.TheVariants.{Open, OpenCarry, Begin, Step, Close}
 use Rattle.calls.specs.Turn.{State, Called, called, next}
 use Rattle.pulses.specs.Yardstick.{as_left, lent, Call, opening, begin, step, close, Given, fetched, Yardstick, unused, refusal, accepts, advanced, lent_well, handed_on}
 use Rattle.pulses.specs.Demand.{the_lane, Place, returned_by, start, after, Demand3}
 use Rattle.pulses.specs.Demand as demand
 use Rattle.pulses.specs.Auto.{Demand3Where}
-use Rattle.pulses.proofs.Accepted.{step_tells, close_tells, open_accepted, open_refused, begin_refused}
+use Rattle.pulses.proofs.Accepted.{when_refused, step_tells, close_tells, open_accepted, open_refused, begin_refused}
 use Rattle.pulses.proofs.Calls.{Same, after_same}
 use Rattle.pulses.proofs.Theorem.{demand_3, auto_pulses}
 use Rattle.quiet.specs.Quiet.{QuietEnds, WaitKnown}
@@ -45,11 +44,11 @@ use Rattle.antenna_laws.proofs.Alone.{paired, heard_leads}
 
 step_kept : (l : Lane) (s : StepArgs) (ook fsk : List ℕ) → is_ok (step_refusal l s (length ook) (length fsk)) ≡ false → next (stepped l s ook fsk) ≡ (l, ook, fsk)
 unfolding stepped
-step_kept l s ook fsk q = by_refusal (λ (a : Called). next a ≡ (l, ook, fsk)) (step_refusal l s (length ook) (length fsk)) (λ e. absurd (not_passed _ q e)) (λ n e. refl)
+step_kept l s ook fsk q = when_refused (λ (a : Called). next a ≡ (l, ook, fsk)) (step_refusal l s (length ook) (length fsk)) _ _ q (λ n. refl)
 
 close_kept : (l : Lane) (ook fsk : List ℕ) → is_ok (close_refusal l (length ook) (length fsk)) ≡ false → next (closed l ook fsk) ≡ (l, ook, fsk)
 unfolding closed
-close_kept l ook fsk q = by_refusal (λ (a : Called). next a ≡ (l, ook, fsk)) (close_refusal l (length ook) (length fsk)) (λ e. absurd (not_passed _ q e)) (λ n e. refl)
+close_kept l ook fsk q = when_refused (λ (a : Called). next a ≡ (l, ook, fsk)) (close_refusal l (length ook) (length fsk)) _ _ q (λ n. refl)
 
 not_ok : (k : Result ⊤ Refusal) → (k ≡ Ok tt → ⊥) → is_ok k ≡ false
 not_ok (Ok u) h = absurd (h refl)
@@ -62,38 +61,22 @@ well : (c : Call) (cs : List Call) → ((b : Bool) → lent_well b c ≡ true) �
 unfolding handed_on
 well c cs w h y = rw (w (accepts y c)) (h (advanced (accepts y c) y c))
 
--- accepted or not, each of these is lent well
-opening_well : (s : Settings) (b : Bool) → lent_well b (opening s) ≡ true
+-- a call that is lent well where it is accepted is so in any case
+lent_always : (c : Call) → lent_well true c ≡ true → (b : Bool) → lent_well b c ≡ true
 unfolding lent_well
-opening_well s true = refl
-opening_well s false = refl
+lent_always c h true = h
+lent_always c h false = refl
 
-begin_well : (a : BeginArgs) (ook fsk : List ℕ) (b : Bool) → lent_well b (begin a ook fsk) ≡ true
-unfolding lent_well
-begin_well a ook fsk true = refl
-begin_well a ook fsk false = refl
+one_handed : (p : State) (k : Found) (cs : List Call) → ((y : Yardstick) → handed_on y cs ≡ true) → (y : Yardstick) → handed_on y (call_of p k ++ cs) ≡ true
+unfolding call_of lent_well
+one_handed p (Ok (Open s)) cs h = well (opening s) cs (lent_always _ refl) h
+one_handed p (Ok (OpenCarry s)) cs h = well (opening s) cs (lent_always _ refl) h
+one_handed p (Ok (Begin b)) cs h = well (begin b p.1 p.2) cs (lent_always _ refl) h
+one_handed p (Ok (Step s)) cs h = well (step s as_left p.2) cs (lent_always _ refl) h
+one_handed p (Ok Close) cs h = well (close as_left p.2) cs (lent_always _ refl) h
+one_handed p (Err m) cs h = h
 
-step_well : (s : StepArgs) (fsk : List ℕ) (b : Bool) → lent_well b (step s as_left fsk) ≡ true
-unfolding lent_well
-step_well s fsk true = refl
-step_well s fsk false = refl
-
-close_well : (fsk : List ℕ) (b : Bool) → lent_well b (close as_left fsk) ≡ true
-unfolding lent_well
-close_well fsk true = refl
-close_well fsk false = refl
-
-one_handed : (p : State) (k : Command) (cs : List Call) → ((y : Yardstick) → handed_on y cs ≡ true) → (y : Yardstick) → handed_on y (call_of p k ++ cs) ≡ true
-unfolding call_of
-one_handed p End cs h = h
-one_handed p (Open s carries) cs h = well (opening s) cs (opening_well s) h
-one_handed p (Begin b) cs h = well (begin b p.1 p.2) cs (begin_well b p.1 p.2) h
-one_handed p (Step s) cs h = well (step s as_left p.2) cs (step_well s p.2) h
-one_handed p Unknown cs h = h
-one_handed p Short cs h = h
-one_handed p Close cs h = well (close as_left p.2) cs (close_well p.2) h
-
-pub handed_on_lem : (p : State) (ks : List Command) (y : Yardstick) → handed_on y (calls_of p ks) ≡ true
+pub handed_on_lem : (p : State) (ks : List Found) (y : Yardstick) → handed_on y (calls_of p ks) ≡ true
 unfolding calls_of handed_on
 handed_on_lem p [] y = refl
 handed_on_lem p (k ∷ ks) y = one_handed p k (calls_of (next (called p k)) ks) (handed_on_lem (next (called p k)) ks) y
@@ -115,13 +98,13 @@ module _ (k : Place the_lane) (p : State) (ts : List Given) (F : Follows k p ts)
   yard_ook n = sym F.same.ook ∙ F.ook n
 
   -- after a command that is the call c
-  abbrev shows : Command → Bool → List Given
+  abbrev shows : Found → Bool → List Given
   shows m n = cond n ts (trains_by ts m (called p m))
 
-  Advances : Command → Call → Type 0
+  Advances : Found → Call → Type 0
   Advances m c = Follows (after the_lane (accepts k.yard c) k c) (next (called p m)) (shows m (is_err (called p m).0.reply))
 
-  joined : (m : Command) (c : Call) (b : Bool) → accepts k.yard c ≡ b → is_err (called p m).0.reply ≡ not b
+  joined : (m : Found) (c : Call) (b : Bool) → accepts k.yard c ≡ b → is_err (called p m).0.reply ≡ not b
       → Follows (after the_lane b k c) (next (called p m)) (shows m (not b)) → Advances m c
   unfolding Advances
   joined m c b a r f =
@@ -132,9 +115,9 @@ module _ (k : Place the_lane) (p : State) (ts : List Given) (F : Follows k p ts)
   refused : (k' : Place the_lane) (q : State) → Same k' → k'.lane ≡ k.lane → k'.ook ≡ k.ook → k'.trains ≡ k.trains → q ≡ p → Follows k' q ts
   refused k' q S l o t e = subst (λ (z : State). Follows k' z ts) (sym e) (record { same = S; lane = l ∙ F.lane; ook = λ n. o ∙ F.ook n; trains = t ∙ F.trains })
 
-  open_advances : (s : Settings) (carries : Bool) → Advances (Open s carries) (opening s)
+  open_advances : (s : Settings) → Advances (Ok (Open s)) (opening s)
   unfolding after refusal called lent_well stamp_of idle_lane
-  open_advances s carries = go (is_ok (open_refusal p.0 s)) refl
+  open_advances s = go (is_ok (open_refusal p.0 s)) refl
     where
       yard : (b : Bool) → is_ok (open_refusal p.0 s) ≡ b → accepts k.yard (opening s) ≡ b
       yard b q = ap (λ (l : Lane). is_ok (open_refusal l s)) yard_lane ∙ q
@@ -142,16 +125,20 @@ module _ (k : Place the_lane) (p : State) (ts : List Given) (F : Follows k p ts)
       rests : is_ok (open_refusal p.0 s) ≡ true → (opened p.0 s).lane.phase ≡ 0
       rests q = ap (λ (a : Answer). a.lane.phase) (open_accepted p.0 s q)
 
-      go : (b : Bool) → is_ok (open_refusal p.0 s) ≡ b → Advances (Open s carries) (opening s)
+      go : (b : Bool) → is_ok (open_refusal p.0 s) ≡ b → Advances (Ok (Open s)) (opening s)
       go true q =
-          joined (Open s carries) (opening s) true (yard true q) (open_refuses p.0 s ∙ ap not q)
+          joined (Ok (Open s)) (opening s) true (yard true q) (open_refuses p.0 s ∙ ap not q)
           (record { same = after_same k F.same (opening s) true (yard true q) refl; lane = ap (λ (l : Lane). (opened l s).lane) F.lane; ook = λ n. absurd (n (rests q)); trains = refl })
       go false q =
-          joined (Open s carries) (opening s) false (yard false q) (open_refuses p.0 s ∙ ap not q)
-          (refused (after the_lane false k (opening s)) (next (called p (Open s carries))) (after_same k F.same (opening s) false (yard false q) refl)
+          joined (Ok (Open s)) (opening s) false (yard false q) (open_refuses p.0 s ∙ ap not q)
+          (refused (after the_lane false k (opening s)) (next (called p (Ok (Open s)))) (after_same k F.same (opening s) false (yard false q) refl)
           (open_refused k.lane s (ap (λ (l : Lane). is_ok (open_refusal l s)) F.lane ∙ q)) refl refl (ap (λ (l : Lane). (l, p.1, p.2)) (open_refused p.0 s q)))
 
-  begin_advances : (b : BeginArgs) → Advances (Begin b) (begin b p.1 p.2)
+  carry_advances : (s : Settings) → Advances (Ok (OpenCarry s)) (opening s)
+  unfolding Advances called
+  carry_advances s = open_advances s
+
+  begin_advances : (b : BeginArgs) → Advances (Ok (Begin b)) (begin b p.1 p.2)
   unfolding after refusal called lent_well returned_by
   begin_advances b = go (is_ok (begin_refusal p.0 b (length p.1) (length p.2))) refl
     where
@@ -161,9 +148,9 @@ module _ (k : Place the_lane) (p : State) (ts : List Given) (F : Follows k p ts)
       as_here : (l : Lane) (d : Bool) → l ≡ p.0 → is_ok (begin_refusal p.0 b (length p.1) (length p.2)) ≡ d → is_ok (begin_refusal l b (length p.1) (length p.2)) ≡ d
       as_here l d e q = ap (λ (x : Lane). is_ok (begin_refusal x b (length p.1) (length p.2))) e ∙ q
 
-      go : (d : Bool) → is_ok (begin_refusal p.0 b (length p.1) (length p.2)) ≡ d → Advances (Begin b) c
+      go : (d : Bool) → is_ok (begin_refusal p.0 b (length p.1) (length p.2)) ≡ d → Advances (Ok (Begin b)) c
       go true q =
-          joined (Begin b) c true (as_here k.yard.lane true yard_lane q) (begin_refuses p.0 b p.1 p.2 ∙ ap not q)
+          joined (Ok (Begin b)) c true (as_here k.yard.lane true yard_lane q) (begin_refuses p.0 b p.1 p.2 ∙ ap not q)
           (record {
             same = after_same k F.same c true (as_here k.yard.lane true yard_lane q) refl;
             lane = ap (λ (l : Lane). (begun l b p.1 p.2).lane) F.lane;
@@ -171,8 +158,8 @@ module _ (k : Place the_lane) (p : State) (ts : List Given) (F : Follows k p ts)
             trains = ap (λ (l : Lane). fetched (begun l b p.1 p.2, p.1, p.2)) F.lane;
           })
       go false q =
-          joined (Begin b) c false (as_here k.yard.lane false yard_lane q) (begin_refuses p.0 b p.1 p.2 ∙ ap not q)
-          (refused (after the_lane false k c) (next (called p (Begin b))) (after_same k F.same c false (as_here k.yard.lane false yard_lane q) refl)
+          joined (Ok (Begin b)) c false (as_here k.yard.lane false yard_lane q) (begin_refuses p.0 b p.1 p.2 ∙ ap not q)
+          (refused (after the_lane false k c) (next (called p (Ok (Begin b)))) (after_same k F.same c false (as_here k.yard.lane false yard_lane q) refl)
           (begin_refused k.lane b p.1 p.2 (as_here k.lane false F.lane q)) refl refl (ap (λ (l : Lane). (l, p.1, p.2)) (begin_refused p.0 b p.1 p.2 q)))
 
   -- the place after a step or a close whose answer is r
@@ -180,7 +167,7 @@ module _ (k : Place the_lane) (p : State) (ts : List Given) (F : Follows k p ts)
   placed a c r = record { lane = r.0.lane; ook = cond a r.1 k.ook; trains = cond a (k.trains ++ fetched r) k.trains; yard = advanced a k.yard c }
 
   -- a step or a close: `run` is its answer, and `no` its first check that fails, which there is none of only of a lane out of idle
-  module _ (m : Command) (c : Call) (run : Lane → List ℕ → Called) (no : Lane → ℕ → Result ⊤ Refusal)
+  module _ (m : Found) (c : Call) (run : Lane → List ℕ → Called) (no : Lane → ℕ → Result ⊤ Refusal)
       (is_called : called p m ≡ run p.0 p.1) (is_shown : trains_by ts m (called p m) ≡ ts ++ fetched (called p m))
       (is_after : (a : Bool) → after the_lane a k c ≡ placed a c (run k.lane k.ook)) (is_lent : (a : Bool) → lent_well a c ≡ true)
       (yards : accepts k.yard c ≡ is_ok (no k.yard.lane (length k.yard.ook)))
@@ -240,33 +227,34 @@ module _ (k : Place the_lane) (p : State) (ts : List Given) (F : Follows k p ts)
         go true q = idle_advances (eqb-true p.0.phase 0 q)
         go false q = busy_advances (eqb-false p.0.phase 0 q)
 
-  step_advances : (s : StepArgs) → Advances (Step s) (step s as_left p.2)
+  step_advances : (s : StepArgs) → Advances (Ok (Step s)) (step s as_left p.2)
   unfolding after refusal called lent lent_well returned_by
   step_advances s =
-      advances (Step s) (step s as_left p.2) (λ l ook. stepped l s ook p.2) (λ l n. step_refusal l s n (length p.2)) refl refl (λ a. refl)
-      (step_well s p.2) refl
+      advances (Ok (Step s)) (step s as_left p.2) (λ l ook. stepped l s ook p.2) (λ l n. step_refusal l s n (length p.2)) refl refl (λ a. refl)
+      (lent_always _ refl) refl
       (λ l ook. step_refuses l s ook p.2) (λ l ook q. step_kept l s ook p.2 q) (λ l n. step_tells l s n (length p.2))
 
-  close_advances : Advances Close (close as_left p.2)
+  close_advances : Advances (Ok Close) (close as_left p.2)
   unfolding after refusal called lent lent_well returned_by
   close_advances =
-      advances Close (close as_left p.2) (λ l ook. closed l ook p.2) (λ l n. close_refusal l n (length p.2)) refl refl (λ a. refl)
-      (close_well p.2) refl
+      advances (Ok Close) (close as_left p.2) (λ l ook. closed l ook p.2) (λ l n. close_refusal l n (length p.2)) refl refl (λ a. refl)
+      (lent_always _ refl) refl
       (λ l ook. close_refuses l ook p.2) (λ l ook q. close_kept l ook p.2 q) (λ l n. close_tells l n (length p.2))
 
 -- ---- over a list
 
-follows_all : (ks : List Command) (k : Place the_lane) (p : State) (ts : List Given) → Follows k p ts
+follows_all : (ks : List Found) (k : Place the_lane) (p : State) (ts : List Given) → Follows k p ts
     → Follows (demand.after_all the_lane k (calls_of p ks)) (alone_after p ks) (trains_of ts (paired p ks))
 unfolding demand.after_all calls_of call_of alone_after trains_of paired called Advances
 follows_all [] k p ts F = F
-follows_all (End ∷ ks) k p ts F = follows_all ks k p ts F
-follows_all (Open s carries ∷ ks) k p ts F = follows_all ks _ _ _ (open_advances k p ts F s carries)
-follows_all (Begin b ∷ ks) k p ts F = follows_all ks _ _ _ (begin_advances k p ts F b)
-follows_all (Step s ∷ ks) k p ts F = follows_all ks _ _ _ (step_advances k p ts F s)
-follows_all (Unknown ∷ ks) k p ts F = follows_all ks k p ts F
-follows_all (Short ∷ ks) k p ts F = follows_all ks k p ts F
-follows_all (Close ∷ ks) k p ts F = follows_all ks _ _ _ (close_advances k p ts F)
+follows_all (Ok (Open s) ∷ ks) k p ts F = follows_all ks _ _ _ (open_advances k p ts F s)
+follows_all (Ok (OpenCarry s) ∷ ks) k p ts F = follows_all ks _ _ _ (carry_advances k p ts F s)
+follows_all (Ok (Begin b) ∷ ks) k p ts F = follows_all ks _ _ _ (begin_advances k p ts F b)
+follows_all (Ok (Step s) ∷ ks) k p ts F = follows_all ks _ _ _ (step_advances k p ts F s)
+follows_all (Ok Close ∷ ks) k p ts F = follows_all ks _ _ _ (close_advances k p ts F)
+follows_all (Err missing.End ∷ ks) k p ts F = follows_all ks k p ts F
+follows_all (Err missing.Unknown ∷ ks) k p ts F = follows_all ks k p ts F
+follows_all (Err missing.Short ∷ ks) k p ts F = follows_all ks k p ts F
 
 -- ---- from a new lane
 
@@ -279,7 +267,7 @@ pub each_antenna : EachAntenna
 unfolding EachAntenna Demand3 Demand3Where QuietEnds WaitKnown
 each_antenna ook fsk cs j h g i =
     let p : Lanes = new_lanes ook fsk in
-    let ks : List Command = commands_of (heard j p cs) in
+    let ks : List Found = commands_of (heard j p cs) in
     let l = heard_leads j p cs i (new_sized ook fsk h g) in
     let handed : handed_on unused (calls_at j p cs) ≡ true = handed_on_lem (lane_at p j) ks unused in
     let F = follows_all ks (start the_lane) (lane_at p j) [] (start_follows (lane_at p j) (get_or-replicate antennas j new_lane new_lane i)) in

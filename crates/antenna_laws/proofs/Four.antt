@@ -7,7 +7,7 @@ use mathlib.Core.List.{List, [], ◌∷◌}
 use native.Mathlib.Omega.{arith}
 use lib.ListN.{length, set}
 use lib.Dec.{leb}
-use borrow.Author.Tests.{leb-false, eq-eqb, ne_eqb}
+use borrow.Author.Tests.{leb-false}
 use Rattle.std.specs.Prelude.{⊤, Result, Ok, Err}
 use Rattle.shared.specs.declared.Settings.{Settings}
 use Rattle.refusals.specs.declared.Refusal.{Refusal}
@@ -17,13 +17,13 @@ use Rattle.lane.specs.declared.BeginArgs.{BeginArgs}
 use Rattle.lane.specs.declared.StepArgs.{StepArgs}
 use Rattle.lane.specs.Refusals.{open_refusal, begin_refusal, step_refusal, close_refusal}
 use Rattle.lane.specs.Idle.{idle_lane}
-use Rattle.lane.specs.Begin.{lead_lane}
 use Rattle.lane.specs.Advance.{advance_of}
 use Rattle.lane.specs.Close.{close_of}
-use Rattle.lane.specs.Serial.{stamp_of, stamped, stamped_with}
-use Rattle.lane.specs.Step.{new_lane, refuse, unless_refused, stay, opened, begun, stepped, closed}
-use Rattle.commands.specs.declared.Command.{Command}
-use Rattle.commands.specs.declared.Command.TheVariants.{End, Open, Begin, Step, Unknown, Short, Close}
+use Rattle.lane.specs.Serial.{stamp_of, stamped_with}
+use Rattle.lane.specs.Step.{new_lane, refuse, unless_refused, opened, begun, stepped, closed}
+use Rattle.lane.proofs.Refusals.{by_refusal}
+use Rattle.commands.specs.Command.{Found}
+use Rattle.commands.specs.declared.Command.TheVariants.{Open, OpenCarry, Begin, Step, Close}
 use Rattle.calls.specs.Turn.{State, Called, called}
 use Rattle.pulses.proofs.Accepted.{step_tells, close_tells}
 use Rattle.among.specs.Among.{antennas, places, called_among, Lanes, lane_at, out_of, outs, others_out, answer_to, after_call, Sized}
@@ -35,21 +35,20 @@ use Rattle.antenna_laws.proofs.One.{among_alone, among_twelve, answer_own, after
 
 pub out_busy : (l : Lane) → (l.phase ≡ 0 → ⊥) → out_of l ≡ 1
 unfolding out_of
-out_busy l h = rw (ne_eqb l.phase 0 h) refl
+out_busy l h = grind arith
 
 pub out_idle : (l : Lane) → l.phase ≡ 0 → out_of l ≡ 0
 unfolding out_of
-out_idle l h = rw (eq-eqb l.phase 0 h) refl
+out_idle l h = grind arith
 
 -- ---- an opening, a step and a close take no place
 
 open_takes : (l : Lane) (s : Settings) → out_of (opened l s).lane ≤ out_of l
 unfolding opened stamp_of idle_lane
-open_takes l s = go (open_refusal l s)
-  where
-    go : (k : Result ⊤ Refusal) → out_of (unless_refused k (stamped l (stay (idle_lane 1 s))) (λ r. refuse r l)).lane ≤ out_of l
-    go (Ok u) = omega (arith, out_idle (stamp_of (l.serial + 1) (idle_lane 1 s)) refl)
-    go (Err r) = omega arith
+open_takes l s =
+    by_refusal (λ (a : Answer). out_of a.lane ≤ out_of l) (open_refusal l s)
+    (λ q. omega (arith, out_idle (stamp_of (l.serial + 1) (idle_lane 1 s)) refl))
+    (λ r q. omega arith)
 
 -- a step and a close are accepted only of a lane that is out of idle
 busy_takes : (k : Result ⊤ Refusal) (l : Lane) (a : Called) (ook fsk : List ℕ) → (k ≡ Ok tt → l.phase ≡ 0 → ⊥) → out_of (unless_refused k a (λ r. (refuse r l, ook, fsk))).0.lane ≤ out_of l
@@ -69,41 +68,33 @@ close_takes l ook fsk = busy_takes (close_refusal l (length ook) (length fsk)) l
 -- a begin that comes before 12 is refused
 early_begin : (l : Lane) (b : BeginArgs) (ook fsk : List ℕ) → late_of (begun l b ook fsk).reply ≡ false → (begun l b ook fsk).lane ≡ l
 unfolding begun
-early_begin l b ook fsk = go (begin_refusal l b (length ook) (length fsk))
-  where
-    answer : Result ⊤ Refusal → Answer
-    answer k = unless_refused k (stamped l (stay (lead_lane l b))) (λ r. refuse r l)
+early_begin l b ook fsk = by_refusal (λ (a : Answer). late_of a.reply ≡ false → a.lane ≡ l) (begin_refusal l b (length ook) (length fsk)) (λ q h. absurd (true≢false h)) (λ r q h. refl)
 
-    go : (k : Result ⊤ Refusal) → late_of (answer k).reply ≡ false → (answer k).lane ≡ l
-    go (Ok u) h = absurd (true≢false h)
-    go (Err r) h = refl
-
-begin_takes : (n : ℕ) (p : State) (b : BeginArgs) → (out_of (called_among n p (Begin b)).0.lane ≤ out_of p.0) ⊎ (n < places)
+begin_takes : (n : ℕ) (p : State) (b : BeginArgs) → (out_of (called_among n p (Ok (Begin b))).0.lane ≤ out_of p.0) ⊎ (n < places)
 unfolding called
 begin_takes n p b = go (leb places n) (late_of (begun p.0 b p.1 p.2).reply) refl refl
   where
     kept : {l : Lane} → l ≡ p.0 → out_of l ≤ out_of p.0
     kept e = omega (arith, ap out_of e)
 
-    go : (full late : Bool) → leb places n ≡ full → late_of (begun p.0 b p.1 p.2).reply ≡ late → (out_of (called_among n p (Begin b)).0.lane ≤ out_of p.0) ⊎ (n < places)
-    go true true e f = inl (kept (ap (λ (c : Called). c.0.lane) (among_twelve n p (Begin b) (rw (e, f) refl))))
-    go true false e f = inl (kept (ap (λ (c : Called). c.0.lane) (among_alone n p (Begin b) (rw (e, f) refl)) ∙ early_begin p.0 b p.1 p.2 f))
+    go : (full late : Bool) → leb places n ≡ full → late_of (begun p.0 b p.1 p.2).reply ≡ late → (out_of (called_among n p (Ok (Begin b))).0.lane ≤ out_of p.0) ⊎ (n < places)
+    go true true e f = inl (kept (ap (λ (c : Called). c.0.lane) (among_twelve n p (Ok (Begin b)) (rw (e, f) refl))))
+    go true false e f = inl (kept (ap (λ (c : Called). c.0.lane) (among_alone n p (Ok (Begin b)) (rw (e, f) refl)) ∙ early_begin p.0 b p.1 p.2 f))
     go false late e f = inr (leb-false places n e)
 
 -- a call takes no place, or finds one
-takes : (n : ℕ) (p : State) (k : Command) → (out_of (called_among n p k).0.lane ≤ out_of p.0) ⊎ (n < places)
+takes : (n : ℕ) (p : State) (k : Found) → (out_of (called_among n p k).0.lane ≤ out_of p.0) ⊎ (n < places)
 unfolding called_among called
-takes n p End = inl (omega arith)
-takes n p (Open s carries) = inl (open_takes p.0 s)
-takes n p (Begin b) = begin_takes n p b
-takes n p (Step s) = inl (step_takes p.0 s p.1 p.2)
-takes n p Unknown = inl (omega arith)
-takes n p Short = inl (omega arith)
-takes n p Close = inl (close_takes p.0 p.1 p.2)
+takes n p (Ok (Open s)) = inl (open_takes p.0 s)
+takes n p (Ok (OpenCarry s)) = inl (open_takes p.0 s)
+takes n p (Ok (Begin b)) = begin_takes n p b
+takes n p (Ok (Step s)) = inl (step_takes p.0 s p.1 p.2)
+takes n p (Ok Close) = inl (close_takes p.0 p.1 p.2)
+takes n p (Err m) = inl (omega arith)
 
 -- ---- of all lanes
 
-stays : (p : Lanes) (i : ℕ) (k : Command) → Sized p → i < antennas → outs p.0 ≤ places → outs (set p.0 i (answer_to p i k).0.lane) ≤ places
+stays : (p : Lanes) (i : ℕ) (k : Found) → Sized p → i < antennas → outs p.0 ≤ places → outs (set p.0 i (answer_to p i k).0.lane) ≤ places
 stays p i k s h f =
     let l : Lane = (answer_to p i k).0.lane in
     let there : i < length p.0 = omega (arith, h, s.lanes) in

@@ -8,7 +8,7 @@ use lib.Dec.{leb}
 use borrow.Author.Tests.{lt-leb}
 use Rattle.lane.specs.declared.Lane.{Lane}
 use Rattle.lane.specs.Step.{new_lane}
-use Rattle.commands.specs.declared.Command.{Command}
+use Rattle.commands.specs.Command.{Found}
 use Rattle.calls.specs.Turn.{State, called}
 use Rattle.among.specs.Among.{places, called_among, Lanes, lane_at, outs, others_out, answer_to, after_call}
 use Rattle.among.specs.Settled.{is_begin_of, late_of}
@@ -26,7 +26,7 @@ place_freed p i k s t =
     subst (λ (q : Lanes). outs q.0 + 1 ≡ outs p.0) (sym (after_own p i k t.antenna)) one
 
 -- fewer than four others out of idle: the answer is the lone lane's
-free : (n : ℕ) (p : State) (k : Command) → n < places → called_among n p k ≡ called p k
+free : (n : ℕ) (p : State) (k : Found) → n < places → called_among n p k ≡ called p k
 free n p k h = among_alone n p k (go (is_begin_of k))
   where
     go : (b : Bool) → (b && (leb places n && late_of (called p k).0.reply)) ≡ false

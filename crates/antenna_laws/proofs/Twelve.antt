@@ -1,6 +1,6 @@
 -- 12 is given in its one case and in no other: the lane alone never gives it, and among others `meets` says where.
 use Prim.Native.Nat.{ℕ, zero, suc, ◌+◌, ◌<◌}
-use mathlib.Core.Bool.{true, false, ◌&&◌, false≢true}
+use mathlib.Core.Bool.{true, ◌&&◌, false≢true}
 use mathlib.Core.Path.{◌≡◌, refl, sym, ◌∙◌, ap}
 use mathlib.Core.Logic.{◌⊎◌, inl, inr}
 use mathlib.Core.List.{List, [], ◌∷◌}
@@ -10,20 +10,21 @@ use lib.ListN.{length, get_or}
 use lib.Dec.{eqb, leb}
 use borrow.Author.Tests.{leb-true, le-leb}
 use Rattle.shared.proofs.Tests.{both_true}
+use Rattle.lane.specs.declared.Answer.{Answer}
 use Rattle.lane.specs.declared.Lane.{Lane}
 use Rattle.lane.specs.declared.BeginArgs.{BeginArgs}
-use Rattle.std.specs.Prelude.{⊤, Result, Ok, Err}
+use Rattle.std.specs.Prelude.{Ok, Err}
 use Rattle.shared.specs.declared.Next.TheVariants.{Stay}
 use Rattle.refusals.specs.declared.Refusal.{Refusal}
 use Rattle.refusals.specs.declared.Refusal.TheVariants as refusal
 use Rattle.refusals.specs.Order.{number_of}
 use Rattle.lane.specs.Answers.{Reply, refusal_number_of}
 use Rattle.lane.specs.Refusals.{begin_refusal}
-use Rattle.lane.specs.Begin.{lead_lane}
-use Rattle.lane.specs.Serial.{stamped}
-use Rattle.lane.specs.Step.{new_lane, refuse, unless_refused, stay, begun}
-use Rattle.commands.specs.declared.Command.{Command}
-use Rattle.commands.specs.declared.Command.TheVariants.{End, Open, Begin, Step, Unknown, Short, Close}
+use Rattle.lane.specs.Step.{new_lane, begun}
+use Rattle.lane.proofs.Refusals.{by_refusal}
+use Rattle.commands.specs.Command.{Found}
+use Rattle.commands.specs.declared.Command.TheVariants.{Open, OpenCarry, Begin, Step, Close}
+use Rattle.commands.specs.declared.Missing.TheVariants as missing
 use Rattle.calls.specs.Turn.{State, Called, called, next, unchanged}
 use Rattle.among.specs.Among.{antennas, places, Lanes, lane_at, put_at, out_of, outs, others_out, no_antenna, answer_to}
 use Rattle.among.specs.Settled.{is_begin_of, late_of}
@@ -51,16 +52,13 @@ others_counted ls i h = omega (arith, others_sum ls i new_lane h)
 
 -- ---- where 12 is given
 
-none_twelve : (k : Command) → refusal_number_of (no_antenna k) ≡ 12 → ⊥
-none_twelve End e = omega arith
-none_twelve (Open s carries) e = omega arith
-none_twelve (Begin b) e = omega arith
-none_twelve (Step s) e = omega arith
-none_twelve Unknown e = omega arith
-none_twelve Short e = omega arith
-none_twelve Close e = omega arith
+none_twelve : (k : Found) → refusal_number_of (no_antenna k) ≡ 12 → ⊥
+none_twelve (Ok k) e = omega arith
+none_twelve (Err missing.End) e = omega arith
+none_twelve (Err missing.Unknown) e = omega arith
+none_twelve (Err missing.Short) e = omega arith
 
-module _ (p : Lanes) (i : ℕ) (k : Command) (e : (answer_to p i k).0.reply ≡ Err refusal.Places) where
+module _ (p : Lanes) (i : ℕ) (k : Found) (e : (answer_to p i k).0.reply ≡ Err refusal.Places) where
   there : i < antennas
   there = inside i (λ h. h) (λ h. absurd (none_twelve k (ap (λ (c : Called). refusal_number_of c.0.reply) (sym (answer_none p i k h)) ∙ ap refusal_number_of e)))
 
@@ -76,44 +74,29 @@ twelve_keeps p i k e =
 
 -- no other refusal has the number 8
 is_eighth : (k : Refusal) → eqb (number_of k) 8 ≡ true → k ≡ refusal.Room
-is_eighth refusal.Room h = refl
-is_eighth refusal.Unknown h = absurd (false≢true h)
-is_eighth refusal.Short h = absurd (false≢true h)
-is_eighth refusal.Settings h = absurd (false≢true h)
-is_eighth refusal.Lane h = absurd (false≢true h)
-is_eighth refusal.Phase h = absurd (false≢true h)
-is_eighth refusal.Index h = absurd (false≢true h)
-is_eighth refusal.Float h = absurd (false≢true h)
-is_eighth refusal.Places h = absurd (false≢true h)
-is_eighth refusal.Serial h = absurd (false≢true h)
+is_eighth k h = grind arith
 
 -- a begin that 12 comes before is accepted, or refused by 8
 late_begin : (l : Lane) (b : BeginArgs) (ook fsk : List ℕ) → late_of (begun l b ook fsk).reply ≡ true → ((begun l b ook fsk).reply ≡ Ok Stay) ⊎ ((begun l b ook fsk).reply ≡ Err refusal.Room)
 unfolding begun
-late_begin l b ook fsk = go (begin_refusal l b (length ook) (length fsk))
-  where
-    reply : Result ⊤ Refusal → Reply
-    reply k = (unless_refused k (stamped l (stay (lead_lane l b))) (λ r. refuse r l)).reply
+late_begin l b ook fsk =
+    by_refusal (λ (a : Answer). late_of a.reply ≡ true → (a.reply ≡ Ok Stay) ⊎ (a.reply ≡ Err refusal.Room)) (begin_refusal l b (length ook) (length fsk))
+    (λ q h. inl refl)
+    (λ r q h. inr (ap (λ (x : Refusal). Err x) (is_eighth r h)))
 
-    go : (k : Result ⊤ Refusal) → late_of (reply k) ≡ true → (reply k ≡ Ok Stay) ⊎ (reply k ≡ Err refusal.Room)
-    go (Ok u) h = inl refl
-    go (Err r) h = inr (ap (λ (x : Refusal). Err x) (is_eighth r h))
-
-late_is : (p : State) (k : Command) → is_begin_of k ≡ true → late_of (called p k).0.reply ≡ true → ((called p k).0.reply ≡ Ok Stay) ⊎ ((called p k).0.reply ≡ Err refusal.Room)
+late_is : (p : State) (k : Found) → is_begin_of k ≡ true → late_of (called p k).0.reply ≡ true → ((called p k).0.reply ≡ Ok Stay) ⊎ ((called p k).0.reply ≡ Err refusal.Room)
 unfolding called
-late_is p (Begin b) h = late_begin p.0 b p.1 p.2
-late_is p End h = absurd (false≢true h)
-late_is p (Open s carries) h = absurd (false≢true h)
-late_is p (Step s) h = absurd (false≢true h)
-late_is p Unknown h = absurd (false≢true h)
-late_is p Short h = absurd (false≢true h)
-late_is p Close h = absurd (false≢true h)
+late_is p (Ok (Begin b)) h = late_begin p.0 b p.1 p.2
+late_is p (Ok (Open s)) h = absurd (false≢true h)
+late_is p (Ok (OpenCarry s)) h = absurd (false≢true h)
+late_is p (Ok (Step s)) h = absurd (false≢true h)
+late_is p (Ok Close) h = absurd (false≢true h)
+late_is p (Err m) h = absurd (false≢true h)
 
 is_late : (r : Reply) → (r ≡ Ok Stay) ⊎ (r ≡ Err refusal.Room) → late_of r ≡ true
-is_late r (inl e) = ap late_of e
-is_late r (inr e) = ap late_of e
+is_late r h = grind arith
 
-given : (p : Lanes) (i : ℕ) (k : Command) → (answer_to p i k).0.reply ≡ Err refusal.Places → Twelve p i k
+given : (p : Lanes) (i : ℕ) (k : Found) → (answer_to p i k).0.reply ≡ Err refusal.Places → Twelve p i k
 given p i k e =
     let h = there p i k e in
     let n = others_out p.0 i in
@@ -122,7 +105,7 @@ given p i k e =
     let b = both_true (leb places n) (late_of r) a.1 in
     record { antenna = h; begins = a.0; full = leb-true places n b.0; late = late_is (lane_at p i) k a.0 b.1 }
 
-gives : (p : Lanes) (i : ℕ) (k : Command) → Twelve p i k → (answer_to p i k).0.reply ≡ Err refusal.Places
+gives : (p : Lanes) (i : ℕ) (k : Found) → Twelve p i k → (answer_to p i k).0.reply ≡ Err refusal.Places
 gives p i k t =
     let n = others_out p.0 i in
     let r = (called (lane_at p i) k).0.reply in

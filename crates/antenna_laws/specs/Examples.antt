@@ -1,5 +1,5 @@
 -- Small lists of calls of sixteen antennas, each with the reply to the last of them and how many lanes are then out of idle.
-use Rattle.std.specs.Prelude.{ℕ, zero, suc, ◌+◌, ◌^◌, false, ◌≡◌, List, [], ◌∷◌, ◌++◌, map, replicate, Float, Result, Ok, Err}
+use Rattle.std.specs.Prelude.{ℕ, zero, suc, ◌+◌, ◌^◌, ◌≡◌, List, [], ◌∷◌, ◌++◌, map, replicate, Float, Result, Ok, Err}
 use Rattle.std.specs.Float.{binary32}
 use Rattle.std.specs.Float.Ieee.{of_bits}
 use Rattle.arith.specs.declared.C32.{C32}
@@ -40,17 +40,17 @@ args i factor = record { index = i; factor = factor; envelope = zero32; x = one;
 
 -- antenna i opens, for so many pulses, begins at index 10, goes on at envelope 0, and closes
 abbrev pub opens : ℕ → ℕ → Sent
-opens most i = (i, Open (settings 0 most 1000) false)
+opens most i = (i, Ok (Open (settings 0 most 1000)))
 
 abbrev pub begins : ℕ → Sent
-begins i = (i, Begin (args 10 one32))
+begins i = (i, Ok (Begin (args 10 one32)))
 
 unfoldable pub lows : ℕ → ℕ → ℕ → List Sent
 lows i at₀ zero = []
-lows i at₀ (suc n) = (i, Step (at zero32 at₀)) ∷ lows i (at₀ + 1) n
+lows i at₀ (suc n) = (i, Ok (Step (at zero32 at₀))) ∷ lows i (at₀ + 1) n
 
 abbrev pub closes : ℕ → Sent
-closes i = (i, Close)
+closes i = (i, Ok Close)
 
 -- antennas 0 to 3 are let in, and antenna 4 opens
 abbrev pub four : List Sent
@@ -76,8 +76,8 @@ table =
     ∷ (four ++ opens 5 4 ∷ begins 4 ∷ [], (Err 12, 4))
     ∷ (four ++ begins 5 ∷ [], (Err 3, 4))
     ∷ (fifth ++ begins 0 ∷ [], (Err 5, 4))
-    ∷ (four ++ (4, Begin (args (2 ^ 41) one32)) ∷ [], (Err 6, 4))
-    ∷ (four ++ (4, Begin (args 10 (of_bits binary32 0xbf80_0000))) ∷ [], (Err 7, 4))
+    ∷ (four ++ (4, Ok (Begin (args (2 ^ 41) one32))) ∷ [], (Err 6, 4))
+    ∷ (four ++ (4, Ok (Begin (args 10 (of_bits binary32 0xbf80_0000)))) ∷ [], (Err 7, 4))
     -- the lanes that are in go on
     ∷ (fifth ++ lows 0 11 1, (Ok Stay, 4))
     -- no such antenna

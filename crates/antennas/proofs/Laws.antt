@@ -6,8 +6,8 @@ use mathlib.Core.List.{List, ◌++◌}
 use Rattle.stream.specs.Machine.{May}
 use Rattle.stream.proofs.Printed.{program_prints}
 use Rattle.sixteen.specs.Sixteen.{machine, antennas_of}
-use Rattle.sixteen.proofs.Orderly.{orderly}
-use Rattle.antennas.specs.Antennas.{Ends}
+use Rattle.sixteen.specs.Orderly.{orderly}
+use Rattle.antennas.specs.Ends.{Ends}
 
 -- from sixteen new lanes with buffers of zeros, a run that is over has printed the lines of what it read, whatever comes after its end
 pub antennas_prints : (r : Ends true) (t : List ℕ) → May r.runs.last t → r.runs.printed ≡ antennas_of (r.runs.read ++ t)

@@ -1,1 +1,1 @@
-pub mod Antennas
+pub mod Ends

@@ -3,6 +3,7 @@ use Rattle.std.proofs.Common.{◌≡◌, ℕ, zero, suc, ◌+◌, ◌/◌, ◌%�
 use borrow.Author.Tests.{lt-leb}
 use lib.Ieee.{Float, nan, inf, fin, Format, binary32, binary64, prec, low, hid, ones, top, odd, fits, of_fields, of_bits, to_bits, is_nan, nan_bits}
 use lib.Ieee.Bits.{of_bits-to_bits, nan_bits_is}
+use Rattle.std.specs.Float.{float_with_sign}
 use Rattle.ieee.proofs.Nan.{told}
 use Rattle.arith.specs.Leaves.{abs_of}
 
@@ -58,6 +59,13 @@ plain_abs f x h n = subst (λ (b : Bool). T (not b)) (sym (nan_bits_is f (to_bit
     go nan m = m
     go (inf s) m = tt
     go (fin s a e) m = tt
+
+-- std's magnitude
+pub is_magnitude : (x : Float) → float_with_sign false x ≡ abs_of x
+unfolding float_with_sign abs_of
+is_magnitude nan = refl
+is_magnitude (inf s) = refl
+is_magnitude (fin s m e) = refl
 
 pub abs_nan : (x : Float) → x ≡ nan → x ≡ abs_of x
 unfolding abs_of

@@ -64,6 +64,10 @@ clamp_of x = cond (lt x zero64) zero64 (cond (lt one64 x) one64 x)
 abbrev pub lead_len_of : ℕ → ℕ
 lead_len_of m = min max_lead (min (4 * m) (2 ^ 32 - 1) - 1)
 
+-- the sum, part by part
+abbrev pub plus_of : C32 → C32 → C32
+plus_of a b = record { re = add binary32 a.re b.re; im = add binary32 a.im b.im }
+
 -- x times the conjugate of y
 abbrev pub cmul_conj_of : C32 → C32 → C32
 cmul_conj_of x y = record {

@@ -6,11 +6,11 @@ ghost use Rattle.arith.specs.Carry.{bound_of, rounded_of, remainder_of, between_
 use crate::{Carried, RUN_FIX, Steps, step_of, width};
 
 // The boundary of the edge t: its distance from the origin to the nearest 64th, at most MAX_BOUND, never below the boundary before.
+#[tactic(auto, unfolding(crate::specs::Carry::bound_of))]
 fn bound_of(origin: f64, before: u64, t: f64) -> u64
     ensures { result ≡ bound_of origin before t }
 {
-    let nearest = step_of((t - origin) * RUN_FIX);
-    before.max(nearest.min(domain::MAX_BOUND))
+    before.max(step_of((t - origin) * RUN_FIX).min(domain::MAX_BOUND))
 }
 
 // A boundary in whole steps, a tie up. Nothing is added to the boundary, so that no sum can wrap.
@@ -24,8 +24,7 @@ fn rounded(b: u64) -> u64
 fn remainder(b: u64) -> i32
     ensures { result ≡ remainder_of b }
 {
-    let n = (b % 64 + 32) % 64;
-    (n as i32) - 32
+    ((b % 64 + 32) % 64) as i32 - 32
 }
 
 // The width between two boundaries, at most the largest u32.
@@ -33,8 +32,7 @@ fn between(before: u64, b: u64) -> Steps
     requires { before ≤ b }
     ensures { result ≡ between_of before b }
 {
-    let n = (rounded(b) - rounded(before)).min(u32::MAX as u64);
-    Steps(n as u32)
+    Steps(u32::try_from(rounded(b) - rounded(before)).unwrap_or(u32::MAX))
 }
 
 // The width from the boundary before to that of the edge t.
@@ -50,6 +48,7 @@ pub fn carried_at(origin: f64, before: u64, t: f64) -> Carried
 }
 
 // How wide a pulse or gap between the edges a and b is: by boundaries where carry is 1, else by itself.
+#[tactic(auto, unfolding(crate::specs::Carry::width_by))]
 pub fn width_by(carry: u32, origin: f64, before: u64, a: f64, b: f64) -> Carried
     ensures { result ≡ width_by carry origin before a b }
 {

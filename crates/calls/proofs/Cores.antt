@@ -13,6 +13,7 @@ use Rattle.refusals.proofs.Domain.{settings_tell}
 use Rattle.step.specs.declared.Core.{Core}
 use Rattle.lane.specs.declared.Lane.{Lane}
 use Rattle.lane.specs.Answers.{Reply}
+use Rattle.lane.specs.declared.StepArgs.{StepArgs}
 use Rattle.step.specs.Core.{zip_of, reals_of, imaginaries_of, joined_of}
 use Rattle.step.proofs.Zips.{zip_parts}
 use Rattle.lane.proofs.Refusals.{lane_passes}
@@ -22,7 +23,7 @@ use Rattle.lane.specs.Idle.{idle_lane}
 use Rattle.reached.specs.Reached.{Sound, unopened, within}
 use Rattle.reached.proofs.Reached.{sound_ok, own_records}
 use Rattle.shared.proofs.Tests.{clash}
-use Rattle.calls.specs.Steps.{Took}
+use Rattle.calls.specs.Steps.{Went}
 
 -- a sound lane's records have its serial, so that its core and arrays join to it
 pub joined_back : (l : Lane) (c : Core) (es re im : List Float) → Sound l
@@ -57,7 +58,7 @@ met F {c} {d} {es} {es₁} {re} {re₁} {im} {im₁} {ring} {ring₁} {cs} {cs�
     (subst (λ (x : List ℕ). F l used r ook₁ x) (sym e₁) (subst (λ (x : ℕ). F l x r ook₁ fsk₁) (sym e₈) (subst (λ (x : Reply). F l used₁ x ook₁ fsk₁) (sym e₉) h))))
 
 -- of the lanes themselves
-pub of_lanes : {l k m n : Lane} {s ook₀ fsk₀ ook fsk : List ℕ} {from used : ℕ} {r : Reply} → k ≡ l → n ≡ m
-    → Took (k, ook₀, fsk₀) s from used r (m, ook, fsk) → Took (l, ook₀, fsk₀) s from used r (n, ook, fsk)
-of_lanes {l} {k} {m} {n} {s} {ook₀} {fsk₀} {ook} {fsk} {from} {used} {r} e d h =
-    subst (λ (x : Lane). Took (x, ook₀, fsk₀) s from used r (n, ook, fsk)) e (subst (λ (x : Lane). Took (k, ook₀, fsk₀) s from used r (x, ook, fsk)) (sym d) h)
+pub of_lanes : {At : ℕ → StepArgs → Type 0} {size : ℕ} {l k m n : Lane} {ook₀ fsk₀ ook fsk : List ℕ} {from used : ℕ} {r : Reply} → k ≡ l → n ≡ m
+    → Went At size (k, ook₀, fsk₀) from used r (m, ook, fsk) → Went At size (l, ook₀, fsk₀) from used r (n, ook, fsk)
+of_lanes {At} {size} {l} {k} {m} {n} {ook₀} {fsk₀} {ook} {fsk} {from} {used} {r} e d h =
+    subst (λ (x : Lane). Went At size (x, ook₀, fsk₀) from used r (n, ook, fsk)) e (subst (λ (x : Lane). Went At size (k, ook₀, fsk₀) from used r (x, ook, fsk)) (sym d) h)

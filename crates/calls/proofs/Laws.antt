@@ -6,8 +6,8 @@ use mathlib.Core.List.{List, ◌++◌}
 use native.Mathlib.Omega.{arith}
 use lib.ListN.{length, take, length-take}
 use lib.Seq.{sets}
-use lib.Dec.{eqb, ltb, leb}
-use borrow.Author.Tests.{ltb-false, leb-false, le-ltb, le-leb}
+use lib.Dec.{eqb, leb}
+use borrow.Author.Tests.{leb-false, le-ltb, le-leb}
 use Rattle.std.specs.Prelude.{Result, Ok, Err, is_ok, IsErrAnd, MatchResult}
 use Rattle.shared.specs.declared.Next.TheVariants.{Stay, Idle, IdleAt}
 use Rattle.shared.specs.declared.Next.{Next}
@@ -19,8 +19,9 @@ use Rattle.lane.specs.Answers.{Reply, reply_number_of}
 use Rattle.lane.specs.declared.StepArgs.{StepArgs}
 use Rattle.lane.specs.Step.{stepped, closed}
 use Rattle.lane.specs.Part.{front, named_of, part_refusal, part_of}
-use Rattle.commands.specs.declared.Command.{Command}
-use Rattle.commands.specs.declared.Command.TheVariants.{End, Open, Begin, Step, Unknown, Short, Close}
+use Rattle.commands.specs.Command.{Found}
+use Rattle.commands.specs.declared.Command.TheVariants.{Open, OpenCarry, Begin, Step, Close}
+use Rattle.commands.specs.declared.Missing.TheVariants as missing
 use Rattle.std.specs.Prelude.{Option, unwrap_or}
 use Rattle.lines.specs.Line.{max_slots, call_room, larger_of, has_room, record_line, call_text, written_call, put}
 use Rattle.lines.proofs.Room.{room_there, length_call}
@@ -104,7 +105,7 @@ parts_held p c h g d f =
     record { ook_part = within l.burst.out_ook f.ook_part; fsk_part = within l.burst.out_fsk f.fsk_part }
 
 -- so have a step and a close that are accepted
-step_shown : (p : State) (s : StepArgs) → length (called p (Step s)).1 ≡ length p.1 → length (called p (Step s)).2 ≡ length p.2 → Shown (called p (Step s)) (most_of p)
+step_shown : (p : State) (s : StepArgs) → length (called p (Ok (Step s))).1 ≡ length p.1 → length (called p (Ok (Step s))).2 ≡ length p.2 → Shown (called p (Ok (Step s))) (most_of p)
 unfolding called
 step_shown p s h g =
     let c = stepped p.0 s p.1 p.2 in
@@ -112,7 +113,7 @@ step_shown p s h g =
     let e = answered_step p.0 s p.1 p.2 n in
     parts_held p c h g (slots_step p.0 s (length p.1) (length p.2) e) (parts_fit_step p.0 s p.1 p.2 e c.1 c.2))
 
-close_shown : (p : State) → length (called p Close).1 ≡ length p.1 → length (called p Close).2 ≡ length p.2 → Shown (called p Close) (most_of p)
+close_shown : (p : State) → length (called p (Ok Close)).1 ≡ length p.1 → length (called p (Ok Close)).2 ≡ length p.2 → Shown (called p (Ok Close)) (most_of p)
 unfolding called
 close_shown p h g =
     let c = closed p.0 p.1 p.2 in
@@ -121,15 +122,16 @@ close_shown p h g =
     parts_held p c h g (slots_close p.0 (length p.1) (length p.2) e) (parts_fit_close p.0 p.1 p.2 e c.1 c.2))
 
 -- no part that a call prints has more slots than `most_of` says; nothing is said where there is no command
-pub shown_most : (p : State) (k : Command) → waits true k ≡ false → length (called p k).1 ≡ length p.1 → length (called p k).2 ≡ length p.2 → Shown (called p k) (most_of p)
+pub shown_most : (p : State) (k : Found) → waits true k ≡ false → length (called p k).1 ≡ length p.1 → length (called p k).2 ≡ length p.2 → Shown (called p k) (most_of p)
 unfolding called
-shown_most p End w h g = clash w
-shown_most p (Open s carries) w h g = shown_fits (called p (Open s carries)) (most_of p) (λ n. parts_fit_open p.0 s (answered_open p.0 s n) (most_of p) p.1 p.2)
-shown_most p (Begin b) w h g = shown_fits (called p (Begin b)) (most_of p) (λ n. parts_fit_begin p.0 b p.1 p.2 (answered_begin p.0 b p.1 p.2 n) (most_of p) p.1 p.2)
-shown_most p (Step s) w h g = step_shown p s h g
-shown_most p Unknown w h g = record { fsk_shown = omega arith; ook_shown = omega arith }
-shown_most p Short w h g = record { fsk_shown = omega arith; ook_shown = omega arith }
-shown_most p Close w h g = close_shown p h g
+shown_most p (Err missing.End) w h g = clash w
+shown_most p (Ok (Open s)) w h g = shown_fits (called p (Ok (Open s))) (most_of p) (λ n. parts_fit_open p.0 s (answered_open p.0 s n) (most_of p) p.1 p.2)
+shown_most p (Ok (OpenCarry s)) w h g = shown_fits (called p (Ok (OpenCarry s))) (most_of p) (λ n. parts_fit_open p.0 s (answered_open p.0 s n) (most_of p) p.1 p.2)
+shown_most p (Ok (Begin b)) w h g = shown_fits (called p (Ok (Begin b))) (most_of p) (λ n. parts_fit_begin p.0 b p.1 p.2 (answered_begin p.0 b p.1 p.2 n) (most_of p) p.1 p.2)
+shown_most p (Ok (Step s)) w h g = step_shown p s h g
+shown_most p (Err missing.Unknown) w h g = record { fsk_shown = omega arith; ook_shown = omega arith }
+shown_most p (Err missing.Short) w h g = record { fsk_shown = omega arith; ook_shown = omega arith }
+shown_most p (Ok Close) w h g = close_shown p h g
 
 -- a refused call prints no record, so that its lines are those without the parts
 shown_text : (r : Reply) (l : Lane) (ook fsk : List ℕ)
@@ -175,11 +177,8 @@ called_short c most h =
     )
 
 -- a command that is there prints the lines of its call
-pub there : (k : Command) (c : Called) → waits true k ≡ false → text_of k c ≡ called_text c
-there End c w = clash w
-there (Open s carries) c w = refl
-there (Begin b) c w = refl
-there (Step s) c w = refl
-there Unknown c w = refl
-there Short c w = refl
-there Close c w = refl
+pub there : (k : Found) (c : Called) → waits true k ≡ false → text_of k c ≡ called_text c
+there (Ok k) c w = refl
+there (Err missing.End) c w = clash w
+there (Err missing.Unknown) c w = refl
+there (Err missing.Short) c w = refl

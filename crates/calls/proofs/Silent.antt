@@ -1,6 +1,6 @@
 -- Steps one after another that print nothing (`Steps`), for any loop over them: the settings and the lengths of the buffers stay, and a sound lane
 -- stays sound, so that each further step's answer is its core's.
-use Prim.Native.Nat.{ℕ, ◌≤◌, ◌<◌}
+use Prim.Native.Nat.{ℕ, ◌+◌, ◌≤◌, ◌<◌}
 use mathlib.Core.Bool.{Bool, true, false, cond}
 use mathlib.Core.Path.{◌≡◌, refl, ap, sym, ◌∙◌, subst}
 use mathlib.Core.List.{List}
@@ -23,25 +23,20 @@ use Rattle.lane.specs.Serial.{stamp_of, stamped_with}
 use Rattle.lane.specs.Step.{refuse, unless_refused, stepped_by, stepped}
 use Rattle.reached.specs.Reached.{Sound}
 use Rattle.reached.proofs.Reached.{sound_ok, open_sound, begin_sound, step_sound, close_sound}
-use Rattle.commands.specs.declared.Command.{Command}
-use Rattle.commands.specs.declared.Command.TheVariants.{End, Open, Begin, Step, Unknown, Short, Close}
+use Rattle.commands.specs.Command.{Found}
+use Rattle.commands.specs.declared.Command.TheVariants.{Open, OpenCarry, Begin, Step, Close}
 use Rattle.calls.specs.Turn.{State, Called, called, most_of}
-use Rattle.calls.specs.Steps.{quiet_of}
+use Rattle.calls.specs.Steps.{Quiet, Stepped, Went, first, further}
 
 -- a sound lane stays sound
-pub call_sound : (p : State) (k : Command) → Sound p.0 → Sound (called p k).0.lane
+pub call_sound : (p : State) (k : Found) → Sound p.0 → Sound (called p k).0.lane
 unfolding called
-call_sound p End h = h
-call_sound p (Open s carries) h = open_sound s h
-call_sound p (Begin b) h = begin_sound b p.1 p.2 h
-call_sound p (Step s) h = step_sound s p.1 p.2 h
-call_sound p Unknown h = h
-call_sound p Short h = h
-call_sound p Close h = close_sound p.1 p.2 h
-
--- the last call prints nothing
-abbrev pub Quiet : Reply → State → Type 0
-Quiet r q = quiet_of r q.0.burst.out_fsk.state q.0.burst.out_ook.state ≡ true
+call_sound p (Ok (Open s)) h = open_sound s h
+call_sound p (Ok (OpenCarry s)) h = open_sound s h
+call_sound p (Ok (Begin b)) h = begin_sound b p.1 p.2 h
+call_sound p (Ok (Step s)) h = step_sound s p.1 p.2 h
+call_sound p (Ok Close) h = close_sound p.1 p.2 h
+call_sound p (Err m) h = h
 
 -- what steps keep: the settings, and the lengths of the buffers
 pub record Kept (p q : State) : Type 0 where
@@ -80,7 +75,7 @@ module _ {G : ℕ → Reply → State → Type 0} {p : State} {from used : ℕ} 
 abbrev pub core_step : Lane → StepArgs → List ℕ → List ℕ → Called
 core_step l a ook fsk = stepped_by (step_refusal_by true l.settings l.phase l.last a (length ook) (length fsk)) l a ook fsk
 
-pub core_steps : (q : State) (a : StepArgs) → Sound q.0 → core_step q.0 a q.1 q.2 ≡ called q (Step a)
+pub core_steps : (q : State) (a : StepArgs) → Sound q.0 → core_step q.0 a q.1 q.2 ≡ called q (Ok (Step a))
 unfolding called stepped step_refusal
 core_steps q a h = ap (λ (b : Bool). stepped_by (step_refusal_by b q.0.settings q.0.phase q.0.last a (length q.1) (length q.2)) q.0 a q.1 q.2) (sym (sound_ok h))
 
@@ -100,18 +95,40 @@ step_settings l a ook fsk = go (step_refusal l a (length ook) (length fsk)) (eqb
     go (Ok u) false e = refl
     go (Err n) d e = refl
 
--- ---- one step more
-module _ {G : ℕ → Reply → State → Type 0} {p : State} {from used : ℕ} {r : Reply} {q : State} (a : StepArgs) (end : ℕ) (z : Reply) (n : State)
-    (sound : Sound p.0) (so : Steps G p from used r q) (gives : (answer_of z n.0, n.1, n.2) ≡ core_step q.0 a q.1 q.2)
-    (is_ook : length n.1 ≡ length q.1) (is_fsk : length n.2 ≡ length q.2) where
-  pub gave : (answer_of z n.0, n.1, n.2) ≡ called q (Step a)
-  gave = gives ∙ core_steps q a (steps_sound sound so)
+pub core_gave : (q : State) (a : StepArgs) (z : Reply) (n : State) → Sound q.0 → (answer_of z n.0, n.1, n.2) ≡ core_step q.0 a q.1 q.2 → length n.1 ≡ length q.1 → length n.2 ≡ length q.2 → Stepped q a z n
+core_gave q a z n sound gives is_ook is_fsk = record { gave = gives ∙ core_steps q a sound; ook = is_ook; fsk = is_fsk }
 
-  -- that printed nothing
-  pub steps_more : from < end → Quiet z n → G end z n → Steps G p from end z n
-  unfolding called
-  steps_more up quiet g =
-      let k = steps_kept so in
-      let e : n.0.settings ≡ q.0.settings = ap (λ (c : Called). c.0.lane.settings) gave ∙ step_settings q.0 a q.1 q.2 in
-      some up quiet (record { settings = e ∙ k.settings; ook = is_ook ∙ k.ook; fsk = is_fsk ∙ k.fsk })
-      (subst (λ (c : Called). Sound c.0.lane) (sym gave) (call_sound q (Step a) (steps_sound sound so))) g
+-- ---- one step more that printed nothing
+pub steps_more : {G : ℕ → Reply → State → Type 0} {p : State} {from used : ℕ} {r : Reply} {q : State} (a : StepArgs) (end : ℕ) (z : Reply) (n : State)
+    → Sound p.0 → Steps G p from used r q → Stepped q a z n → from < end → Quiet z n → G end z n → Steps G p from end z n
+unfolding called
+steps_more {G} {p} {from} {used} {r} {q} a end z n sound so step up quiet g =
+    let k = steps_kept so in
+    let e : n.0.settings ≡ q.0.settings = ap (λ (c : Called). c.0.lane.settings) step.gave ∙ step_settings q.0 a q.1 q.2 in
+    some up quiet (record { settings = e ∙ k.settings; ook = step.ook ∙ k.ook; fsk = step.fsk ∙ k.fsk })
+    (subst (λ (c : Called). Sound c.0.lane) (sym step.gave) (call_sound q (Ok (Step a)) (steps_sound sound so))) g
+
+-- ---- steps wherever they stand
+
+module _ {At : ℕ → StepArgs → Type 0} {size : ℕ} {p : State} {from : ℕ} where
+  pub went_on : {used : ℕ} {r : Reply} {q : State} (a : StepArgs) (z : Reply) (n : State) → Steps (Went At size p from) p from used r q → At used a → Stepped q a z n → Went At size p from (used + size) z n
+  went_on {used} {r} {q} a z n (none e d) here step =
+      subst (λ (u : ℕ). Went At size p from (u + size) z n) (sym e)
+      (first (subst (λ (u : ℕ). At u a) e here) (subst (λ (o : State). Stepped o a z n) d step))
+  went_on a z n (some up quiet keeps sound went) here step = further went quiet here step
+
+  -- what each step more keeps is so of all
+  module _ (G : ℕ → Reply → State → Type 0) (sound : Sound p.0) (some_size : 0 < size)
+      (on : (used : ℕ) (r : Reply) (q : State) (a : StepArgs) (z : Reply) (n : State) → Steps G p from used r q → At used a → Stepped q a z n → G (used + size) z n) where
+    went_so : {used : ℕ} {r : Reply} {q : State} → Went At size p from used r q → G used r q × (Quiet r q → Steps G p from used r q)
+    went_so (first {a} {r} {q} here step) =
+        let so : Steps G p from from r p = none refl refl in
+        let g = on from r p a r q so here step in
+        (g, λ quiet. steps_more a (from + size) r q sound so step (omega (arith, some_size)) quiet g)
+    went_so (further {used} {r} {q} {a} {z} {n} went quiet here step) =
+        let so = (went_so went).1 quiet in
+        let g = on used r q a z n so here step in
+        (g, λ still. steps_more a (used + size) z n sound so step (omega (arith, some_size, steps_onward so)) still g)
+
+    pub went_all : {used : ℕ} {r : Reply} {q : State} → Went At size p from used r q → G used r q
+    went_all went = (went_so went).0

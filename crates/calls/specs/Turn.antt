@@ -10,8 +10,10 @@ use Rattle.lane.specs.declared.Answer.{Answer}
 use Rattle.lane.specs.Answers.{Reply}
 use Rattle.lane.specs.Step.{opened, begun, stepped, closed}
 use Rattle.lane.specs.Part.{part_of}
-use Rattle.commands.specs.declared.Command.{Command}
-use Rattle.commands.specs.declared.Command.TheVariants.{End, Open, Begin, Step, Unknown, Short, Close}
+use Rattle.commands.specs.Command.{Found}
+use Rattle.commands.specs.declared.Command.TheVariants.{Open, OpenCarry, Begin, Step, Close}
+use Rattle.commands.specs.declared.Missing.{Missing}
+use Rattle.commands.specs.declared.Missing.TheVariants as missing
 use Rattle.lines.specs.Line.{record_line, call_text, max_slots}
 
 -- a lane with its OOK and its FSK buffer
@@ -26,15 +28,20 @@ Called = Answer × List ℕ × List ℕ
 abbrev pub unchanged : Reply → State → Called
 unchanged r p = (record { reply = r; lane = p.0 }, p.1, p.2)
 
--- the answer to a command; bytes that are none meet refusal 1 or 2
-unfoldable pub called : State → Command → Called
-called p End = unchanged (Ok Stay) p
-called p (Open s carries) = (opened p.0 s, p.1, p.2)
-called p (Begin b) = (begun p.0 b p.1 p.2, p.1, p.2)
-called p (Step s) = stepped p.0 s p.1 p.2
-called p Unknown = unchanged (Err refusal.Unknown) p
-called p Short = unchanged (Err refusal.Short) p
-called p Close = closed p.0 p.1 p.2
+-- the reply to what is no command: nothing happens where nothing is left, and bytes that are none meet refusal 1 or 2
+abbrev pub missed : Missing → Reply
+missed missing.End = Ok Stay
+missed missing.Unknown = Err refusal.Unknown
+missed missing.Short = Err refusal.Short
+
+-- the answer to a command
+unfoldable pub called : State → Found → Called
+called p (Ok (Open s)) = (opened p.0 s, p.1, p.2)
+called p (Ok (OpenCarry s)) = (opened p.0 s, p.1, p.2)
+called p (Ok (Begin b)) = (begun p.0 b p.1 p.2, p.1, p.2)
+called p (Ok (Step s)) = stepped p.0 s p.1 p.2
+called p (Ok Close) = closed p.0 p.1 p.2
+called p (Err m) = unchanged (missed m) p
 
 -- the lane and the buffers after a call
 abbrev pub next : Called → State
@@ -63,26 +70,20 @@ abbrev pub called_text : Called → List ℕ
 called_text c = answer_text c.0.reply c.0.lane c.1 c.2
 
 -- what a command prints: nothing where there is none
-abbrev pub text_of : Command → Called → List ℕ
-text_of End c = []
-text_of (Open s carries) c = called_text c
-text_of (Begin b) c = called_text c
-text_of (Step s) c = called_text c
-text_of Unknown c = called_text c
-text_of Short c = called_text c
-text_of Close c = called_text c
+abbrev pub text_of : Found → Called → List ℕ
+text_of (Ok k) c = called_text c
+text_of (Err missing.End) c = []
+text_of (Err missing.Unknown) c = called_text c
+text_of (Err missing.Short) c = called_text c
 
 -- ---- when a command is made
 
 -- a command is waited for where nothing is left, and where only its beginning is there and more may come: where `last` is false
-abbrev pub waits : Bool → Command → Bool
-waits last End = true
-waits last (Open s carries) = false
-waits last (Begin b) = false
-waits last (Step s) = false
-waits last Unknown = false
-waits last Short = not last
-waits last Close = false
+abbrev pub waits : Bool → Found → Bool
+waits last (Ok k) = false
+waits last (Err missing.End) = true
+waits last (Err missing.Unknown) = false
+waits last (Err missing.Short) = not last
 
 -- the most slots of a part that a call prints: two for each pulse of the settings, and no more than the larger buffer has. Settings above
 -- document 01's 65,536 pulses are refused, and a refused call prints no record

@@ -1,5 +1,5 @@
 -- The commands as document 01, "Commands", has them, and document 02's 04 and 05: over lists of bytes, little-endian.
-use Rattle.std.specs.Prelude.{ℕ, ◌+◌, Bool, true, false, cond, List, length, get_or, drop, eqb, ltb}
+use Rattle.std.specs.Prelude.{ℕ, ◌+◌, Bool, true, false, cond, List, length, get_or, drop, eqb, ltb, Option, Some, None, Result, Ok, Err}
 use Rattle.arith.specs.declared.C32.{C32}
 unfoldable pub use Rattle.words.specs.Words.{u32_at, u64_at}
 pub use Rattle.words.specs.Words.{f32_at}
@@ -9,7 +9,13 @@ use Rattle.lane.specs.declared.BeginArgs.{BeginArgs}
 use Rattle.lane.specs.declared.StepArgs.{StepArgs}
 use Rattle.lane.specs.declared.History.{History}
 use Rattle.commands.specs.declared.Command.{Command}
-use Rattle.commands.specs.declared.Command.TheVariants.{End, Open, Begin, Step, Unknown, Short, Close}
+use Rattle.commands.specs.declared.Command.TheVariants.{Open, OpenCarry, Begin, Step, Close}
+use Rattle.commands.specs.declared.Missing.{Missing}
+use Rattle.commands.specs.declared.Missing.TheVariants as missing
+
+-- what stands at a place of the bytes: a command, or why none does
+abbrev pub Found : Type 0
+Found = Result Command Missing
 
 -- a sample, the real part first
 abbrev pub pair_at : List ℕ → ℕ → C32
@@ -68,46 +74,49 @@ unfoldable pub step_args_of : List ℕ → StepArgs
 step_args_of o = record { index = u64_at o 0; noise = f32_at o 8; envelope = f32_at o 12; x = pair_at o 16 }
 
 -- a command whose n operand bytes are there, and refusal 2 otherwise
-abbrev pub within : ℕ → List ℕ → Command → Command
-within n o k = cond (ltb (length o) n) Short k
+abbrev pub within : ℕ → List ℕ → Command → Found
+within n o k = cond (ltb (length o) n) (Err missing.Short) (Ok k)
 
--- an opening: 04 "counts as 01 throughout", and only its operands are more
-unfoldable pub opening_of : Bool → List ℕ → Command
-unfolding settings_of carry_settings_of
-opening_of false o = within 37 o (Open (settings_of o) false)
-opening_of true o = within 38 o (Open (carry_settings_of o) true)
-
--- what stands at the front of the bytes; 05 has no operands (R-13). Refusal 1 where the command byte is none of the listed ones
-unfoldable pub decoded : List ℕ → Command
-unfolding opening_of begin_args_of step_args_of
+-- what stands at the front of the bytes; 04 "counts as 01 throughout", and only its operands are more; 05 has no operands (R-13). Refusal 1
+-- where the command byte is none of the listed ones
+unfoldable pub decoded : List ℕ → Found
+unfolding settings_of carry_settings_of begin_args_of step_args_of
 decoded s =
-    cond (ltb (length s) 1) End
-    (cond (eqb (get_or s 0 0) 1) (opening_of false (drop 1 s))
+    cond (ltb (length s) 1) (Err missing.End)
+    (cond (eqb (get_or s 0 0) 1) (within 37 (drop 1 s) (Open (settings_of (drop 1 s))))
     (cond (eqb (get_or s 0 0) 2) (within 60 (drop 1 s) (Begin (begin_args_of (drop 1 s))))
     (cond (eqb (get_or s 0 0) 3) (within 24 (drop 1 s) (Step (step_args_of (drop 1 s))))
-    (cond (eqb (get_or s 0 0) 4) (opening_of true (drop 1 s))
-    (cond (eqb (get_or s 0 0) 5) Close
-    Unknown)))))
+    (cond (eqb (get_or s 0 0) 4) (within 38 (drop 1 s) (OpenCarry (carry_settings_of (drop 1 s))))
+    (cond (eqb (get_or s 0 0) 5) (Ok Close)
+    (Err missing.Unknown))))))
 
-abbrev pub open_size : Bool → ℕ
-open_size carries = cond carries 39 38
+-- how many bytes a command takes, its command byte counted
+abbrev pub command_size : Command → ℕ
+command_size (Open p) = 38
+command_size (OpenCarry p) = 39
+command_size (Begin b) = 61
+command_size (Step s) = 25
+command_size Close = 1
 
--- how many bytes a command takes, its command byte counted; none where the stream ends
-abbrev pub size_of : Command → ℕ
-size_of End = 0
-size_of (Open p carries) = open_size carries
-size_of (Begin b) = 61
-size_of (Step s) = 25
-size_of Unknown = 0
-size_of Short = 0
-size_of Close = 1
+-- and what stands at a place: none where no command does
+abbrev pub size_of : Found → ℕ
+size_of (Ok k) = command_size k
+size_of (Err m) = 0
+
+-- the operands of a step
+abbrev pub step_of : Found → Option StepArgs
+step_of (Ok (Open p)) = None
+step_of (Ok (OpenCarry p)) = None
+step_of (Ok (Begin b)) = None
+step_of (Ok (Step s)) = Some s
+step_of (Ok Close) = None
+step_of (Err m) = None
 
 -- whether it is a step
-abbrev pub is_step_of : Command → Bool
-is_step_of End = false
-is_step_of (Open p carries) = false
-is_step_of (Begin b) = false
-is_step_of (Step s) = true
-is_step_of Unknown = false
-is_step_of Short = false
-is_step_of Close = false
+abbrev pub is_step_of : Found → Bool
+is_step_of (Ok (Open p)) = false
+is_step_of (Ok (OpenCarry p)) = false
+is_step_of (Ok (Begin b)) = false
+is_step_of (Ok (Step s)) = true
+is_step_of (Ok Close) = false
+is_step_of (Err m) = false

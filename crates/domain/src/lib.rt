@@ -1,8 +1,6 @@
 // Document 01's limits, each named once; specs/Limits has the same numbers.
 
 // The most pulses that a train may be set to hold: `MAX_PULSES` of the Rust.
-#![tactic(auto)]
-
 pub const MAX_PULSES: u32 = 65_536;
 // The most slots of a list: a pulse and a gap for each of them.
 pub const MAX_SLOTS: usize = 2 * (MAX_PULSES as usize);

@@ -38,7 +38,7 @@ refine_due_within m a ring high on s h =
 
 pub see_within : (p : Settings) (a : At) (ring : List Float) (high before : Float) (s : Env) (pac : C32) → EnvWithin s → EnvWithin (see_of p a ring high before s pac).env
 unfolding see_of
-see_within p a ring high before s pac h = refine_due_within p.min_steps a ring high _ _ (advance_within _ _ s _ _ a.idx h)
+see_within p a ring high before s pac h = refine_due_within p.min_steps a ring high _ _ (advance_within _ s _ _ a.idx h)
 
 confirm_if_within : (due : Bool) (s : Env) → EnvWithin s → EnvWithin (confirm_if due s)
 unfolding confirm_if

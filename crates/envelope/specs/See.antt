@@ -4,15 +4,15 @@ use Rattle.std.specs.Prelude.{ℕ, Bool, cond, List, leb, eqb, Float}
 use Rattle.std.specs.Float.{binary32}
 use Rattle.std.specs.Float.Ieee.{add, sub, mul, lt, le, of_bits}
 use Rattle.arith.specs.declared.C32.{C32}
-use Rattle.arith.specs.Leaves.{midpoint_of, flush_of, cross_of, edge_of, cmul_conj_of}
+use Rattle.arith.specs.Leaves.{midpoint_of, flush_of, cross_of, edge_of, plus_of, cmul_conj_of}
 use Rattle.ook.specs.declared.Env.{Env}
 use Rattle.shared.specs.declared.Settings.{Settings}
 use Rattle.shared.specs.Params.{refine_at_of}
 use Rattle.shared.specs.Counts.{bit}
-use Rattle.run.specs.Run.{with_start, begins_of}
+use Rattle.run.specs.declared.Move.{Move}
+use Rattle.run.specs.Run.{with_start, meets_of, begins_of}
 use Rattle.ook.specs.Run.{env_of, advance_of, pac_run_of}
 use Rattle.ook.specs.Refine.{refine_of}
-use Rattle.ook.specs.Train.{plus_of}
 use Rattle.envelope.specs.declared.At.{At}
 use Rattle.envelope.specs.declared.Seen.{Seen}
 
@@ -58,14 +58,13 @@ see_of p a ring high e_prev s pac =
     let h : Float = hysteresis_of t in
     let thr : Float = threshold_of s.run.level t h in
     let on : Bool = on_of s.run.level a.e thr in
-    let same : Bool = eqb (bit on) s.run.level in
-    let short : Bool = eqb s.run.confirmed 0 in
+    let m : Move = meets_of s.run (bit on) in
     let d : C32 = cmul_conj_of a.x a.xp in
     record {
       on = on;
-      began = begins_of same short;
+      began = begins_of m;
       d = d;
       high = high_of on a.e (add binary32 t h) high;
-      env = refine_due_of p.min_steps a ring high on (advance_of same short s on (edge_of a.idx (cross_of e_prev a.e thr)) a.idx);
-      pac = pac_of on (pac_run_of same short on pac) d;
+      env = refine_due_of p.min_steps a ring high on (advance_of m s on (edge_of a.idx (cross_of e_prev a.e thr)) a.idx);
+      pac = pac_of on (pac_run_of m on pac) d;
     }

@@ -2,7 +2,7 @@
 // commands leaves them.
 #![tactic(auto)]
 
-ghost use Rattle.std.specs.Prelude.{◌≡◌, ◌%◌, ◌^◌};
+ghost use Rattle.std.specs.Prelude.{◌≡◌, Ok, ◌%◌, ◌^◌};
 ghost use Rattle.std.specs.Float.{binary32};
 ghost use Rattle.std.specs.Float.Ieee.{to_bits};
 ghost use Rattle.calls.specs.Turn.{Called, called};
@@ -34,7 +34,7 @@ fn single_at(x: u64) -> f32
 fn bits_of(x: f32) -> u64
     ensures { result ≡ to_bits binary32 x }
 {
-    ieee::bits_of_f32(x) as u64
+    u64::from(ieee::bits_of_f32(x))
 }
 
 // The leaves of f32 operands, by number.
@@ -61,13 +61,13 @@ fn of_doubles(op: u32, a: f64, b: f64) -> u64
     match op {
         0 => ieee::bits_of_f64(ieee::round(a)),
         1 => bits_of(ieee::narrow(a)),
-        2 => arith::to_u32(a) as u64,
-        3 => arith::to_u64(a),
-        4 => arith::whole(a) as u64,
+        2 => u64::from(std::num::saturating_f64_to_u32(a)),
+        3 => std::num::saturating_f64_to_u64(a),
+        4 => u64::from(arith::whole(a)),
         5 => arith::step_of(a),
-        6 => arith::width(a, b).0 as u64,
-        7 => arith::fsk_width(a, b).0 as u64,
-        8 => arith::run_fix(a).0 as u64,
+        6 => u64::from(arith::width(a, b).0),
+        7 => u64::from(arith::fsk_width(a, b).0),
+        8 => u64::from(arith::run_fix(a).0),
         _ => 0,
     }
 }
@@ -77,9 +77,9 @@ fn of_numbers(op: u32, n: u64, frac: f64) -> u64
     ensures { result ≡ leaf_at (numbers n frac) op }
 {
     match op {
-        0 => bits_of(arith::u32_to_f32(low(n))),
-        1 => ieee::bits_of_f64(arith::u64_to_f64(n)),
-        2 => arith::lead_len(low(n)) as u64,
+        0 => bits_of(std::num::nearest_u32_to_f32(low(n))),
+        1 => ieee::bits_of_f64(std::num::nearest_u64_to_f64(n)),
+        2 => u64::from(arith::lead_len(low(n))),
         3 => ieee::bits_of_f64(arith::edge(n, frac)),
         _ => 0,
     }
@@ -88,6 +88,7 @@ fn of_numbers(op: u32, n: u64, frac: f64) -> u64
 // The leaf of the number op on operands by bit pattern; 0 where there is none. The upper digit of op, to the base 16, says what the
 // operands are: f32, f64 or a whole number.
 #[unsafe(no_mangle)]
+#[tactic(auto, unfolding(crate::specs::Leaf::leaf_of))]
 pub extern "C" fn leaf(op: u32, x: u64, y: u64, z: u64) -> u64
     ensures { result ≡ leaf_of op x y z }
 {
@@ -113,38 +114,31 @@ pub extern "C" fn lane_buffers(
 ) -> usize
     ensures { LeftWithin commands.now result ook.old fsk.old ook.new fsk.new text.new }
 {
-    let l = lane::new_lane();
-    let (_, r) = calls::block(l, commands, true, ook, fsk, text);
+    let (_, r) = calls::block(lane::new_lane(), commands, true, ook, fsk, text);
     r.used
 }
 
 // The lane's answer to a command, a step's by the entry that is lent the lane.
 fn call(l: Lane, k: Command, ook: &mut [u32], fsk: &mut [u32]) -> Answer
-    ensures { ◌≡◌ {A = Called} (result, ook.new, fsk.new) (called (l, ook.old, fsk.old) k) }
+    ensures { ◌≡◌ {A = Called} (result, ook.new, fsk.new) (called (l, ook.old, fsk.old) (Ok k)) }
 {
     match k {
         Command::Step(s) => lent::step_by_lending(l, s, ook, fsk),
-        _ => calls::call(l, k, ook, fsk),
+        _ => calls::call(l, Ok(k), ook, fsk),
     }
 }
 
 // As `lane_buffers`, with no lines, and each step by the entry that is lent the lane. Each command goes on by its own length and
-// some end the loop, so there is no index or part of one size for a `for` to go through.
+// what is no command ends the loop, so there is no index or part of one size for a `for` to go through.
 #[unsafe(no_mangle)]
 pub extern "C" fn lane_buffers_lent(commands: &[u8], ook: &mut [u32], fsk: &mut [u32]) -> usize
     ensures { LeftWhole commands.now result ook.old fsk.old ook.new fsk.new }
 {
     let mut l = lane::new_lane();
     let mut used = 0;
-    while used < commands.len() {
-        let k = commands::decode_at(commands, used);
-        let size = commands::size_of(k);
-        if size == 0 {
-            break;
-        }
-        let a = call(l, k, ook, fsk);
-        l = a.lane;
-        used += size;
+    while let Ok(k) = commands::decode_at(commands, used) {
+        l = call(l, k, ook, fsk).lane;
+        used += k.size();
     }
     used
 }

@@ -5,7 +5,7 @@
 ghost use Rattle.std.specs.Prelude.{◌≤◌, ◌≡◌, length, take, drop};
 ghost use Rattle.stream.specs.Feeds.{Feeds};
 
-use stream::{Fed, Station};
+use stream::{Fed, Station, Stop};
 
 // Moves the bytes from `from` to `end` to the front, and answers how many they are.
 pub fn shift(buf: &mut [u8], from: usize, end: usize) -> usize
@@ -27,14 +27,18 @@ pub fn feed<S: Station>(
     requires { S.is_sound station.old }
     ensures feeds { Feeds S.machine (S.state station.old) (take end buf.old) last result (S.state station.new) buf.new text.new }
     ensures sound { S.is_sound station.new }
+    ensures same { S.lent station.new ≡ S.lent station.old }
 {
     let n = end.min(buf.len());
-    let r = station.block(&buf[..n], last, text);
+    let r = stream::block(station, &buf[..n], last, text);
+    let stop = match r.stop {
+        Stop::Waiting if last => Stop::Ended,
+        stop => stop,
+    };
     let left = shift(buf, r.used, n);
     Fed {
         left,
         at: r.at,
-        full: r.full,
-        done: r.ended | (last & !r.full),
+        stop,
     }
 }

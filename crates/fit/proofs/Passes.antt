@@ -1,4 +1,4 @@
--- The loop of `transitions` over the slots: its start, a turn and its end; and what a call of it gives; `try_transitions` likewise.
+-- The loop of `try_transitions` over the slots: its start, a turn and its end; `transitions` by it; and what a call of either gives.
 use Prim.Native.Nat.{ℕ, zero, suc, ◌+◌, ◌-◌, ◌<◌, ◌≤◌}
 use mathlib.Core.Bool.{Bool, true, false, cond}
 use mathlib.Core.List.{List, [], ◌∷◌}
@@ -12,6 +12,7 @@ use borrow.Author.Tests.{lt-ltb, le-ltb}
 use lib.Ieee.{Float}
 use Rattle.std.specs.List.{FoldsTo}
 use Rattle.std.specs.Prelude.{Option, Some, None, option_and_then}
+use Rattle.std.specs.Option.{IsSome, IsSomeAnd, unwrap_or}
 use Rattle.fit.specs.Slots.{time_of, fix, last_rise_below, also, times, fold, CallableInFold, IsSomeOf, TryFoldsTo}
 
 -- ---- the transitions from the slot i on
@@ -55,12 +56,6 @@ module _ {S R : Type 0} {pre : S → Float → Type 0} {some : S → Float → S
   pub left_call : pre s x
   left_call = rw e (calls g h l).0
 
-module _ {S : Type 0} {pre : S → Float → Type 0} {post : S → Float → S → Type 0} {first : S} {ends : List ℕ} {i before : ℕ} {s : S} (g : Left (CallableInFold pre post) (FoldsTo post) first ends i before s) {x : Float} (h : i < length ends) (l : before < get_or ends i 0) (e : x ≡ time_of (fix (get_or ends i 0))) where
-  pub left_rise : {r : S} → post s x r → Left (CallableInFold pre post) (FoldsTo post) first ends (i + 1) (get_or ends i 0) r
-  left_rise {r} p =
-      let q : post s (time_of (fix (get_or ends i 0))) r = subst (λ (z : Float). post s z r) e p in
-      record { callable = (calls g h l).1 r q; same = λ last f. gives g h l last (r, q, f) }
-
 module _ {S : Type 0} {pre : S → Float → Type 0} {post : S → Float → Option S → Type 0} {first : S} {ends : List ℕ} {i before : ℕ} {s : S} (g : Left (CallableInFold pre (IsSomeOf post)) (TryFoldsTo post) first ends i before s) {x : Float} (h : i < length ends) (l : before < get_or ends i 0) (e : x ≡ time_of (fix (get_or ends i 0))) where
   at_slot : (o : Option S) → post s x o → post s (time_of (fix (get_or ends i 0))) o
   at_slot o p = subst (λ (z : Float). post s z o) e p
@@ -70,6 +65,24 @@ module _ {S : Type 0} {pre : S → Float → Type 0} {post : S → Float → Opt
 
   pub left_stop : post s x None → TryFoldsTo post first (times 0 ends) None
   left_stop p = gives g h l None (None, at_slot None p, refl)
+
+-- ---- `transitions` by `try_transitions`: what its step gives is never none
+pub always_callable : {S : Type 0} {pre pre' : S → Float → Type 0} {post some : S → Float → S → Type 0} → ((s : S) (x : Float) (r : S) → some s x r → post s x r) → ((s : S) (x : Float) → pre s x → pre' s x)
+    → (s : S) (xs : List Float) → CallableInFold pre post s xs → CallableInFold pre' some s xs
+always_callable same may s [] h = tt
+always_callable same may s (x ∷ xs) h = (may s x h.0, λ r p. always_callable same may r xs (h.1 r (same s x r p)))
+
+module _ {S : Type 0} {post' : S → Float → Option S → Type 0} where
+  pub always_some : ((s : S) (x : Float) (o : Option S) → post' s x o → IsSome o) → (s : S) (xs : List Float) (o : Option S) → TryFoldsTo post' s xs o → IsSome o
+  always_some is s [] o e = subst IsSome (sym e) refl
+  always_some is s (x ∷ xs) o (None, p, e) = let z : ◌≡◌ {A = Bool} false true = is s x None p in absurd (mathlib.Core.Bool.true≢false (sym z))
+  always_some is s (x ∷ xs) o (Some m, p, e) = always_some is m xs o e
+
+  pub always_folded : {post : S → Float → S → Type 0} → ((s : S) (x : Float) (o : Option S) → post' s x o → IsSomeAnd o (post s x)) → (s : S) (xs : List Float) (o : Option S) → TryFoldsTo post' s xs o
+      → (v : S) → o ≡ Some v → FoldsTo post s xs v
+  always_folded same s [] o e v d = ap (λ (q : Option S). unwrap_or q s) (sym e ∙ d)
+  always_folded same s (x ∷ xs) o (None, p, e) v d = absurd (same s x None p)
+  always_folded same s (x ∷ xs) o (Some m, p, e) v d = (m, same s x (Some m) p, always_folded same m xs o e v d)
 
 -- ---- a call of `transitions` or `try_transitions` whose step is a function
 pub callable : {S : Type 0} (pre : S → Float → Type 0) (post : S → Float → S → Type 0) → ((s : S) (x : Float) → pre s x) → (s : S) (xs : List Float) → CallableInFold pre post s xs

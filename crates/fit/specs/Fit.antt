@@ -103,10 +103,11 @@ check_on a t c x = option_and_then (λ d. check_step a t d x) c
 abbrev pub no_check : Check
 no_check = record { cost = zero64; last = no_last }
 
--- the grid with its cost where the check passed, and no grid where it did not
+-- the grid of a check that passed, with its cost
 unfoldable pub answer_of : Float → Float → Check → Grid
 answer_of a t c = record { a = a; t = t; cost = c.cost }
 
+-- the grid with its cost where the check passed, and no grid where it did not
 unfoldable pub check_of : List Float → Float → Float → Option Grid
 check_of ts a t = option_map (answer_of a t) (fold (check_on a t) (Some no_check) ts)
 

@@ -18,42 +18,25 @@ const RUN_TOL: f64 = 0.4;
 // ---- the transitions
 
 // The 64ths of a slot as steps.
+#[tactic(auto, unfolding(crate::specs::Slots::time_of))]
 pub fn time_of(v: arith::Fix64) -> f64
     ensures { result ≡ time_of v }
 {
-    v.0 as f64 / arith::RUN_FIX
+    f64::from(v.0) / arith::RUN_FIX
 }
 
 // The index of the last slot that is above the one before it, or 0: the transitions lie before it.
 pub fn last_rise(slots: &[u32]) -> usize
     ensures { (result ≡ last_rise slots.now) × (result ≤ length slots.now) }
 {
-    for i in (1..slots.len()).rev() {
-        if slots[i - 1] < slots[i] {
-            return i;
-        }
-    }
-    0
+    (1..slots.len())
+        .rev()
+        .find(|&i| slots[i - 1] < slots[i])
+        .unwrap_or(0)
 }
 
-// `step` over the transitions: a slot that is above the one before it ends a run, and its time is a transition.
-pub fn transitions<S, F: Fn(S, f64) -> S>(ends: &[u32], first: S, step: F) -> S
-    requires { CallableInFold (F.pre step) (F.post step) first (times 0 ends.now) }
-    ensures { FoldsTo (F.post step) first (times 0 ends.now) result }
-{
-    let mut s = first;
-    let mut before: u32 = 0;
-    for &v in ends {
-        if before < v {
-            s = step(s, time_of(arith::Fix64(v)));
-        }
-        before = v;
-    }
-    s
-}
-
-// The same, up to the first transition where `step` gives none. A function of its own, and not `transitions` over an Option: after a
-// transition that is off a grid the others need not be walked, which `lane_fsk_widths` feels (3.6 % more instructions at 600 slots).
+// `step` over the transitions, up to the first where it gives none: a slot that is above the one before it ends a run, and its time is a
+// transition.
 fn try_transitions<S, F: Fn(S, f64) -> Option<S>>(ends: &[u32], first: S, step: F) -> Option<S>
     requires { CallableInFold (F.pre step) (IsSomeOf (F.post step)) first (times 0 ends.now) }
     ensures { TryFoldsTo (F.post step) first (times 0 ends.now) result }
@@ -69,9 +52,21 @@ fn try_transitions<S, F: Fn(S, f64) -> Option<S>>(ends: &[u32], first: S, step: 
     Some(s)
 }
 
+// `step` over all transitions.
+pub fn transitions<S, F: Fn(S, f64) -> S>(ends: &[u32], first: S, step: F) -> S
+    requires { CallableInFold (F.pre step) (F.post step) first (times 0 ends.now) }
+    ensures { FoldsTo (F.post step) first (times 0 ends.now) result }
+{
+    let always = |s: S, x: f64| -> Option<S>
+        requires { F.pre step s x }
+    { Some(step(s, x)) };
+    try_transitions(ends, first, always).unwrap()
+}
+
 // ---- the fit of a line
 
 // How many symbols of t steps a run of d steps stands for, to the nearest and at least one.
+#[tactic(auto, unfolding(crate::specs::Fit::symbols_of))]
 pub fn symbols(d: f64, t: f64) -> f64
     ensures { result ≡ symbols_of d t }
 {
@@ -95,6 +90,19 @@ impl Last {
             None => self.k,
         }
     }
+
+    // The same, where the run that ends at x is near its whole number of symbols of t steps; at the first transition no run ends.
+    #[tactic(auto, using(arith::proofs::Magnitude::is_magnitude), unfolding(crate::specs::Fit::k_after, crate::specs::Fit::run_near, crate::specs::Fit::run_after))]
+    fn run_after(self, x: f64, t: f64) -> Option<f64>
+        ensures { result ≡ run_after self.prev self.k x t }
+    {
+        let Some(tp) = self.prev else {
+            return Some(self.k);
+        };
+        let d = x - tp;
+        let n = symbols(d, t);
+        ((d - n * t).abs() <= RUN_TOL * t).then_some(self.k + n)
+    }
 }
 
 // The sums of a fit over the transitions so far, by the names of the Rust: of 1, k, k * k, t and k * t, where k is the symbol number of
@@ -109,21 +117,6 @@ pub struct Sums {
     pub last: Last,
 }
 
-// The transition x is one more, for the symbol t steps long.
-fn fit_step(s: Sums, x: f64, t: f64) -> Sums
-    ensures { result ≡ fit_step t s x }
-{
-    let k = s.last.k_after(x, t);
-    Sums {
-        n: s.n + 1.0,
-        sk: s.sk + k,
-        skk: s.skk + k * k,
-        st: s.st + x,
-        skt: s.skt + k * x,
-        last: Last { k, prev: Some(x) },
-    }
-}
-
 // The line a + k t.
 #[derive(Clone, Copy)]
 pub struct Line {
@@ -131,42 +124,60 @@ pub struct Line {
     pub t: f64,
 }
 
-// The line of the symbol t through the sums: none where t is not above 0.
-fn line_with(s: Sums, t: f64) -> Option<Line>
-    ensures { result ≡ line_with s t }
-{
-    if t > 0.0 {
-        return Some(Line {
-            a: (s.st - t * s.sk) / s.n,
-            t,
-        });
+impl Sums {
+    // The transition x is one more, for the symbol t steps long.
+    #[tactic(auto, unfolding(crate::specs::Fit::fit_step))]
+    fn fit_step(self, x: f64, t: f64) -> Sums
+        ensures { result ≡ fit_step t self x }
+    {
+        let k = self.last.k_after(x, t);
+        Sums {
+            n: self.n + 1.0,
+            sk: self.sk + k,
+            skk: self.skk + k * k,
+            st: self.st + x,
+            skt: self.skt + k * x,
+            last: Last { k, prev: Some(x) },
+        }
     }
-    None
-}
 
-// The least-squares line through the sums, where it rises.
-fn line_of(s: Sums) -> Option<Line>
-    ensures { result ≡ line_of s }
-{
-    let det = s.n * s.skk - s.sk * s.sk;
-    if det <= 0.0 {
-        return None;
+    // The line of the symbol t through the sums: none where t is not above 0.
+    #[tactic(auto, unfolding(crate::specs::Fit::line_with))]
+    fn line_with(self, t: f64) -> Option<Line>
+        ensures { result ≡ line_with self t }
+    {
+        (t > 0.0).then_some(Line {
+            a: (self.st - t * self.sk) / self.n,
+            t,
+        })
     }
-    line_with(s, (s.n * s.skt - s.sk * s.st) / det)
+
+    // The least-squares line through the sums, where it rises.
+    #[tactic(auto, unfolding(crate::specs::Fit::line_of))]
+    fn line(self) -> Option<Line>
+        ensures { result ≡ line_of self }
+    {
+        let det = self.n * self.skk - self.sk * self.sk;
+        if det <= 0.0 {
+            return None;
+        }
+        self.line_with((self.n * self.skt - self.sk * self.st) / det)
+    }
 }
 
 // The sums of all transitions.
 pub fn fit_sums(ends: &[u32], t: f64) -> Sums
     ensures { result ≡ sums_of t (times 0 ends.now) }
 {
-    transitions(ends, Sums::default(), |s, x| fit_step(s, x, t))
+    transitions(ends, Sums::default(), |s, x| s.fit_step(x, t))
 }
 
 // The line of the transitions, their runs counted in symbols of t steps.
+#[tactic(auto, unfolding(crate::specs::Fit::fit_of))]
 pub fn fit_with(ends: &[u32], t: f64) -> Option<Line>
     ensures { result ≡ fit_of (times 0 ends.now) t }
 {
-    line_of(fit_sums(ends, t))
+    fit_sums(ends, t).line()
 }
 
 // ---- the check of a grid
@@ -179,19 +190,6 @@ pub struct Grid {
     pub cost: f64,
 }
 
-// The symbol number at the transition x, where the run that ends there is near its whole number of symbols of t steps; at the first
-// transition no run ends.
-fn run_after(last: Last, x: f64, t: f64) -> Option<f64>
-    ensures { result ≡ run_after last.prev last.k x t }
-{
-    let Some(tp) = last.prev else {
-        return Some(last.k);
-    };
-    let d = x - tp;
-    let n = symbols(d, t);
-    (arith::abs64(d - n * t) <= RUN_TOL * t).then_some(last.k + n)
-}
-
 // What the check of a grid found so far: the sum of the squared distances in symbols, and the last transition.
 #[derive(Clone, Copy, Default)]
 pub struct Check {
@@ -199,29 +197,33 @@ pub struct Check {
     pub last: Last,
 }
 
-// The transition x, where the run before it is near its whole number of symbols and x is near its grid point.
-fn check_step(c: Check, x: f64, a: f64, t: f64) -> Option<Check>
-    ensures { result ≡ check_step a t c x }
-{
-    let k = run_after(c.last, x, t)?;
-    let r = (x - (a + k * t)) / t;
-    (arith::abs64(r) <= GRID_TOL).then_some(Check {
-        cost: c.cost + r * r,
-        last: Last { k, prev: Some(x) },
-    })
+impl Check {
+    // The transition x, where the run before it is near its whole number of symbols and x is near its grid point.
+    #[tactic(auto, using(arith::proofs::Magnitude::is_magnitude), unfolding(crate::specs::Fit::check_step))]
+    fn check_step(self, x: f64, a: f64, t: f64) -> Option<Check>
+        ensures { result ≡ check_step a t self x }
+    {
+        let k = self.last.run_after(x, t)?;
+        let r = (x - (a + k * t)) / t;
+        (r.abs() <= GRID_TOL).then_some(Check {
+            cost: self.cost + r * r,
+            last: Last { k, prev: Some(x) },
+        })
+    }
 }
 
 // The grid a + k t, if all transitions and all runs keep within the two limits. The first that does not ends the walk.
 fn grid_check(ends: &[u32], a: f64, t: f64) -> Option<Grid>
     ensures { result ≡ check_of (times 0 ends.now) a t }
 {
-    let c = try_transitions(ends, Check::default(), |c, x| check_step(c, x, a, t))?;
+    let c = try_transitions(ends, Check::default(), |c, x| c.check_step(x, a, t))?;
     Some(Grid { a, t, cost: c.cost })
 }
 
 // ---- the grid of a guess
 
 // The check of the fit with the first fit's symbol.
+#[tactic(auto, unfolding(crate::specs::Fit::second_of, crate::specs::Fit::check_line))]
 pub fn second_fit(ends: &[u32], first: Option<Line>) -> Option<Grid>
     ensures { result ≡ second_of (times 0 ends.now) first }
 {
@@ -236,7 +238,7 @@ pub struct Fitted {
     pub grid: Option<Grid>,
 }
 
-// The pattern of a number, which has that number alone.
+// The pattern of a number: no other number has it.
 fn pattern(t: f64) -> u64
     ensures { of_bits binary64 result ≡ t }
 {
@@ -246,6 +248,7 @@ fn pattern(t: f64) -> u64
 // The grid by least squares: the guess tells how many symbols each run has, a line through the transitions gives a better symbol, and with
 // that one the runs are counted and fitted again. Where the first fit has the symbol of the mean's first fit, the second is the mean's
 // too, and its grid is known.
+#[tactic(auto, unfolding(crate::specs::Fit::grid_fit_of))]
 pub fn grid_fit(ends: &[u32], mean: Fitted, guess: f64) -> Option<Grid>
     requires { Known ends.now mean }
     ensures { result ≡ grid_fit_of (times 0 ends.now) guess }

@@ -2,30 +2,26 @@
 #![tactic(auto)]
 
 ghost use Rattle.std.specs.Prelude.{◌≡◌, ◌+◌, ◌-◌, ◌*◌, ◌<◌, List, slice_index, Float};
+ghost use Rattle.shared.specs.declared.Out.{Out};
 ghost use Rattle.frame_end.specs.End.{is_split_of, enough_runs_of, is_frame_of, last_run_of, close_pair_of, widths_in_of, carrier_of, out_of, end_frame_of};
 ghost use Rattle.frame_end.specs.Cut.{gap_at_of, keep_next_of, keep_before_of, start_kept_of, cut_train_of};
 ghost use Rattle.frame_end.specs.Done.{frame_done_of};
-ghost use Rattle.shared.specs.Core.{carrier_in, whole_out};
+ghost use Rattle.shared.specs.Core.{whole_out};
 ghost use Rattle.ook.specs.Core.{whole_ended};
 ghost use Rattle.fsk.specs.Core.{whole_frame};
-ghost use Rattle.frame_end.specs.Core.{whole_framed, whole_body};
+ghost use Rattle.frame_end.specs.Core.{framed_in, whole_body};
 
 use arith::C32;
-use fsk::{Cand, CandCore, Committed, FrameCore, FrameOf, Runs};
+use fsk::{CandCore, Committed, FrameCore, FrameOf, Levels, Runs};
 use ook::{EndedCore, Train};
-use shared::{Flat, Out, OutCore, Settings};
+use shared::{Carrier, OutCore, Settings};
 
-// Whether a presence was a frame, the frame, and the record of frames.
+// The frame that a presence was, and its record.
 #[derive(Clone, Copy)]
-pub struct FramedOf<C, O> {
-    pub is_fsk: bool,
-    pub frame: FrameOf<C>,
-    pub out: O,
+pub struct FramedCore {
+    pub frame: FrameCore,
+    pub out: OutCore,
 }
-
-pub type Framed = FramedOf<Cand, Out>;
-
-pub type FramedCore = FramedOf<CandCore, OutCore>;
 
 // Where the pulses before a frame end: the time after the last kept one and its gap, how many, and one past the last.
 #[derive(Clone, Copy)]
@@ -45,15 +41,13 @@ pub struct BodyOf<C, O> {
     pub out_fsk: O,
 }
 
-pub type Body = BodyOf<Cand, Out>;
-
 pub type BodyCore = BodyOf<CandCore, OutCore>;
 
 #[tactic(auto, unfolding(crate::specs::End::is_split_of))]
-fn is_split(phase: u32, hi: f32, lo: f32, least: f32) -> bool
-    ensures { result ≡ is_split_of phase hi lo least }
+fn is_split(phase: u32, l: Levels, least: f32) -> bool
+    ensures { result ≡ is_split_of phase l.f_hi l.f_lo least }
 {
-    phase == 1 && hi - lo >= least
+    phase == 1 && l.f_hi - l.f_lo >= least
 }
 
 #[tactic(auto, unfolding(crate::specs::End::enough_runs_of, shared::specs::Counts::inc))]
@@ -75,35 +69,29 @@ fn is_frame(mode: u32, split: bool, enough: bool) -> bool
 fn last_run(max: u32, phase: u32, r: Runs, c: Committed, end: f64, fsk: &mut [u32]) -> Committed
     ensures { (result, fsk.new) ≡ last_run_of max phase r c end fsk.old }
 {
-    let first = phase == 0;
-    if first {
-        return fsk::fsk_commit(max, c, true, r.run.t_run, end, fsk);
-    }
     let upper = r.run.level == 1;
-    let has = r.fsk_has_prev == 1;
-    if has {
-        return fsk::fsk_commit(max, c, !upper, r.run.t_prev, end, fsk);
+    if phase == 0 {
+        c.commit(max, true, r.run.t_run, end, fsk)
+    } else if r.fsk_has_prev == 1 {
+        c.commit(max, !upper, r.run.t_prev, end, fsk)
+    } else {
+        c.commit(max, upper, r.run.t_run, end, fsk)
     }
-    fsk::fsk_commit(max, c, upper, r.run.t_run, end, fsk)
 }
 
 #[tactic(auto, unfolding(crate::specs::End::close_pair_of, shared::specs::Counts::inc))]
-fn close_pair(c: Committed, fsk: &mut [u32]) -> Committed
+fn close_open(c: Committed, fsk: &mut [u32]) -> Committed
     ensures { (result, fsk.new) ≡ close_pair_of c fsk.old }
 {
-    let waits = c.fsk_open == 1;
-    if waits {
-        fsk::put_end(fsk, 2 * (c.fsk_n as usize) + 1, c.f_origin, c.f_last);
-        let n = c.fsk_n.wrapping_add(1);
-        let mut d = c;
-        d.fsk_n = n;
-        d.fsk_open = 0;
-        return d;
+    if c.fsk_open == 1 {
+        c.close_pair(c.f_last, fsk)
+    } else {
+        c
     }
-    c
 }
 
 // The first n slots become widths; none where there are not so many. A test of the length, as in shared::put.
+#[tactic(auto, unfolding(crate::specs::End::widths_in_of))]
 fn widths_in(fsk: &mut [u32], n: usize)
     ensures { fsk.new ≡ widths_in_of n fsk.old }
 {
@@ -113,29 +101,25 @@ fn widths_in(fsk: &mut [u32], n: usize)
 }
 
 #[tactic(auto, unfolding(crate::specs::End::carrier_of))]
-fn carrier_of(phase: u32, hi: f32, lo: f32, pac: C32) -> Flat
-    ensures { carrier_in result ≡ carrier_of phase hi lo pac }
+fn carrier_of(phase: u32, l: Levels, pac: C32) -> Carrier
+    ensures { result ≡ carrier_of phase l.f_hi l.f_lo pac }
 {
-    let after = phase == 1;
-    if after {
-        let m = arith::midpoint(hi, lo);
-        return Flat::angle(m);
+    if phase == 1 {
+        Carrier::Angle(arith::midpoint(l.f_hi, l.f_lo))
+    } else {
+        Carrier::Vector(pac.re, pac.im)
     }
-    Flat::vector(pac.re, pac.im)
 }
 
 #[tactic(auto, unfolding(crate::specs::End::out_of))]
-fn out_of(start: f64, end: f64, c: Committed, high: f32, carrier: Flat) -> OutCore
-    ensures { whole_out result ≡ out_of start end c high (carrier_in carrier) }
+fn out_of(start: f64, end: f64, c: Committed, high: f32, carrier: Carrier) -> OutCore
+    ensures { whole_out result ≡ out_of start end c high carrier }
 {
-    let i = arith::step_of(start);
-    let e = arith::step_of(end);
-    let cut = u32::from(c.fsk_full == 1);
     OutCore {
-        index: i,
-        end: e,
+        index: arith::step_of(start),
+        end: arith::step_of(end),
         state: 1,
-        cut,
+        cut: u32::from(c.fsk_full == 1),
         pairs: c.fsk_n,
         level: high,
         fsk: 1,
@@ -143,6 +127,7 @@ fn out_of(start: f64, end: f64, c: Committed, high: f32, carrier: Flat) -> OutCo
     }
 }
 
+// The end of a presence that was a frame; None where it was none.
 #[tactic(auto, unfolding(crate::specs::End::end_frame_of))]
 pub fn end_frame(
     p: Settings,
@@ -151,37 +136,27 @@ pub fn end_frame(
     pac: C32,
     start: f64,
     end: f64,
-    out: OutCore,
     fsk: &mut [u32],
-) -> FramedCore
-    ensures { (cs : List Float) → (whole_framed cs result, fsk.new) ≡ end_frame_of p (whole_frame cs fr) high pac start end (whole_out out) fsk.old }
+) -> Option<FramedCore>
+    ensures { (cs : List Float) (out : Out) → (framed_in (whole_frame cs fr) out cs result, fsk.new) ≡ end_frame_of p (whole_frame cs fr) high pac start end out fsk.old }
 {
-    let split = is_split(fr.fsk_phase, fr.levels.f_hi, fr.levels.f_lo, p.fsk_split);
+    let split = is_split(fr.fsk_phase, fr.levels, p.fsk_split);
     let enough = enough_runs(fr.done.fsk_runs, fr.runs.fsk_has_prev);
-    let yes = is_frame(p.mode, split, enough);
-    if yes {
-        let r = fr.runs;
-        let c0 = fr.done;
-        let c1 = last_run(p.max_pulses, fr.fsk_phase, r, c0, end, fsk);
-        let c2 = close_pair(c1, fsk);
-        widths_in(fsk, 2 * (c2.fsk_n as usize));
-        let k = carrier_of(fr.fsk_phase, fr.levels.f_hi, fr.levels.f_lo, pac);
-        let o = out_of(start, end, c2, high, k);
-        let mut n = fr;
-        n.done = c2;
-        return FramedCore {
-            is_fsk: true,
-            frame: n,
-            out: o,
-        };
-    }
-    FramedCore {
-        is_fsk: false,
-        frame: fr,
-        out,
+    if is_frame(p.mode, split, enough) {
+        let ended = last_run(p.max_pulses, fr.fsk_phase, fr.runs, fr.done, end, fsk);
+        let done = close_open(ended, fsk);
+        widths_in(fsk, 2 * (done.fsk_n as usize));
+        let carrier = carrier_of(fr.fsk_phase, fr.levels, pac);
+        Some(FramedCore {
+            frame: FrameCore { done, ..fr },
+            out: out_of(start, end, done, high, carrier),
+        })
+    } else {
+        None
     }
 }
 
+// The slot i, and 0 past the end: a lane may count more pulses than there are slots lent, so that its pulses are no pairs of the slice.
 fn get(s: &[u32], i: usize) -> u32
     ensures { result ≡ slice_index s.now i }
 {
@@ -192,11 +167,11 @@ fn get(s: &[u32], i: usize) -> u32
 fn gap_at(ook: &[u32], n: u32, k: u32) -> u32
     ensures { result ≡ gap_at_of ook.now n k }
 {
-    let whole = k < n;
-    if whole {
-        return get(ook, 2 * (k as usize) + 1);
+    if k < n {
+        get(ook, 2 * (k as usize) + 1)
+    } else {
+        0
     }
-    0
 }
 
 #[tactic(auto, unfolding(crate::specs::Cut::keep_next_of))]
@@ -204,13 +179,12 @@ fn keep_next(s: Kept, k: u32, pulse: u32, gap: u32) -> Kept
     requires { k < 4294967295 }
     ensures { result ≡ keep_next_of s k pulse gap }
 {
-    let w = arith::u64_to_f64(u64::from(pulse));
-    let g = arith::u64_to_f64(u64::from(gap));
-    let e = arith::step_of(s.t + w);
+    let w = f64::from(pulse);
+    let g = f64::from(gap);
     Kept {
         t: s.t + (w + g),
         keep: k + 1,
-        end: e,
+        end: arith::step_of(s.t + w),
     }
 }
 
@@ -218,15 +192,14 @@ fn keep_next(s: Kept, k: u32, pulse: u32, gap: u32) -> Kept
 fn start_kept(from: u64) -> Kept
     ensures { result ≡ start_kept_of from }
 {
-    let t = arith::u64_to_f64(from);
     Kept {
-        t,
+        t: std::num::nearest_u64_to_f64(from),
         keep: 0,
         end: from,
     }
 }
 
-// The pulses that start before limit.
+// The pulses that start before limit. A loop that breaks: by `try_fold` both its ends, `Ok` and `Err`, would hold the same struct.
 fn keep_before(ook: &[u32], n: u32, total: u32, from: u64, limit: f64) -> Kept
     ensures { result ≡ keep_before_of ook.now n total from limit }
 {
@@ -235,32 +208,34 @@ fn keep_before(ook: &[u32], n: u32, total: u32, from: u64, limit: f64) -> Kept
         if s.t >= limit {
             break;
         }
-        let pulse = get(ook, 2 * (k as usize));
-        let gap = gap_at(ook, n, k);
-        s = keep_next(s, k, pulse, gap);
+        s = keep_next(s, k, get(ook, 2 * (k as usize)), gap_at(ook, n, k));
     }
     s
 }
 
+// A frame began at start: the pulses before it end as a train of their own, and the others are dropped.
 #[tactic(auto, unfolding(crate::specs::Cut::cut_train_of))]
 pub fn cut_train(t: Train, high: f32, out: OutCore, start: f64, ook: &mut [u32]) -> EndedCore
     ensures { (whole_ended result, ook.new) ≡ cut_train_of t high (whole_out out) start ook.old }
 {
     let total = t.ook_n.wrapping_add(t.open);
     let k = keep_before(ook, t.ook_n, total, t.start, start - 2.0);
-    let none = k.keep == 0;
-    if none {
-        let z = ook::empty_train(t);
-        return EndedCore { train: z, out };
+    if k.keep == 0 {
+        return EndedCore {
+            train: t.emptied(),
+            out,
+        };
     }
-    let m = k.keep.saturating_sub(1);
-    let mut n = t;
-    n.ook_n = m;
-    n.open = 1;
-    n.pulse_end = k.end;
-    ook::end_train(n, high, out, ook)
+    let kept = Train {
+        ook_n: k.keep.saturating_sub(1),
+        open: 1,
+        pulse_end: k.end,
+        ..t
+    };
+    EndedCore { train: kept, out }.end_train(high, ook)
 }
 
+// The end of a presence: where it was a frame it counts, and in Auto mode it cuts the train of pulses.
 #[tactic(auto, unfolding(crate::specs::Done::frame_done_of, shared::specs::Counts::sat_add_of))]
 pub fn frame_done(
     p: Settings,
@@ -274,29 +249,22 @@ pub fn frame_done(
 ) -> BodyCore
     ensures { (cs : List Float) → (whole_body cs result, ook.new, fsk.new) ≡ frame_done_of p (whole_body cs b) high pac start end ook.old fsk.old }
 {
-    let fr = b.frame;
-    let o = b.out_fsk;
-    let f = end_frame(p, fr, high, pac, start, end, o, fsk);
-    let ff = f.frame;
-    let fo = f.out;
-    let mut n = b;
-    n.frame = ff;
-    n.out_fsk = fo;
-    if f.is_fsk {
-        let k = b.frames.saturating_add(1);
-        n.frames = k;
-        let auto = p.mode == 2;
-        if auto {
-            let t = b.train;
-            let oo = b.out_ook;
-            let e = cut_train(t, high, oo, start, ook);
-            let et = e.train;
-            let eo = e.out;
-            n.train = et;
-            n.out_ook = eo;
-            return n;
-        }
-        return n;
+    let Some(f) = end_frame(p, b.frame, high, pac, start, end, fsk) else {
+        return b;
+    };
+    let counted = BodyCore {
+        frame: f.frame,
+        frames: b.frames.saturating_add(1),
+        out_fsk: f.out,
+        ..b
+    };
+    if p.mode != 2 {
+        return counted;
     }
-    n
+    let cut = cut_train(b.train, high, b.out_ook, start, ook);
+    BodyCore {
+        train: cut.train,
+        out_ook: cut.out,
+        ..counted
+    }
 }

@@ -2,51 +2,52 @@
 // each over the part of the frame that it changes.
 #![tactic(auto)]
 
-ghost use Rattle.std.specs.Prelude.{◌≡◌, ◌+◌, ◌-◌, ◌*◌, ◌<◌, ◌≤◌, min, List, Float};
-ghost use Rattle.fsk.specs.Commit.{put_end_of, origin_of, count_run_of, upper_run_of, close_pair_of, lower_run_of, fsk_commit_of};
-ghost use Rattle.fsk.specs.Makers.{runs_of};
+ghost use Rattle.std.specs.Prelude.{◌≡◌, ◌≤◌, cond, not, List, Float, Some, None};
+ghost use Rattle.fsk.specs.Commit.{put_end_of, count_run_of, upper_run_of, close_pair_of, lower_run_of, fsk_commit_of};
 ghost use Rattle.fsk.specs.Core.{whole_cand, whole_frame};
-ghost use Rattle.run.specs.Run.{edge_at, start_run_of};
-ghost use Rattle.fsk.specs.RunStep.{lengthen_of, is_glitch_of, confirm_of, confirm_due_of, fsk_run_step_of};
+ghost use Rattle.shared.specs.Counts.{bit};
+ghost use Rattle.run.specs.Run.{edge_at};
+ghost use Rattle.fsk.specs.RunStep.{lengthen_of, meets_of, move_runs_of, confirm_of, confirm_due_of, fsk_run_step_of};
 ghost use Rattle.fsk.specs.Resolve.{begin_frame_of, slice_thr_of, past_of, first_past_of, cand_at_of, before_of, turn_at_of, hi_lo_of, other_level_of, is_early_of, open_runs_of, second_run_of, settle_of, fsk_resolve_of};
 
 use arith::C32;
-use run::{Crossing, Run};
+use run::{Crossing, Move, Run};
 
 // The low-passed product, and its frequency at the sample before.
-#[derive(Clone, Copy)]
+#[derive(Clone, Copy, Default)]
 pub struct Tone {
     pub fm: C32,
     pub f_prev: f32,
 }
 
 // The mean of the first level, over fsk_cnt samples.
-#[derive(Clone, Copy)]
+#[derive(Clone, Copy, Default)]
 pub struct Mean {
     pub f_ref: f32,
     pub fsk_cnt: u32,
 }
 
-// The candidates of the first transition, and the frequency before the first of them.
-#[derive(Clone, Copy)]
+// The candidates of the first transition, and the frequency before the first of them. The count fsk_cand is a lane's number, as in
+// shared::Settings.
+#[derive(Clone, Copy, Default)]
 pub struct Cand {
     pub cand_f: [f32; 8],
     pub cand_before: f32,
     pub fsk_cand: u32,
 }
 
-// The same in the core: the candidates are an array of their own there, which is lent where one is stored or read. A field less, so no
-// type parameter joins the two.
-#[derive(Clone, Copy)]
+// The same in the core: the candidates are an array of their own there, which is lent where one is stored or read. A struct of its own: as
+// one struct over the type of the array, `()` here, each of these made in the core would state a field that it has not.
+#[derive(Clone, Copy, Default)]
 pub struct CandCore {
     pub cand_before: f32,
     pub fsk_cand: u32,
 }
 
-// Flags in the structs below are numbers, as in shared::Settings.
+// Flags and counts in the structs below are numbers, as in shared::Settings.
 
 // The mean before the last restart of the first level, its time, and whether there was one.
-#[derive(Clone, Copy)]
+#[derive(Clone, Copy, Default)]
 pub struct Early {
     pub f_early: f32,
     pub t_early: f64,
@@ -54,21 +55,21 @@ pub struct Early {
 }
 
 // The two levels that the slicer follows.
-#[derive(Clone, Copy)]
+#[derive(Clone, Copy, Default)]
 pub struct Levels {
     pub f_hi: f32,
     pub f_lo: f32,
 }
 
 // The frequency run under way, and 1 where the run before it waits for this one to count: only then is it committed.
-#[derive(Clone, Copy)]
+#[derive(Clone, Copy, Default)]
 pub struct Runs {
     pub run: Run,
     pub fsk_has_prev: u32,
 }
 
 // The committed frequency runs of a frame: the slots hold their ends, in 64ths of a step after f_origin.
-#[derive(Clone, Copy)]
+#[derive(Clone, Copy, Default)]
 pub struct Committed {
     pub f_origin: f64,
     pub f_last: f64,
@@ -79,7 +80,7 @@ pub struct Committed {
 }
 
 // The frame under way, a caller's or the core's (ook::EndedOf); fsk_phase is 0 before its first transition, and 1 after.
-#[derive(Clone, Copy)]
+#[derive(Clone, Copy, Default)]
 pub struct FrameOf<C> {
     pub tone: Tone,
     pub fsk_phase: u32,
@@ -116,164 +117,179 @@ pub struct Opening {
     pub done: Committed,
 }
 
-#[tactic(auto, unfolding(crate::specs::Commit::origin_of))]
-fn origin_of(runs: u32, a: f64, origin: f64) -> f64
-    ensures { result ≡ origin_of runs a origin }
-{
-    let none = runs == 0;
-    if none {
-        return a;
-    }
-    origin
-}
-
-#[tactic(auto, unfolding(crate::specs::Commit::count_run_of, shared::specs::Counts::inc))]
-fn count_run(c: Committed, a: f64) -> Committed
-    ensures { result ≡ count_run_of c a }
-{
-    let o = origin_of(c.fsk_runs, a, c.f_origin);
-    let n = c.fsk_runs.wrapping_add(1);
-    let mut d = c;
-    d.f_origin = o;
-    d.fsk_runs = n;
-    d
-}
+// Below, `max` and the slots stay two parameters: a struct that lends the slots needs a ghost name for what was written, as `lent` of
+// stream::Station, in each contract, where the slice says it itself.
 
 // The end t of a run goes into a slot, in 64ths of a step after the origin.
 #[tactic(auto, unfolding(crate::specs::Commit::put_end_of))]
 pub fn put_end(fsk: &mut [u32], i: usize, origin: f64, t: f64)
     ensures { fsk.new ≡ put_end_of fsk.old i origin t }
 {
-    let v = arith::run_fix(t - origin);
-    shared::put(fsk, i, v.0);
+    shared::put(fsk, i, arith::run_fix(t - origin).0);
 }
 
-#[tactic(auto, unfolding(crate::specs::Commit::upper_run_of))]
-fn upper_run(max: u32, c: Committed, b: f64, fsk: &mut [u32]) -> Committed
-    ensures { (result, fsk.new) ≡ upper_run_of max c b fsk.old }
-{
-    let full = c.fsk_n >= max;
-    if full {
-        let mut d = c;
-        d.fsk_full = 1;
-        return d;
-    }
-    put_end(fsk, 2 * (c.fsk_n as usize), c.f_origin, b);
-    let mut d = c;
-    d.fsk_open = 1;
-    d.f_last = b;
-    d
-}
-
-// The second slot of the pair, which is whole then.
-#[tactic(auto, unfolding(shared::specs::Counts::inc))]
-fn close_pair(c: Committed, b: f64, fsk: &mut [u32]) -> Committed
-    ensures { (result, fsk.new) ≡ close_pair_of c b fsk.old }
-{
-    put_end(fsk, 2 * (c.fsk_n as usize) + 1, c.f_origin, b);
-    let n = c.fsk_n.wrapping_add(1);
-    let mut d = c;
-    d.fsk_n = n;
-    d.fsk_open = 0;
-    d.f_last = b;
-    d
-}
-
-#[tactic(auto, unfolding(crate::specs::Commit::lower_run_of))]
-fn lower_run(max: u32, c: Committed, a: f64, b: f64, fsk: &mut [u32]) -> Committed
-    ensures { (result, fsk.new) ≡ lower_run_of max c a b fsk.old }
-{
-    let first = c.fsk_open == 0;
-    if first {
-        let full = c.fsk_n >= max;
-        if full {
-            let mut d = c;
-            d.fsk_full = 1;
-            return d;
+impl Committed {
+    // One run more; the first sets the origin.
+    #[tactic(auto, unfolding(crate::specs::Commit::count_run_of, crate::specs::Commit::origin_of, shared::specs::Counts::inc))]
+    fn count_run(self, a: f64) -> Committed
+        ensures { result ≡ count_run_of self a }
+    {
+        Committed {
+            f_origin: if self.fsk_runs == 0 { a } else { self.f_origin },
+            fsk_runs: self.fsk_runs.wrapping_add(1),
+            ..self
         }
-        put_end(fsk, 2 * (c.fsk_n as usize), c.f_origin, a);
-        return close_pair(c, b, fsk);
     }
-    close_pair(c, b, fsk)
-}
 
-#[tactic(auto, unfolding(crate::specs::Commit::fsk_commit_of))]
-pub fn fsk_commit(max: u32, c: Committed, upper: bool, a: f64, b: f64, fsk: &mut [u32]) -> Committed
-    ensures { (result, fsk.new) ≡ fsk_commit_of max c upper a b fsk.old }
-{
-    let full = c.fsk_full == 1;
-    if full {
-        return c;
+    #[tactic(auto, unfolding(crate::specs::Commit::upper_run_of))]
+    fn upper_run(self, max: u32, b: f64, fsk: &mut [u32]) -> Committed
+        ensures { (result, fsk.new) ≡ upper_run_of max self b fsk.old }
+    {
+        if self.fsk_n >= max {
+            Committed {
+                fsk_full: 1,
+                ..self
+            }
+        } else {
+            put_end(fsk, 2 * (self.fsk_n as usize), self.f_origin, b);
+            Committed {
+                fsk_open: 1,
+                f_last: b,
+                ..self
+            }
+        }
     }
-    let w = arith::fsk_width(a, b);
-    let short = w.0 == 0;
-    if short {
-        return c;
-    }
-    let d = count_run(c, a);
-    if upper {
-        return upper_run(max, d, b, fsk);
-    }
-    lower_run(max, d, a, b, fsk)
-}
 
-// The run has lasted long enough: the one before it is final.
-#[tactic(auto, unfolding(crate::specs::RunStep::confirm_of))]
-fn confirm(max: u32, r: Runs, c: Committed, upper: bool, fsk: &mut [u32]) -> Ran
-    ensures { (result, fsk.new) ≡ confirm_of max r c upper fsk.old }
-{
-    let mut q = r;
-    q.run.confirmed = 1;
-    let has = r.fsk_has_prev == 1;
-    if has {
-        let d = fsk_commit(max, c, !upper, r.run.t_prev, r.run.t_run, fsk);
-        q.fsk_has_prev = 0;
-        return Ran { runs: q, done: d };
+    // The second slot of the pair, which is whole then.
+    #[tactic(auto, unfolding(shared::specs::Counts::inc))]
+    pub fn close_pair(self, b: f64, fsk: &mut [u32]) -> Committed
+        ensures { (result, fsk.new) ≡ close_pair_of self b fsk.old }
+    {
+        put_end(fsk, 2 * (self.fsk_n as usize) + 1, self.f_origin, b);
+        Committed {
+            fsk_n: self.fsk_n.wrapping_add(1),
+            fsk_open: 0,
+            f_last: b,
+            ..self
+        }
     }
-    Ran { runs: q, done: c }
-}
 
-#[tactic(auto, unfolding(crate::specs::RunStep::confirm_due_of))]
-fn confirm_due(max: u32, fsk_min: u32, r: Runs, c: Committed, upper: bool, fsk: &mut [u32]) -> Ran
-    ensures { (result, fsk.new) ≡ confirm_due_of max fsk_min r c upper fsk.old }
-{
-    let due = r.run.due(fsk_min);
-    if due {
-        return confirm(max, r, c, upper, fsk);
+    #[tactic(auto, unfolding(crate::specs::Commit::lower_run_of))]
+    fn lower_run(self, max: u32, a: f64, b: f64, fsk: &mut [u32]) -> Committed
+        ensures { (result, fsk.new) ≡ lower_run_of max self a b fsk.old }
+    {
+        if self.fsk_open != 0 {
+            self.close_pair(b, fsk)
+        } else if self.fsk_n >= max {
+            Committed {
+                fsk_full: 1,
+                ..self
+            }
+        } else {
+            put_end(fsk, 2 * (self.fsk_n as usize), self.f_origin, a);
+            self.close_pair(b, fsk)
+        }
     }
-    Ran { runs: r, done: c }
-}
 
-// One sample more.
-#[tactic(auto, unfolding(crate::specs::RunStep::lengthen_of))]
-pub fn lengthen(r: Runs) -> Runs
-    ensures { result ≡ lengthen_of r }
-{
-    Runs {
-        run: r.run.lengthen(),
-        ..r
-    }
-}
-
-// No run yet: the first will start at t.
-fn no_run(t: f64) -> Runs
-    ensures { result ≡ runs_of (start_run_of t) 0 }
-{
-    Runs {
-        run: Run::start_run(t),
-        fsk_has_prev: 0,
+    // A run from a to b, at the upper level or at the lower.
+    #[tactic(auto, unfolding(crate::specs::Commit::fsk_commit_of))]
+    pub fn commit(self, max: u32, upper: bool, a: f64, b: f64, fsk: &mut [u32]) -> Committed
+        ensures { (result, fsk.new) ≡ fsk_commit_of max self upper a b fsk.old }
+    {
+        if self.fsk_full == 1 || arith::fsk_width(a, b).0 == 0 {
+            self
+        } else if upper {
+            self.count_run(a).upper_run(max, b, fsk)
+        } else {
+            self.count_run(a).lower_run(max, a, b, fsk)
+        }
     }
 }
 
-// A run that is over before it counts is a glitch only where the run before it still waits: one that is committed does not go on.
-#[tactic(auto, unfolding(crate::specs::RunStep::is_glitch_of))]
-fn is_glitch(confirmed: u32, has_prev: u32) -> bool
-    ensures { result ≡ is_glitch_of confirmed has_prev }
-{
-    confirmed == 0 && has_prev == 1
+impl Ran {
+    // The run has lasted long enough: the one before it is final.
+    #[tactic(auto, unfolding(crate::specs::RunStep::confirm_of))]
+    fn confirm(self, max: u32, upper: bool, fsk: &mut [u32]) -> Ran
+        ensures { (result, fsk.new) ≡ confirm_of max self.runs self.done upper fsk.old }
+    {
+        let r = self.runs.run;
+        let run = Run { confirmed: 1, ..r };
+        if self.runs.fsk_has_prev == 1 {
+            let done = self.done.commit(max, !upper, r.t_prev, r.t_run, fsk);
+            Ran {
+                runs: Runs {
+                    run,
+                    fsk_has_prev: 0,
+                },
+                done,
+            }
+        } else {
+            Ran {
+                runs: Runs { run, ..self.runs },
+                ..self
+            }
+        }
+    }
+
+    #[tactic(auto, unfolding(crate::specs::RunStep::confirm_due_of))]
+    fn confirm_due(self, max: u32, fsk_min: u32, upper: bool, fsk: &mut [u32]) -> Ran
+        ensures { (result, fsk.new) ≡ confirm_due_of max fsk_min self.runs self.done upper fsk.old }
+    {
+        if self.runs.run.due(fsk_min) {
+            self.confirm(max, upper, fsk)
+        } else {
+            self
+        }
+    }
 }
 
-#[tactic(auto, unfolding(crate::specs::RunStep::confirm_due_of, run::specs::Run::due_of, crate::specs::RunStep::fsk_run_step_of, crate::specs::RunStep::lengthen_of, run::specs::Run::moved_of, run::specs::Run::rejoin_of))]
+impl Runs {
+    // One sample more.
+    #[tactic(auto, unfolding(crate::specs::RunStep::lengthen_of))]
+    pub fn lengthen(self) -> Runs
+        ensures { result ≡ lengthen_of self }
+    {
+        Runs {
+            run: self.run.lengthen(),
+            ..self
+        }
+    }
+
+    // What a sample of this level does to the run. One that is over before it counts is a glitch only where the run before it still waits:
+    // one that is committed does not go on.
+    #[tactic(auto, unfolding(crate::specs::RunStep::is_glitch_of))]
+    #[inline(always)]
+    fn meets(self, level: u32) -> Move
+        ensures { result ≡ meets_of self level }
+    {
+        if level == self.run.level {
+            Move::Same
+        } else if self.run.confirmed == 0 && self.fsk_has_prev == 1 {
+            Move::Glitch
+        } else {
+            Move::Begins
+        }
+    }
+
+    // The runs after a sample of this level: the one before a run that begins waits for it to count.
+    #[tactic(auto, unfolding(crate::specs::RunStep::lengthen_of))]
+    fn moved(self, level: u32, c: Crossing) -> Runs
+        ensures { result ≡ move_runs_of (meets_of self level) self level (edge_at c) }
+    {
+        let m = self.meets(level);
+        Runs {
+            run: self.run.moved(m, level, c),
+            fsk_has_prev: match m {
+                Move::Same => self.fsk_has_prev,
+                Move::Glitch => 0,
+                Move::Begins => 1,
+            },
+        }
+    }
+}
+
+// A sample of a frame whose levels are known: its frequency run after it, and what that commits.
+#[tactic(auto, unfolding(crate::specs::RunStep::fsk_run_step_of))]
 pub fn fsk_run_step(
     max: u32,
     fsk_min: u32,
@@ -285,88 +301,80 @@ pub fn fsk_run_step(
 ) -> Ran
     ensures { (result, fsk.new) ≡ fsk_run_step_of max fsk_min r done upper (edge_at c) fsk.old }
 {
-    let level = u32::from(upper);
-    let same = level == r.run.level;
-    if same {
-        let q = lengthen(r);
-        return confirm_due(max, fsk_min, q, done, upper, fsk);
-    }
-    let short = is_glitch(r.run.confirmed, r.fsk_has_prev);
-    if short {
-        let q = Runs {
-            run: r.run.rejoin(level),
-            fsk_has_prev: 0,
-        };
-        return Ran { runs: q, done };
-    }
-    let q = Runs {
-        run: r.run.begin_run(level, c.edge_at()),
-        fsk_has_prev: 1,
-    };
-    confirm_due(max, fsk_min, q, done, upper, fsk)
+    let runs = r.moved(u32::from(upper), c);
+    Ran { runs, done }.confirm_due(max, fsk_min, upper, fsk)
 }
 
+// A frame begins at the time t: no run and no level yet; f_origin and f_last stay, as in the Rust.
 #[tactic(auto, unfolding(crate::specs::Resolve::begin_frame_of))]
 pub fn begin_frame(fr: FrameCore, t: f64) -> FrameCore
     ensures { (cs : List Float) → whole_frame cs result ≡ begin_frame_of (whole_frame cs fr) t }
 {
-    let runs = no_run(t);
-    let mut done = fr.done;
-    done.fsk_open = 0;
-    done.fsk_n = 0;
-    done.fsk_runs = 0;
-    done.fsk_full = 0;
     FrameCore {
-        tone: Tone {
-            fm: C32 { re: 0.0, im: 0.0 },
-            f_prev: 0.0,
-        },
-        fsk_phase: 0,
-        mean: Mean {
-            f_ref: 0.0,
-            fsk_cnt: 0,
-        },
-        cand: CandCore {
-            cand_before: 0.0,
-            fsk_cand: 0,
-        },
         early: Early {
-            f_early: 0.0,
             t_early: t,
-            early: 0,
+            ..Early::default()
         },
-        levels: Levels {
-            f_hi: 0.0,
-            f_lo: 0.0,
+        runs: Runs {
+            run: Run::start_run(t),
+            ..Runs::default()
         },
-        runs,
-        done,
+        done: Committed {
+            f_origin: fr.done.f_origin,
+            f_last: fr.done.f_last,
+            ..Committed::default()
+        },
+        ..FrameCore::default()
     }
 }
 
 // Half the width of the slicer's hysteresis, as a part of the distance of the levels: as much of the swing as the envelope's.
 const FSK_HYSTERESIS: f32 = 0.0625;
 
-// The threshold between two levels, for a run at the upper or at the lower one.
-#[tactic(auto, unfolding(crate::specs::Resolve::slice_thr_of))]
-pub fn slice_thr(upper: bool, hi: f32, lo: f32) -> f32
-    ensures { result ≡ slice_thr_of upper hi lo }
-{
-    let mid = arith::midpoint(hi, lo);
-    if upper {
-        return mid - (hi - lo) * FSK_HYSTERESIS;
+impl Levels {
+    // The level before the first transition and the one after it.
+    #[tactic(auto, unfolding(crate::specs::Resolve::hi_lo_of))]
+    fn of(first_upper: bool, f_ref: f32, f: f32) -> Levels
+        ensures { result ≡ hi_lo_of first_upper f_ref f }
+    {
+        if first_upper {
+            Levels {
+                f_hi: f_ref,
+                f_lo: f,
+            }
+        } else {
+            Levels {
+                f_hi: f,
+                f_lo: f_ref,
+            }
+        }
     }
-    mid + (hi - lo) * FSK_HYSTERESIS
+
+    // The threshold between the two, for a run at the upper or at the lower one.
+    #[tactic(auto, unfolding(crate::specs::Resolve::slice_thr_of))]
+    pub fn slice_thr(self, upper: bool) -> f32
+        ensures { result ≡ slice_thr_of upper self.f_hi self.f_lo }
+    {
+        let mid = arith::midpoint(self.f_hi, self.f_lo);
+        let h = (self.f_hi - self.f_lo) * FSK_HYSTERESIS;
+        if upper { mid - h } else { mid + h }
+    }
+
+    // How far f is from the level after the first, as a part of the distance of the two.
+    #[tactic(auto, unfolding(crate::specs::Resolve::other_level_of))]
+    fn other_level(self, first_upper: bool, f: f32) -> f32
+        ensures { result ≡ other_level_of first_upper f self.f_hi self.f_lo }
+    {
+        let part = (f - self.f_lo) / (self.f_hi - self.f_lo);
+        if first_upper { part } else { 1.0 - part }
+    }
 }
 
 #[tactic(auto, unfolding(crate::specs::Resolve::past_of))]
 fn past(first_upper: bool, f: f32, thr: f32) -> bool
     ensures { result ≡ past_of first_upper f thr }
 {
-    if first_upper {
-        return f < thr;
-    }
-    f > thr
+    if first_upper { f < thr } else { f > thr }
 }
 
 // The first of n candidates past the threshold, or other.
@@ -374,12 +382,9 @@ fn first_past(first_upper: bool, thr: f32, cs: &[f32; 8], n: u32, other: u32) ->
     requires { n ≤ 8 }
     ensures { result ≡ first_past_of first_upper thr cs.now other n 0 }
 {
-    for j in 0..n {
-        if past(first_upper, cs[j as usize], thr) {
-            return j;
-        }
-    }
-    other
+    (0..n)
+        .find(|&j| past(first_upper, cs[j as usize], thr))
+        .unwrap_or(other)
 }
 
 #[tactic(auto, unfolding(crate::specs::Resolve::cand_at_of))]
@@ -394,11 +399,7 @@ fn cand_at(cs: &[f32; 8], j: u32, other: f32) -> f32
 fn before_of(cs: &[f32; 8], before: f32, j: u32) -> f32
     ensures { result ≡ before_of cs.now before j }
 {
-    let none = j == 0;
-    if none {
-        return before;
-    }
-    cand_at(cs, j.saturating_sub(1), before)
+    j.checked_sub(1).map_or(before, |i| cand_at(cs, i, before))
 }
 
 // The time of the transition, of which `second` samples are over at idx.
@@ -417,92 +418,59 @@ fn turn_at(first_upper: bool, thr: f32, c: CandCore, f: f32, idx: u64, cs: &[f32
     Turn { tc, second }
 }
 
-#[tactic(auto, unfolding(crate::specs::Resolve::hi_lo_of))]
-fn hi_lo(first_upper: bool, f_ref: f32, f: f32) -> Levels
-    ensures { result ≡ hi_lo_of first_upper f_ref f }
-{
-    if first_upper {
-        return Levels {
-            f_hi: f_ref,
-            f_lo: f,
-        };
-    }
-    Levels {
-        f_hi: f,
-        f_lo: f_ref,
-    }
-}
-
-#[tactic(auto, unfolding(crate::specs::Resolve::other_level_of))]
-fn other_level(first_upper: bool, f_early: f32, hi: f32, lo: f32) -> f32
-    ensures { result ≡ other_level_of first_upper f_early hi lo }
-{
-    if first_upper {
-        return (f_early - lo) / (hi - lo);
-    }
-    1.0 - (f_early - lo) / (hi - lo)
-}
-
 // How near the other level a short first run lies, as a part of the distance of the levels, and its least steps.
 const EARLY_TOL: f32 = 0.3;
 
 const EARLY_MIN: f64 = 2.0;
 
-// Whether a short first run before the last restart is the first run of the frame.
+// Where the first run of the frame ends, if it is a short one before the last restart.
 #[tactic(auto, unfolding(crate::specs::Resolve::is_early_of))]
-fn is_early(e: Early, first_upper: bool, hi: f32, lo: f32, from: f64) -> bool
-    ensures { result ≡ is_early_of e first_upper hi lo from }
+fn early_end(e: Early, first_upper: bool, l: Levels, from: f64) -> Option<f64>
+    ensures { result ≡ cond (is_early_of e first_upper l.f_hi l.f_lo from) (Some e.t_early) None }
 {
-    e.early == 1
-        && arith::abs(other_level(first_upper, e.f_early, hi, lo)) <= EARLY_TOL
-        && e.t_early - from >= EARLY_MIN
+    let early = e.early == 1
+        && arith::abs(l.other_level(first_upper, e.f_early)) <= EARLY_TOL
+        && e.t_early - from >= EARLY_MIN;
+    early.then_some(e.t_early)
 }
 
+// Such a run is committed, and the next one starts at its end.
 #[tactic(auto, unfolding(crate::specs::Resolve::open_runs_of))]
 fn open_runs(
     max: u32,
-    early: bool,
+    e: Early,
     first_upper: bool,
+    l: Levels,
     from: f64,
-    t_early: f64,
     c: Committed,
     fsk: &mut [u32],
 ) -> Opening
-    ensures { (result, fsk.new) ≡ open_runs_of max early first_upper from t_early c fsk.old }
+    ensures { (result, fsk.new) ≡ open_runs_of max (is_early_of e first_upper l.f_hi l.f_lo from) first_upper from e.t_early c fsk.old }
 {
-    if early {
-        let d = fsk_commit(max, c, !first_upper, from, t_early, fsk);
-        return Opening {
-            from: t_early,
-            done: d,
-        };
+    match early_end(e, first_upper, l, from) {
+        Some(t) => Opening {
+            from: t,
+            done: c.commit(max, !first_upper, from, t, fsk),
+        },
+        None => Opening { from, done: c },
     }
-    Opening { from, done: c }
 }
 
-// The second run, of t.second samples of the run so far.
-fn second_run(
-    first_upper: bool,
-    run: u32,
-    t: Turn,
-    from: f64,
-    confirmed: u32,
-    has_prev: u32,
-) -> Runs
-    ensures { result ≡ second_run_of first_upper run t from confirmed has_prev }
+// The second run, of t.second samples of the run so far: it counts at once where it is long, and else the one before it waits.
+#[tactic(auto, unfolding(shared::specs::Counts::bit))]
+fn second_run(first_upper: bool, run: u32, t: Turn, from: f64, long: bool) -> Runs
+    ensures { result ≡ second_run_of first_upper run t from (bit long) (bit (not long)) }
 {
-    let level = u32::from(!first_upper);
-    let prev = run.saturating_sub(t.second);
     Runs {
         run: Run {
-            level,
+            level: u32::from(!first_upper),
             run_len: t.second,
-            confirmed,
-            prev_len: prev,
+            confirmed: u32::from(long),
+            prev_len: run.saturating_sub(t.second),
             t_run: t.tc,
             t_prev: from,
         },
-        fsk_has_prev: has_prev,
+        fsk_has_prev: u32::from(!long),
     }
 }
 
@@ -519,17 +487,17 @@ fn settle(
 ) -> Ran
     ensures { (result, fsk.new) ≡ settle_of max fsk_min first_upper run t o fsk.old }
 {
-    let c = o.done;
     let long = t.second >= fsk_min;
-    if long {
-        let q = second_run(first_upper, run, t, o.from, 1, 0);
-        let d = fsk_commit(max, c, first_upper, o.from, t.tc, fsk);
-        return Ran { runs: q, done: d };
-    }
-    let q = second_run(first_upper, run, t, o.from, 0, 1);
-    Ran { runs: q, done: c }
+    let runs = second_run(first_upper, run, t, o.from, long);
+    let done = if long {
+        o.done.commit(max, first_upper, o.from, t.tc, fsk)
+    } else {
+        o.done
+    };
+    Ran { runs, done }
 }
 
+// The first transition of a frame is certain: its two levels, the end of its first run, and the second run under way.
 #[tactic(auto, unfolding(crate::specs::Resolve::fsk_resolve_of))]
 pub fn fsk_resolve(
     max: u32,
@@ -543,29 +511,16 @@ pub fn fsk_resolve(
     ensures { (whole_frame cs.now result, fsk.new) ≡ fsk_resolve_of max fsk_min (whole_frame cs.now fr) f idx fsk.old }
 {
     let first_upper = fr.mean.f_ref > f;
-    let l = hi_lo(first_upper, fr.mean.f_ref, f);
-    let thr = slice_thr(first_upper, l.f_hi, l.f_lo);
-    let c = fr.cand;
-    let t = turn_at(first_upper, thr, c, f, idx, cs);
-    let e = fr.early;
-    let early = is_early(e, first_upper, l.f_hi, l.f_lo, fr.runs.run.t_run);
-    let c0 = fr.done;
-    let o = open_runs(
-        max,
-        early,
-        first_upper,
-        fr.runs.run.t_run,
-        e.t_early,
-        c0,
-        fsk,
-    );
+    let from = fr.runs.run.t_run;
+    let l = Levels::of(first_upper, fr.mean.f_ref, f);
+    let t = turn_at(first_upper, l.slice_thr(first_upper), fr.cand, f, idx, cs);
+    let o = open_runs(max, fr.early, first_upper, l, from, fr.done, fsk);
     let s = settle(max, fsk_min, first_upper, fr.runs.run.run_len, t, o, fsk);
-    let sr = s.runs;
-    let sd = s.done;
-    let mut n = fr;
-    n.fsk_phase = 1;
-    n.levels = l;
-    n.runs = sr;
-    n.done = sd;
-    n
+    FrameCore {
+        fsk_phase: 1,
+        levels: l,
+        runs: s.runs,
+        done: s.done,
+        ..fr
+    }
 }

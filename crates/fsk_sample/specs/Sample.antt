@@ -34,6 +34,18 @@ away_of max_pulses fsk_min fr t m c idx fsk =
     (restart_of fr t m c idx, fsk)
     (fsk_resolve_of max_pulses fsk_min (seek_frame_of fr t m c fr.early) t.f_prev idx fsk))
 
+-- the same two as the code takes them, with tone, mean and candidates in the frame: n is seek_frame_of fr t m c fr.early
+abbrev pub restart_in : Frame → ℕ → Frame
+restart_in n idx = with_first n.tone (mean_of n.tone.f_prev 1) (clear_of n.cand) (restart_early_of n.early n.mean n.cand n.tone.f_prev idx) n.runs n
+
+abbrev pub away_in : ℕ → ℕ → Frame → ℕ → List ℕ → Frame × List ℕ
+away_in max_pulses fsk_min n idx fsk =
+    cond (nat_lt n.cand.fsk_cand fsk_min)
+    (n, fsk)
+    (cond (nat_lt n.mean.fsk_cnt fsk_min)
+    (restart_in n idx, fsk)
+    (fsk_resolve_of max_pulses fsk_min n n.tone.f_prev idx fsk))
+
 abbrev pub seek_by : Settings → ℕ → Frame → Tone → ℕ → Mean → List ℕ → Frame × List ℕ
 seek_by p fsk_min fr t idx m fsk =
     cond (far_from_of t.f_prev m.f_ref p.fsk_delta)

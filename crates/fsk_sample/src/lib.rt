@@ -4,7 +4,7 @@
 ghost use Rattle.std.specs.Prelude.{◌≡◌, ◌+◌, ◌-◌, ◌*◌, ◌<◌, min, List, Float};
 ghost use Rattle.fsk_sample.specs.Tone.{low_pass_of, tone_of, upper_of, follow_of};
 ghost use Rattle.fsk_sample.specs.Seek.{seed_of, average_of, start_of, before_if_of, push_cand_of, restart_at_of, restart_early_of, clear_of, far_from_of, store_of};
-ghost use Rattle.fsk_sample.specs.Sample.{seek_frame_of, restart_of, away_of, seek_of, fsk_sample_of, track_of};
+ghost use Rattle.fsk_sample.specs.Sample.{seek_frame_of, restart_in, away_in, seek_of, fsk_sample_of, track_of};
 ghost use Rattle.fsk.specs.Core.{whole_cand, whole_frame};
 
 use arith::C32;
@@ -32,9 +32,10 @@ fn tone_of(a: f32, high: f32, d: C32, e: f32, t: Tone) -> Tone
     let g = arith::a_gain(arith::max(e, AGC_FLOOR * high));
     let re = low_pass(t.fm.re, a, g, d.re);
     let im = low_pass(t.fm.im, a, g, d.im);
-    let f = arith::atan2_fast(im, re);
-    let m = C32 { re, im };
-    Tone { fm: m, f_prev: f }
+    Tone {
+        fm: C32 { re, im },
+        f_prev: arith::atan2_fast(im, re),
+    }
 }
 
 #[tactic(auto, unfolding(crate::specs::Tone::follow_of))]
@@ -42,14 +43,15 @@ fn follow(upper: bool, l: Levels, f: f32) -> Levels
     ensures { result ≡ follow_of upper l f }
 {
     if upper {
-        return Levels {
+        Levels {
             f_hi: l.f_hi + (f - l.f_hi) * FSK_RATIO,
-            f_lo: l.f_lo,
-        };
-    }
-    Levels {
-        f_hi: l.f_hi,
-        f_lo: l.f_lo + (f - l.f_lo) * FSK_RATIO,
+            ..l
+        }
+    } else {
+        Levels {
+            f_lo: l.f_lo + (f - l.f_lo) * FSK_RATIO,
+            ..l
+        }
     }
 }
 
@@ -59,9 +61,10 @@ fn seed(m: Mean, cand: u32, f: f32) -> Mean
     ensures { result ≡ seed_of m cand f }
 {
     if m.fsk_cnt == 0 && cand == 0 {
-        return Mean { f_ref: f, ..m };
+        Mean { f_ref: f, ..m }
+    } else {
+        m
     }
-    m
 }
 
 #[tactic(auto, unfolding(crate::specs::Seek::average_of, shared::specs::Counts::inc))]
@@ -69,7 +72,7 @@ fn average(m: Mean, f: f32) -> Mean
     ensures { result ≡ average_of m f }
 {
     let k = m.fsk_cnt.wrapping_add(1);
-    let n = arith::u32_to_f32(k.min(16));
+    let n = std::num::nearest_u32_to_f32(k.min(16));
     Mean {
         f_ref: m.f_ref + (f - m.f_ref) / n,
         fsk_cnt: k,
@@ -84,18 +87,8 @@ fn start_of(n: u32, side: bool, last: bool) -> u32
     if side == last { n } else { 0 }
 }
 
-#[tactic(auto, unfolding(crate::specs::Seek::before_if_of))]
-fn before_if(n: u32, fp: f32, before: f32) -> f32
-    ensures { result ≡ before_if_of n fp before }
-{
-    let none = n == 0;
-    if none {
-        return fp;
-    }
-    before
-}
-
-// A place past the end is not written.
+// A place past the end is not written: an index test, as in shared::put. That one, were it generic, would save these three lines and cost
+// a law: its promise (slice_set) tests the length, and store_of the number 8.
 #[tactic(auto, unfolding(crate::specs::Seek::store_of))]
 fn store(cs: &mut [f32; 8], i: usize, f: f32)
     ensures { cs.new ≡ store_of cs.old i f }
@@ -105,19 +98,17 @@ fn store(cs: &mut [f32; 8], i: usize, f: f32)
     }
 }
 
-#[tactic(auto, unfolding(crate::specs::Seek::push_cand_of, shared::specs::Counts::inc))]
+#[tactic(auto, unfolding(crate::specs::Seek::push_cand_of, crate::specs::Seek::before_if_of, shared::specs::Counts::inc))]
 fn push_cand(c: CandCore, f_ref: f32, f: f32, fp: f32, cs: &mut [f32; 8]) -> CandCore
     ensures { whole_cand cs.new result ≡ push_cand_of (whole_cand cs.old c) f_ref f fp }
 {
     let side = f - f_ref > 0.0;
     let last = cs[0] > f_ref;
     let n = start_of(c.fsk_cand, side, last);
-    let before = before_if(n, fp, c.cand_before);
     store(cs, n as usize, f);
-    let k = n.wrapping_add(1);
     CandCore {
-        cand_before: before,
-        fsk_cand: k,
+        cand_before: if n == 0 { fp } else { c.cand_before },
+        fsk_cand: n.wrapping_add(1),
     }
 }
 
@@ -134,26 +125,23 @@ fn restart_at(before: f32, at: f32, thr: f32, cand: u32, idx: u64) -> f64
 fn restart_early(e: Early, m: Mean, c: CandCore, f: f32, idx: u64, cs: &[f32; 8]) -> Early
     ensures { result ≡ restart_early_of e m (whole_cand cs.now c) f idx }
 {
-    let some = m.fsk_cnt > 0;
-    if some {
+    if m.fsk_cnt > 0 {
         let thr = arith::midpoint(m.f_ref, f);
-        let t = restart_at(c.cand_before, cs[0], thr, c.fsk_cand, idx);
-        return Early {
+        Early {
             f_early: m.f_ref,
-            t_early: t,
+            t_early: restart_at(c.cand_before, cs[0], thr, c.fsk_cand, idx),
             early: 1,
-        };
+        }
+    } else {
+        e
     }
-    e
 }
 
 #[tactic(auto, unfolding(crate::specs::Seek::clear_of))]
 fn clear(c: CandCore) -> CandCore
     ensures { (cs : List Float) → whole_cand cs result ≡ clear_of (whole_cand cs c) }
 {
-    let mut d = c;
-    d.fsk_cand = 0;
-    d
+    CandCore { fsk_cand: 0, ..c }
 }
 
 #[tactic(auto, unfolding(crate::specs::Seek::far_from_of))]
@@ -165,62 +153,45 @@ fn far_from(f: f32, f_ref: f32, delta: f32) -> bool
 
 // The frame before its first transition: the levels and the committed runs stay.
 #[tactic(auto, unfolding(crate::specs::Sample::seek_frame_of))]
-fn seek_frame(fr: FrameCore, t: Tone, mean: Mean, c: CandCore, e: Early) -> FrameCore
-    ensures { (old cs : List Float) → whole_frame cs result ≡ seek_frame_of (whole_frame old fr) t mean (whole_cand cs c) e }
+fn seek_frame(fr: FrameCore, t: Tone, mean: Mean, c: CandCore) -> FrameCore
+    ensures { (old cs : List Float) → whole_frame cs result ≡ seek_frame_of (whole_frame old fr) t mean (whole_cand cs c) fr.early }
 {
-    let r0 = fr.runs;
-    let runs = fsk::lengthen(r0);
-    let mut n = fr;
-    n.tone = t;
-    n.runs = runs;
-    n.mean = mean;
-    n.cand = c;
-    n.early = e;
-    n
+    FrameCore {
+        tone: t,
+        mean,
+        cand: c,
+        runs: fr.runs.lengthen(),
+        ..fr
+    }
 }
 
 // The mean had too few samples to stand for a level: it begins anew with the candidates.
-#[tactic(auto, unfolding(crate::specs::Sample::restart_of))]
-fn restart(fr: FrameCore, t: Tone, mean: Mean, c: CandCore, idx: u64, cs: &[f32; 8]) -> FrameCore
-    ensures { (old : List Float) → whole_frame cs.now result ≡ restart_of (whole_frame old fr) t mean (whole_cand cs.now c) idx }
+fn restart(n: FrameCore, idx: u64, cs: &[f32; 8]) -> FrameCore
+    ensures { whole_frame cs.now result ≡ restart_in (whole_frame cs.now n) idx }
 {
-    let e0 = fr.early;
-    let e = restart_early(e0, mean, c, t.f_prev, idx, cs);
-    let k = clear(c);
-    let fresh = Mean {
-        f_ref: t.f_prev,
-        fsk_cnt: 1,
-    };
-    seek_frame(fr, t, fresh, k, e)
+    let f = n.tone.f_prev;
+    FrameCore {
+        mean: Mean {
+            f_ref: f,
+            fsk_cnt: 1,
+        },
+        cand: clear(n.cand),
+        early: restart_early(n.early, n.mean, n.cand, f, idx, cs),
+        ..n
+    }
 }
 
-// A sample away from the first level, which is the last candidate of c.
-#[tactic(auto, unfolding(crate::specs::Sample::away_of))]
-fn away(
-    max: u32,
-    m: u32,
-    fr: FrameCore,
-    t: Tone,
-    mean: Mean,
-    c: CandCore,
-    idx: u64,
-    cs: &[f32; 8],
-    fsk: &mut [u32],
-) -> FrameCore
-    ensures { (old : List Float) → (whole_frame cs.now result, fsk.new) ≡ away_of max m (whole_frame old fr) t mean (whole_cand cs.now c) idx fsk.old }
+// A sample away from the first level, which is the last candidate of n.
+fn away(max: u32, m: u32, n: FrameCore, idx: u64, cs: &[f32; 8], fsk: &mut [u32]) -> FrameCore
+    ensures { (whole_frame cs.now result, fsk.new) ≡ away_in max m (whole_frame cs.now n) idx fsk.old }
 {
-    let few = c.fsk_cand < m;
-    if few {
-        let e = fr.early;
-        return seek_frame(fr, t, mean, c, e);
+    if n.cand.fsk_cand < m {
+        n
+    } else if n.mean.fsk_cnt < m {
+        restart(n, idx, cs)
+    } else {
+        fsk::fsk_resolve(max, m, n, n.tone.f_prev, idx, cs, fsk)
     }
-    let young = mean.fsk_cnt < m;
-    if young {
-        return restart(fr, t, mean, c, idx, cs);
-    }
-    let e = fr.early;
-    let n = seek_frame(fr, t, mean, c, e);
-    fsk::fsk_resolve(max, m, n, t.f_prev, idx, cs, fsk)
 }
 
 // Before the first transition: the mean of the first level, and the candidates.
@@ -236,18 +207,13 @@ fn seek(
 ) -> FrameCore
     ensures { (whole_frame cs.new result, fsk.new) ≡ seek_of p m (whole_frame cs.old fr) t idx fsk.old }
 {
-    let m0 = fr.mean;
-    let c0 = fr.cand;
-    let mean = seed(m0, c0.fsk_cand, t.f_prev);
-    let far = far_from(t.f_prev, mean.f_ref, p.fsk_delta);
-    if far {
-        let c = push_cand(c0, mean.f_ref, t.f_prev, fr.tone.f_prev, cs);
-        return away(p.max_pulses, m, fr, t, mean, c, idx, cs, fsk);
+    let mean = seed(fr.mean, fr.cand.fsk_cand, t.f_prev);
+    if far_from(t.f_prev, mean.f_ref, p.fsk_delta) {
+        let c = push_cand(fr.cand, mean.f_ref, t.f_prev, fr.tone.f_prev, cs);
+        away(p.max_pulses, m, seek_frame(fr, t, mean, c), idx, cs, fsk)
+    } else {
+        seek_frame(fr, t, average(mean, t.f_prev), clear(fr.cand))
     }
-    let a = average(mean, t.f_prev);
-    let k = clear(c0);
-    let e = fr.early;
-    seek_frame(fr, t, a, k, e)
 }
 
 // After it: the two levels are followed, and the run machine goes on.
@@ -255,31 +221,26 @@ fn seek(
 fn track(p: Settings, m: u32, fr: FrameCore, t: Tone, idx: u64, fsk: &mut [u32]) -> FrameCore
     ensures { (cs : List Float) → (whole_frame cs result, fsk.new) ≡ track_of p m (whole_frame cs fr) t idx fsk.old }
 {
-    let f = t.f_prev;
-    let r0 = fr.runs;
-    let l0 = fr.levels;
-    let d0 = fr.done;
-    let up = r0.run.level == 1;
-    let thr = fsk::slice_thr(up, l0.f_hi, l0.f_lo);
-    let upper = run::is_high(up, f, thr);
-    let l = follow(upper, l0, f);
+    let up = fr.runs.run.level == 1;
+    let thr = fr.levels.slice_thr(up);
+    let upper = run::is_high(up, t.f_prev, thr);
     let c = Crossing {
         idx,
         before: fr.tone.f_prev,
-        at: f,
+        at: t.f_prev,
         thr,
     };
-    let s = fsk::fsk_run_step(p.max_pulses, m, r0, d0, upper, c, fsk);
-    let sr = s.runs;
-    let sd = s.done;
-    let mut n = fr;
-    n.tone = t;
-    n.levels = l;
-    n.runs = sr;
-    n.done = sd;
-    n
+    let s = fsk::fsk_run_step(p.max_pulses, m, fr.runs, fr.done, upper, c, fsk);
+    FrameCore {
+        tone: t,
+        levels: follow(upper, fr.levels, t.f_prev),
+        runs: s.runs,
+        done: s.done,
+        ..fr
+    }
 }
 
+// One sample of a frame: d is the product of the sample and the conjugate of the one before, e its envelope, high the signal level.
 #[tactic(auto, unfolding(crate::specs::Sample::fsk_sample_of))]
 pub fn fsk_sample(
     p: Settings,
@@ -294,11 +255,10 @@ pub fn fsk_sample(
     ensures { (whole_frame cs.new result, fsk.new) ≡ fsk_sample_of p (whole_frame cs.old fr) high d e idx fsk.old }
 {
     let m = shared::fsk_min(p.min_steps);
-    let t0 = fr.tone;
-    let t = tone_of(p.alpha, high, d, e, t0);
-    let first = fr.fsk_phase == 0;
-    if first {
-        return seek(p, m, fr, t, idx, cs, fsk);
+    let t = tone_of(p.alpha, high, d, e, fr.tone);
+    if fr.fsk_phase == 0 {
+        seek(p, m, fr, t, idx, cs, fsk)
+    } else {
+        track(p, m, fr, t, idx, fsk)
     }
-    track(p, m, fr, t, idx, fsk)
 }

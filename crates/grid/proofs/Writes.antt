@@ -1,4 +1,4 @@
--- A loop that writes a width over each slot: its start, a turn and its end.
+-- A loop that writes a width over each slot: a turn and its end.
 use Prim.Native.Nat.{ℕ, suc, ◌+◌, ◌<◌, ◌≤◌}
 use mathlib.Core.List.{List, [], ◌∷◌, ◌++◌, append-nil}
 use mathlib.Core.Path.{◌≡◌, refl, sym, ◌∙◌}
@@ -11,9 +11,6 @@ use lib.Seq.{drop-cons, take-suc-set, drop-set-lt, append_snoc, take_all}
 pub record Written {S : Type 0} (f : S → List ℕ → List ℕ) (s₀ : S) (l₀ l : List ℕ) (s : S) (i : ℕ) : Type 0 where
   pub same : take i l ++ f s (drop i l) ≡ f s₀ l₀
   pub long : length l ≡ length l₀
-
-pub write_start : {S : Type 0} (f : S → List ℕ → List ℕ) (s : S) (l : List ℕ) → Written f s l l s 0
-write_start f s l = record { same = refl; long = refl }
 
 module _ {S : Type 0} {f : S → List ℕ → List ℕ} {s₀ s : S} {l₀ l : List ℕ} {i : ℕ} (g : Written f s₀ l₀ l s i) where
   -- next is the state after a slot, out the width between two states

@@ -16,24 +16,27 @@ const GRID_CAND: usize = 8;
 // ---- how many transitions there are, and the shortest run between two
 
 // How many transitions there are, the shortest run between two, and the last transition, where there is one.
-#[derive(Clone, Copy)]
+#[derive(Clone, Copy, Default)]
 pub struct Runs {
     pub count: usize,
     pub shortest: f64,
     pub prev: Option<f64>,
 }
 
-// The transition x is one more, and the run before it may be the shortest.
-fn runs_step(s: Runs, x: f64) -> Runs
-    requires { s.count < 0xffff_ffff_ffff_ffff }
-    ensures { result ≡ runs_step s x }
-{
-    Runs {
-        count: s.count + 1,
-        shortest: s
-            .prev
-            .map_or(s.shortest, |tp| arith::min(s.shortest, x - tp)),
-        prev: Some(x),
+impl Runs {
+    // The transition x is one more, and the run before it may be the shortest.
+    #[tactic(auto, unfolding(crate::specs::Guess::shorter_of, crate::specs::Guess::runs_step))]
+    fn runs_step(self, x: f64) -> Runs
+        requires { self.count < 0xffff_ffff_ffff_ffff }
+        ensures { result ≡ runs_step self x }
+    {
+        Runs {
+            count: self.count + 1,
+            shortest: self
+                .prev
+                .map_or(self.shortest, |tp| arith::min(self.shortest, x - tp)),
+            prev: Some(x),
+        }
     }
 }
 
@@ -42,11 +45,10 @@ pub fn runs_of(ends: &[u32]) -> Runs
     ensures { result ≡ runs_of (times 0 ends.now) }
 {
     let none = Runs {
-        count: 0,
         shortest: f64::INFINITY,
-        prev: None,
+        ..Runs::default()
     };
-    fit::transitions(ends, none, runs_step)
+    fit::transitions(ends, none, Runs::runs_step)
 }
 
 // ---- the mean of the runs of one symbol
@@ -56,6 +58,7 @@ const ONE_SYMBOL: f64 = 1.5;
 
 // The length of the run from the transition before to the transition x, where it is one symbol long. At the first transition no run
 // ends.
+#[tactic(auto, unfolding(crate::specs::Guess::run_to))]
 fn run_to(shortest: f64, prev: Option<f64>, x: f64) -> Option<f64>
     ensures { result ≡ run_to shortest prev x }
 {
@@ -71,17 +74,23 @@ pub struct Mean {
     pub prev: Option<f64>,
 }
 
-// The run to the transition x is added where it is one symbol long.
-fn mean_step(s: Mean, x: f64, shortest: f64) -> Mean
-    ensures { result ≡ mean_step shortest s x }
-{
-    match run_to(shortest, s.prev, x) {
-        Some(d) => Mean {
-            sum: s.sum + d,
-            n: s.n + 1.0,
-            prev: Some(x),
-        },
-        None => Mean { prev: Some(x), ..s },
+impl Mean {
+    // The run to the transition x is added where it is one symbol long.
+    #[tactic(auto, unfolding(crate::specs::Guess::added_of, crate::specs::Guess::mean_step))]
+    fn mean_step(self, x: f64, shortest: f64) -> Mean
+        ensures { result ≡ mean_step shortest self x }
+    {
+        match run_to(shortest, self.prev, x) {
+            Some(d) => Mean {
+                sum: self.sum + d,
+                n: self.n + 1.0,
+                prev: Some(x),
+            },
+            None => Mean {
+                prev: Some(x),
+                ..self
+            },
+        }
     }
 }
 
@@ -89,12 +98,13 @@ fn mean_step(s: Mean, x: f64, shortest: f64) -> Mean
 fn mean_of(ends: &[u32], shortest: f64) -> Mean
     ensures { result ≡ mean_of shortest (times 0 ends.now) }
 {
-    fit::transitions(ends, Mean::default(), |s, x| mean_step(s, x, shortest))
+    fit::transitions(ends, Mean::default(), |s, x| s.mean_step(x, shortest))
 }
 
 // ---- the grid of the smallest cost
 
 // The grid of the smaller cost, the first of two alike.
+#[tactic(auto, unfolding(crate::specs::Guess::better_of))]
 fn better(grid: Option<Grid>, g: Option<Grid>) -> Option<Grid>
     ensures { result ≡ better_of grid g }
 {
@@ -105,25 +115,31 @@ fn better(grid: Option<Grid>, g: Option<Grid>) -> Option<Grid>
 }
 
 // How many runs of one symbol were tried, the best grid so far, and the last transition, where there is one.
-#[derive(Clone, Copy)]
+#[derive(Clone, Copy, Default)]
 pub struct Tries {
     pub tried: usize,
     pub grid: Option<Grid>,
     pub prev: Option<f64>,
 }
 
-// The run to the transition x is tried as a guess where it is one symbol long, while fewer than GRID_CAND were.
-fn try_step(ends: &[u32], mean: Fitted, shortest: f64, s: Tries, x: f64) -> Tries
-    requires { Known ends.now mean }
-    ensures { result ≡ try_step (times 0 ends.now) shortest s x }
-{
-    match run_to(shortest, s.prev, x) {
-        Some(guess) if s.tried < GRID_CAND => Tries {
-            tried: s.tried + 1,
-            grid: better(s.grid, fit::grid_fit(ends, mean, guess)),
-            prev: Some(x),
-        },
-        _ => Tries { prev: Some(x), ..s },
+impl Tries {
+    // The run to the transition x is tried as a guess where it is one symbol long, while fewer than GRID_CAND were.
+    #[tactic(auto, unfolding(crate::specs::Guess::tried_of, crate::specs::Guess::try_step))]
+    fn try_step(self, x: f64, ends: &[u32], mean: Fitted, shortest: f64) -> Tries
+        requires { Known ends.now mean }
+        ensures { result ≡ try_step (times 0 ends.now) shortest self x }
+    {
+        match run_to(shortest, self.prev, x) {
+            Some(guess) if self.tried < GRID_CAND => Tries {
+                tried: self.tried + 1,
+                grid: better(self.grid, fit::grid_fit(ends, mean, guess)),
+                prev: Some(x),
+            },
+            _ => Tries {
+                prev: Some(x),
+                ..self
+            },
+        }
     }
 }
 
@@ -134,15 +150,15 @@ fn search(ends: &[u32], shortest: f64, m: Mean) -> Option<Grid>
     let line = fit::fit_with(ends, m.sum / m.n);
     let grid = fit::second_fit(ends, line);
     let mean = Fitted { line, grid };
-    let none = Tries {
-        tried: 0,
+    let first = Tries {
         grid,
-        prev: None,
+        ..Tries::default()
     };
-    fit::transitions(ends, none, |s, x| try_step(ends, mean, shortest, s, x)).grid
+    fit::transitions(ends, first, |s, x| s.try_step(x, ends, mean, shortest)).grid
 }
 
 // The grid of a frame: none where it has fewer than GRID_MIN transitions or no run of one symbol.
+#[tactic(auto, unfolding(crate::specs::Guess::grid_of))]
 pub fn grid_of(ends: &[u32], runs: Runs) -> Option<Grid>
     ensures { result ≡ grid_of (times 0 ends.now) runs }
 {

@@ -48,6 +48,7 @@ pub struct Place {
 }
 
 // The time of the frame's end.
+#[tactic(auto, unfolding(crate::specs::Widths::end_of))]
 fn end_of(slots: &[u32]) -> f64
     ensures { result ≡ end_of slots.now }
 {
@@ -56,6 +57,7 @@ fn end_of(slots: &[u32]) -> f64
 
 // The frame's own two ends come from the envelope, which tells them less well than the tone does: each is put a whole number of
 // symbols, one or more, from the nearest transition.
+#[tactic(auto, unfolding(crate::specs::Widths::clock_of))]
 fn clock_of(ends: &[u32], end: f64, g: Grid, n_tr: usize) -> Clock
     ensures { result ≡ clock_of g.a g.t n_tr (times 0 ends.now) end }
 {
@@ -70,27 +72,33 @@ fn clock_of(ends: &[u32], end: f64, g: Grid, n_tr: usize) -> Clock
     }
 }
 
-// The boundary after the slot v.
-fn place_at(c: Clock, p: Place, v: u32) -> Place
-    ensures { result ≡ place_of c p v }
-{
-    if v <= p.before_raw {
-        return Place { before_raw: v, ..p };
-    }
-    if p.seen < c.n_tr {
-        let x = fit::time_of(arith::Fix64(v));
-        let k = p.last.k_after(x, c.t);
-        return Place {
+impl Place {
+    // The boundary after the slot v.
+    #[tactic(auto, unfolding(crate::specs::Widths::place_of))]
+    fn place_after(self, c: Clock, v: u32) -> Place
+        ensures { result ≡ place_of c self v }
+    {
+        if v <= self.before_raw {
+            return Place {
+                before_raw: v,
+                ..self
+            };
+        }
+        if self.seen < c.n_tr {
+            let x = fit::time_of(arith::Fix64(v));
+            let k = self.last.k_after(x, c.t);
+            return Place {
+                before_raw: v,
+                before: ieee::round((c.lead + k) * c.t),
+                seen: self.seen + 1,
+                last: Last { k, prev: Some(x) },
+            };
+        }
+        Place {
             before_raw: v,
-            before: ieee::round((c.lead + k) * c.t),
-            seen: p.seen + 1,
-            last: Last { k, prev: Some(x) },
-        };
-    }
-    Place {
-        before_raw: v,
-        before: ieee::round(c.stop * c.t),
-        ..p
+            before: ieee::round(c.stop * c.t),
+            ..self
+        }
     }
 }
 
@@ -101,7 +109,7 @@ fn on_grid(slots: &mut [u32], c: Clock)
     let mut p = Place::default();
     for v in slots {
         let before = p.before;
-        p = place_at(c, p, *v);
+        p = p.place_after(c, *v);
         *v = arith::width(before, p.before).0;
     }
 }

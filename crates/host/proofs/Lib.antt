@@ -1,4 +1,3 @@
 -- What holds of the exported functions' definitions, and the laws that their proofs cite.
 pub mod SpecialPatterns
 pub mod InPlace
-pub mod Refusal

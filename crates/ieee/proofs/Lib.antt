@@ -12,5 +12,4 @@ pub mod IntegralNearest
 pub mod NarrowNearest
 pub mod Near
 pub mod Distance
-pub mod Ends
 pub mod Signs

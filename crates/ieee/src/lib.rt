@@ -9,8 +9,9 @@ ghost use Rattle.ieee.specs.Rounding.{round_of, narrow_of, widen_of};
 
 // ---- bit patterns
 
-// A trait over both widths would be no plainer: each of these four is one call of std, and the trait would add a type for the pattern, its
-// format and an impl of both for each width.
+// Each of these four, and `widen` below, is one call of std. They stay for their contracts, which are the standard's own words (`to_bits`,
+// `of_bits`, convertFormat) and what the crates above cite. A trait over both widths would be no plainer: it would add a type for the
+// pattern, its format and an impl of both for each width.
 
 // The pattern of a float. That of the NaN is quiet, with no other digit set.
 pub fn bits_of_f32(x: f32) -> u32
@@ -105,8 +106,8 @@ fn narrow_fields(e: u64, t: u64) -> u32
     }
 }
 
-// convertFormat (5.4.2) to the narrower format, rounded to nearest, a tie to even. std's `nearest_f64_to_f32_with_nan` gives the same and takes
-// a third longer.
+// convertFormat (5.4.2) to the narrower format, rounded to nearest, a tie to even. std's `nearest_f64_to_f32_with_nan` gives the same; with it
+// a call of a listing takes 4 to 5 % more instructions.
 pub fn narrow(x: f64) -> f32
     ensures { result ≡ narrow_of x }
 {
@@ -115,8 +116,7 @@ pub fn narrow(x: f64) -> f32
     }
     let b = x.to_bits();
     let e = b % SIGN_64 / LEADING;
-    let t = b % LEADING;
-    let r = narrow_fields(e, t);
+    let r = narrow_fields(e, b % LEADING);
     if b < SIGN_64 {
         f32::from_bits(r)
     } else {
@@ -143,7 +143,7 @@ fn whole_fields(e: u64, t: u64) -> u64
 }
 
 // roundToIntegralTiesToAway (5.9): `libm::round`. A zero keeps x's sign (6.3). std's `f64::round` gives the same; with it the FSK widths of a
-// frame take a twelfth more instructions.
+// frame take 9 % more instructions.
 pub fn round(x: f64) -> f64
     ensures { result ≡ round_of x }
 {

@@ -1,6 +1,6 @@
 -- Pass after pass is block after block: each is a feed of the bytes that were left and those that came.
 use Prim.Native.Nat.{ℕ, ◌+◌}
-use mathlib.Core.Bool.{Bool, true, false, not, cond, ◌&&◌, ◌||◌}
+use mathlib.Core.Bool.{Bool, true, false, cond}
 use mathlib.Core.Path.{◌≡◌, refl, sym, ◌∙◌, ap, subst}
 use mathlib.Core.List.{List, [], ◌++◌, append-nil, append_assoc}
 use native.Mathlib.Omega.{arith}
@@ -10,7 +10,7 @@ use Rattle.std.specs.Io.KnownBytes.{Consumes, Appends, IsAtEnd}
 use Rattle.std.proofs.KnownBytes.{Consumes-nil, Consumes-trans, Appends-nil, Appends-trans}
 use Rattle.stream.specs.declared.Fed.{Fed}
 use Rattle.stream.specs.Machine.{Machine, Orderly, printed_of}
-use Rattle.stream.specs.Blocks.{Blocks, none, Over}
+use Rattle.stream.specs.Blocks.{is_over, is_full, Blocks, none, Over}
 use Rattle.stream.specs.Feeds.{Feeds}
 use Rattle.stream.proofs.Feeds.{feeds_more, feeds_over, feeds_on}
 use Rattle.stream.proofs.Printed.{blocks_print, program_prints}
@@ -21,7 +21,7 @@ use Rattle.input.specs.Passes.{Passes, Standing, Runs, Carries, Fails, at_read, 
 use Rattle.input.proofs.Laws.{came_after}
 
 -- a pass, by what a read says and what a feed does
-pub passes : (M : Machine) (p q : M.State) (f g : Fed) (last : Bool) (i : Input) (b c x y : List ℕ) → Came b f.left i.came c → Quiet last f.full i
+pub passes : (M : Machine) (p q : M.State) (f g : Fed) (last : Bool) (i : Input) (b c x y : List ℕ) → Came b f.left i.came c → Quiet last (is_full f.stop) i
     → Feeds M p (take (f.left + i.came) c) i.last g q x y → Passes M p f last b q g i.last x y
 passes M p q f g last i b c x y came quiet h =
     let new : List ℕ = take i.came (drop f.left c) in
@@ -39,11 +39,11 @@ starts M p f b e =
     record { inside = omega (arith, e); read = []; printed = []; blocks = subst (λ (n : ℕ). Blocks M p false false [] [] p (take n b)) (sym e) none }
 
 module _ (M : Machine) {p q o : M.State} {f g : Fed} {last end : Bool} {b x y : List ℕ} (s : Standing M p q f last b) (h : Passes M q f last b o g end x y) where
-  one_more : Blocks M p end h.feeds.ran.ended (s.read ++ h.came) (s.printed ++ take g.at y) o (take g.left x)
+  one_more : Blocks M p end (is_over h.feeds.ran.stop) (s.read ++ h.came) (s.printed ++ take g.at y) o (take g.left x)
   one_more = feeds_more M s.blocks h.none_after h.ended_stays h.feeds
 
   -- a pass more
-  pub goes : g.done ≡ false → Standing M p o g end x
+  pub goes : is_over g.stop ≡ false → Standing M p o g end x
   goes d =
       record {
         inside = h.feeds.inside;
@@ -54,11 +54,11 @@ module _ (M : Machine) {p q o : M.State} {f g : Fed} {last end : Bool} {b x y : 
       }
 
   -- the last pass, all of whose lines are written or not
-  pub stops : (whole : Bool) → (whole ≡ true → Over end h.feeds.ran.ended (take g.left x)) → Runs M p o whole
+  pub stops : (whole : Bool) → (whole ≡ true → Over end (is_over h.feeds.ran.stop) (take g.left x)) → Runs M p o whole
   stops whole over =
       record {
         last = end;
-        ended = h.feeds.ran.ended;
+        ended = is_over h.feeds.ran.stop;
         read = s.read ++ h.came;
         printed = s.printed ++ take g.at y;
         left = take g.left x;
@@ -82,7 +82,7 @@ stands M {f = f} {last = last} {b = b} s =
 -- ---- where the bytes of the reader and those of the writer are known
 
 pub carries : (M : Machine) (p q : M.State) (f g : Fed) (last : Bool) (i : Input) (b c x y : List ℕ) (r s w v : Option (List ℕ)) (whole : Bool)
-    → Came b f.left i.came c → Quiet last f.full i → Took r s last (take i.came (drop f.left c)) i.last
+    → Came b f.left i.came c → Quiet last (is_full f.stop) i → Took r s last (take i.came (drop f.left c)) i.last
     → Feeds M p (take (f.left + i.came) c) i.last g q x y → Gave w v (take g.at y) whole
     → Carries M p f last b q g i.last x y r s w v whole
 unfolding passes
@@ -121,7 +121,7 @@ split p t c n =
 module _ (M : Machine) {p q o : M.State} {f g : Fed} {last end whole : Bool} {b x y : List ℕ} {r s t w v u : Option (List ℕ)}
     (c : Carried M p q f last b r s w v) (h : Carries M q f last b o g end x y s t v u whole) where
   -- a pass more
-  pub goes_on : whole ≡ true → g.done ≡ false → Carried M p o g end x r t w u
+  pub goes_on : whole ≡ true → is_over g.stop ≡ false → Carried M p o g end x r t w u
   unfolding goes
   goes_on e d =
       record {
@@ -131,7 +131,7 @@ module _ (M : Machine) {p q o : M.State} {f g : Fed} {last end whole : Bool} {b 
         given = subst (λ (z : List ℕ). Appends w u (c.standing.printed ++ z)) (h.gave.all e) (Appends-trans _ _ _ _ _ c.given h.gave.grown);
       }
 
-  whole_wrote : Orderly M → (xs ys : List ℕ) → t ≡ Some ys → xs ≡ (c.standing.read ++ h.pass.came) ++ ys → whole ≡ true → g.done ≡ true → Wrote w u (printed_of M p xs) true
+  whole_wrote : Orderly M → (xs ys : List ℕ) → t ≡ Some ys → xs ≡ (c.standing.read ++ h.pass.came) ++ ys → whole ≡ true → is_over g.stop ≡ true → Wrote w u (printed_of M p xs) true
   whole_wrote O xs ys k e all done =
       record {
         written = c.standing.printed ++ take g.at y;
@@ -146,7 +146,7 @@ module _ (M : Machine) {p q o : M.State} {f g : Fed} {last end whole : Bool} {b 
 
   front_wrote : Orderly M → (xs ys : List ℕ) → t ≡ Some ys → xs ≡ (c.standing.read ++ h.pass.came) ++ ys → Wrote w u (printed_of M p xs) false
   front_wrote O xs ys k e =
-      let after : List ℕ = cond h.pass.feeds.ran.ended [] (printed_of M o (take g.left x ++ ys)) in
+      let after : List ℕ = cond (is_over h.pass.feeds.ran.stop) [] (printed_of M o (take g.left x ++ ys)) in
       record {
         written = c.standing.printed ++ take h.gave.count (take g.at y);
         rest = drop h.gave.count (take g.at y) ++ after;
@@ -165,7 +165,7 @@ module _ (M : Machine) {p q o : M.State} {f g : Fed} {last end whole : Bool} {b 
       (λ ys z d. k xs ys z d))
 
   -- the last pass
-  pub ends_so : Orderly M → whole ≡ true → g.done ≡ true → Runs M p o true × Writes (printed_of M p) r w u true
+  pub ends_so : Orderly M → whole ≡ true → is_over g.stop ≡ true → Runs M p o true × Writes (printed_of M p) r w u true
   unfolding stops
   ends_so O all done = (stops M c.standing h.pass true (λ z. feeds_over M O h.pass.feeds done), ending O true (λ xs ys k d. whole_wrote O xs ys k d all done))
 

@@ -5,7 +5,7 @@ use Rattle.std.specs.Prelude.{ℕ, ◌≤◌, Bool, true, false, ◌≡◌, List
 use Rattle.std.specs.Io.KnownBytes.{Consumes, Appends, IsAtEnd}
 use Rattle.stream.specs.declared.Fed.{Fed}
 use Rattle.stream.specs.Machine.{Machine}
-use Rattle.stream.specs.Blocks.{Blocks, Over}
+use Rattle.stream.specs.Blocks.{is_full, Blocks, Over}
 use Rattle.stream.specs.Feeds.{Feeds}
 use Rattle.input.specs.Known.{Took, Gave}
 
@@ -15,7 +15,7 @@ pub record Passes (M : Machine) (p : M.State) (f : Fed) (last : Bool) (b : List 
   pub came : List ℕ
   pub none_after : last ≡ true → came ≡ []
   pub ended_stays : last ≡ true → end ≡ true
-  pub none_while : f.full ≡ true → came ≡ []
+  pub none_while : is_full f.stop ≡ true → came ≡ []
   pub feeds : Feeds M p (take f.left b ++ came) end g q x y
 
 -- before a pass: of some bytes that were read the blocks printed some lines, and left the state q and the bytes at the front of b

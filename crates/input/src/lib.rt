@@ -29,23 +29,17 @@ pub enum Failed {
     Endless,
 }
 
-// What failed, a colon and the system's words for it.
-impl Display for Failed {
-    fn fmt<W: fmt::Write>(&self, f: &mut Formatter<W>) -> fmt::Result {
-        match self {
-            Failed::Read(why) => write_why(f, "read", why),
-            Failed::Write(why) => write_why(f, "write", why),
-            Failed::Endless => f.write_str("read: no end"),
-        }
-    }
-}
+// The system's words for a failure.
+#[derive(Drop)]
+struct Why(io::Error);
 
-fn write_why<W: fmt::Write>(f: &mut Formatter<W>, what: &str, why: &io::Error) -> fmt::Result {
-    let mut said = Cursor::new([0u8; 128]);
-    let _ = write!(said, "{why}");
-    let room = said.into_inner();
-    let system = words(&room);
-    write!(f, "{what}: {system}")
+impl Display for Why {
+    fn fmt<W: fmt::Write>(&self, f: &mut Formatter<W>) -> fmt::Result {
+        let Why(why) = self;
+        let mut said = Cursor::new([0u8; 128]);
+        let _ = write!(said, "{why}");
+        f.write_str(words(&said.into_inner()))
+    }
 }
 
 // The text up to its first zero, and without the number that std puts after the system's words.
@@ -60,19 +54,19 @@ fn words(text: &[u8]) -> &str {
     }
 }
 
-// The status of a program: what failed is said on standard error, `err`, after the program's name. An
-// input with no end has no line.
+// The status of a program: a read or a write that failed is said on standard error, `err`, after the
+// program's name. Of an input with no end there is nothing to say.
 pub fn status<E: Write>(program: &str, done: Result<(), Failed>, err: &mut E) -> ExitCode
     ensures { MatchResult done (λ _. exit_status result ≡ 0) (λ _. exit_status result ≡ 1) }
 {
-    match done {
-        Ok(()) => ExitCode::SUCCESS,
-        Err(Failed::Endless) => ExitCode::FAILURE,
-        Err(why) => {
-            let _ = writeln!(err, "{program}: {why}");
-            ExitCode::FAILURE
-        }
-    }
+    let (what, why) = match done {
+        Ok(()) => return ExitCode::SUCCESS,
+        Err(Failed::Endless) => return ExitCode::FAILURE,
+        Err(Failed::Read(why)) => ("read", Why(why)),
+        Err(Failed::Write(why)) => ("write", Why(why)),
+    };
+    let _ = writeln!(err, "{program}: {what}: {why}");
+    ExitCode::FAILURE
 }
 
 // The bytes that come next, to the place `have` of the buffer. Nothing is read where the input has
@@ -91,13 +85,11 @@ pub fn read_more<R: Read>(
     if last | full | (have == buf.len()) {
         return Ok(Input { came: 0, last });
     }
-    match from.read(&mut buf[have..]) {
-        Ok(came) => Ok(Input {
-            came,
-            last: came == 0,
-        }),
-        Err(why) => Err(Failed::Read(why)),
-    }
+    let came = from.read(&mut buf[have..]).map_err(Failed::Read)?;
+    Ok(Input {
+        came,
+        last: came == 0,
+    })
 }
 
 // All of the text, or the first failure: a write that takes nothing is one, and none is tried again. Each write takes as many
@@ -120,10 +112,7 @@ fn write_text<W: Write>(to: &mut W, text: &[u8]) -> io::Result<()>
 pub fn put<W: Write>(to: &mut W, text: &[u8]) -> Result<(), Failed>
     ensures { Gave (W.contents to.old) (W.contents to.new) text.now (is_ok result) }
 {
-    match write_text(to, text) {
-        Ok(()) => Ok(()),
-        Err(why) => Err(Failed::Write(why)),
-    }
+    write_text(to, text).map_err(Failed::Write)
 }
 
 #[cfg(test)]

@@ -1,11 +1,12 @@
 -- Laws of the definitions in specs/Refusals.
 use Prim.Native.Nat.{ℕ, ◌+◌, ◌-◌, ◌<◌, ◌≤◌}
 use mathlib.Core.Bool.{Bool, true, false, cond, not, ◌&&◌}
-use mathlib.Core.Path.{◌≡◌, refl, sym}
+use mathlib.Core.Path.{◌≡◌, refl, ap, sym, ◌∙◌}
 use native.Mathlib.Omega.{arith}
 use borrow.Author.Tests.{eqb-true, eqb-false, eq-eqb, ne_eqb, ltb-true, leb-true}
 use lib.Dec.{leb, eqb}
-use Rattle.std.specs.Prelude.{⊤, Result, Ok, Err}
+use Rattle.std.specs.Prelude.{⊤, Option, Some, None, Result, Ok, Err}
+use Rattle.std.specs.Option.{SomeIff, option_eq}
 use Rattle.domain.specs.Limits.{spent_serial, max_serial}
 use Rattle.shared.specs.declared.Settings.{Settings}
 use Rattle.refusals.specs.Domain.{settings_ok, unset_ok, index_ok, room_ok}
@@ -31,16 +32,17 @@ opened_tells had phase p = go (eqb had 0) (eqb phase 0)
     go false idle h e = (both_true (eqb had 1) (settings_ok p) h).1
 
 -- as the code asks it, without the sum
-pub follows_back : (last index : ℕ) → (index ≡ 0 → ⊥) → eqb (index - 1) last ≡ follows_of last index
+follows_back : (last index : ℕ) → (index ≡ 0 → ⊥) → eqb (index - 1) last ≡ follows_of last index
 unfolding follows_of
 follows_back last index h = go (eqb (index - 1) last) refl where
   go : (b : Bool) → eqb (index - 1) last ≡ b → b ≡ eqb index (last + 1)
   go true q = sym (eq-eqb index (last + 1) (omega (arith, eqb-true (index - 1) last q, h)))
   go false q = sym (ne_eqb index (last + 1) (λ e. eqb-false (index - 1) last q (omega arith)))
 
-pub follows_none : (last index : ℕ) → index ≡ 0 → false ≡ follows_of last index
+pub follows_by : (last index : ℕ) (before : Option ℕ) → SomeIff before (1 ≤ index) (index - 1) → option_eq eqb before (Some last) ≡ follows_of last index
 unfolding follows_of
-follows_none last index e = sym (ne_eqb index (last + 1) (λ q. omega arith))
+follows_by last index (Some n) h = ap (λ (k : ℕ). eqb k last) h.1 ∙ follows_back last index (λ z. omega (arith, z, h.0))
+follows_by last index None h = sym (ne_eqb index (last + 1) (λ q. h (omega arith)))
 
 pub lane_passes : (l : Lane) → lane_ok l ≡ true → Passes l
 unfolding lane_ok

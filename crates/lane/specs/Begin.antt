@@ -1,8 +1,9 @@
 -- Begin fills the ring as `history` does and calls `begin_lead` (document 01, "Added around the lane").
-use Rattle.std.specs.Prelude.{ℕ, ◌+◌, ◌-◌, ◌%◌, List, set, replicate, Float}
+use Rattle.std.specs.Prelude.{ℕ, ◌+◌, ◌-◌, ◌%◌, List, [], ◌∷◌, set, replicate, Float}
 use Rattle.ieee.specs.Constants.{zero32}
 use Rattle.arith.specs.declared.C32.{C32}
 use Rattle.shared.specs.Counts.{zero_c32}
+use Rattle.burst.specs.declared.BurstOf.{BurstOf}
 use Rattle.burst.specs.Types.{Burst}
 use Rattle.burst.specs.declared.Lead.{Lead}
 use Rattle.lane.specs.declared.History.{History}
@@ -35,6 +36,14 @@ ring_of ring index e = set ring (index % 32) e
 -- begin_lead: the lead's arrays hold the sample before, this sample and its envelope
 unfoldable pub begin_lead_of : BeginArgs → Lead
 begin_lead_of b = record { lead_at = b.index; lead_n = 1; lead_e = set (replicate 16 zero32) 0 b.envelope; lead_x = set (set (replicate 17 zero_c32) 0 b.before) 1 b.x }
+
+-- the seven envelopes as one list
+abbrev pub nearest_first_of : History → List Float
+nearest_first_of h = h.e1 ∷ h.e2 ∷ h.e3 ∷ h.e4 ∷ h.e5 ∷ h.e6 ∷ h.e7 ∷ []
+
+-- a burst with this record for both of its own
+abbrev pub with_records : {C O : Type 0} → O → BurstOf C O → BurstOf C O
+with_records out b = record { high = b.high; e_prev = b.e_prev; env = b.env; pac = b.pac; train = b.train; out_ook = out; frames = b.frames; pres = b.pres; frame = b.frame; out_fsk = out }
 
 -- begin and step clear both records
 unfoldable pub cleared_of : Burst → Burst

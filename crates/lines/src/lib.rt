@@ -16,7 +16,7 @@ pub struct Text<'a> {
     pub at: usize,
 }
 
-// ---- numbers
+// ---- numbers, spelled by hand: `write!` has no contract that says which bytes it writes.
 
 // Puts n's digits at the end of out, and answers where they start.
 fn spell(n: u64, out: &mut [u8]) -> usize
@@ -173,7 +173,7 @@ impl<'a> Text<'a> {
     }
 
     // A record's line after a tag, if it decides a train.
-    pub fn put_record(&mut self, tag: &[u8], o: Out, part: &[u32])
+    fn put_record(&mut self, tag: &[u8], o: Out, part: &[u32])
         requires { RoomFor (length tag.now + train_room (length part.now)) self.old }
         ensures { Puts (after_tag tag.now (record_line o part.now)) (length tag.now + train_room (length part.now)) self.old self.new }
     {
@@ -185,7 +185,7 @@ impl<'a> Text<'a> {
 
     // ---- the lines of a call
 
-    pub fn put_idle(&mut self, index: u64)
+    fn put_idle(&mut self, index: u64)
         requires { RoomFor 48 self.old }
         ensures { Puts (idle_line index) 48 self.old self.new }
     {
@@ -194,7 +194,7 @@ impl<'a> Text<'a> {
         self.put_byte(b'\n');
     }
 
-    pub fn put_idle_at(&mut self, index: u64, e: f32)
+    fn put_idle_at(&mut self, index: u64, e: f32)
         requires { RoomFor 48 self.old }
         ensures { Puts (carrier_line index e) 48 self.old self.new }
     {
@@ -213,7 +213,7 @@ impl<'a> Text<'a> {
         self.put_byte(b'\n');
     }
 
-    // The phase line after a tag, or that of a refusal.
+    // The phase line after a tag, or that of a refusal: of any number, so that a program prints its own too.
     fn put_phase(&mut self, tag: &[u8], r: Result<Next, u32>, index: u64)
         requires { RoomFor (length tag.now + 48) self.old }
         ensures { Puts (after_tag tag.now (call_text r [] index)) (length tag.now + 48) self.old self.new }
@@ -236,10 +236,9 @@ impl<'a> Text<'a> {
     }
 
     // The lines of a call, each after a tag, which is empty for a program with one lane: first `fsk`,
-    // then `ook`, then the phase line. A refused call has its number alone. Printing stays a call of its
-    // own: inlined into the loop over the steps it makes that loop slower (529 instructions for a call of
-    // an OOK stream in place of 498).
-    #[inline(never)]
+    // then `ook`, then the phase line. A refused call has its number alone. The records, their parts and the
+    // index come one by one: both callers have them so, and a struct of them would be put together there only
+    // to be taken apart here.
     pub fn put_call(
         &mut self,
         tag: &[u8],
@@ -253,14 +252,11 @@ impl<'a> Text<'a> {
         requires { RoomFor (call_most (length tag.now) (length fs.now) (length os.now)) self.old }
         ensures { Puts (tagged_call tag.now r (record_line f fs.now) (record_line o os.now) index) (call_most (length tag.now) (length fs.now) (length os.now)) self.old self.new }
     {
-        match r {
-            Err(_) => self.put_phase(tag, r, index),
-            Ok(_) => {
-                self.put_record(tag, f, fs);
-                self.put_record(tag, o, os);
-                self.put_phase(tag, r, index);
-            }
+        if r.is_ok() {
+            self.put_record(tag, f, fs);
+            self.put_record(tag, o, os);
         }
+        self.put_phase(tag, r, index);
     }
 }
 

@@ -23,21 +23,24 @@ use Rattle.shared.specs.Counts.{bit}
 use Rattle.run.specs.Run.{moved_of}
 use Rattle.run.specs.Limits.{RunWithin}
 use Rattle.run.specs.declared.Run.{Run}
+use Rattle.run.specs.declared.Move.{Move}
+use Rattle.run.specs.declared.Move.TheVariants.{Same, Glitch, Begins}
 use Rattle.run.proofs.Limits.{moved_within, start_run_within}
-use Rattle.ook.specs.Run.{advance_of, begin_env_of}
+use Rattle.ook.specs.Run.{follow_of, advance_of, begin_env_of}
 use Rattle.ook.specs.Train.{with_started, with_end, with_longest, longer_of, zero_steps, stay_by, end_by, push_pulse_of, pushed_by, close_gap_of, empty_train_of, finish_of, end_train_of, pulse_done_of}
 use Rattle.ook.specs.Limits.{EnvWithin, TrainWithin, OutWithin, DoneWithin}
 use Rattle.shared.proofs.Cases.{either, by_test, bit_flag}
 
 -- the run
 
-pub advance_within : (same short : Bool) (s : Env) (on : Bool) (tc : Float) (idx : ℕ) → EnvWithin s → EnvWithin (advance_of same short s on tc idx)
+follow_within : (m : Move) (r : Run) (s : Env) (idx : ℕ) → RunWithin r → EnvWithin s → EnvWithin (follow_of m r s idx)
+follow_within Same r s idx w h = record { run_within = w; pending_flag = h.pending_flag }
+follow_within Glitch r s idx w h = record { run_within = w; pending_flag = omega arith }
+follow_within Begins r s idx w h = record { run_within = w; pending_flag = omega arith }
+
+pub advance_within : (m : Move) (s : Env) (on : Bool) (tc : Float) (idx : ℕ) → EnvWithin s → EnvWithin (advance_of m s on tc idx)
 unfolding advance_of
-advance_within same short s on tc idx h =
-    let r : Run = moved_of same short s.run (bit on) tc in
-    let w : RunWithin r = moved_within same short s.run (bit on) tc (bit_flag on) h.run_within in
-    either EnvWithin same (record { run_within = w; pending_flag = h.pending_flag })
-    (either EnvWithin short (record { run_within = w; pending_flag = omega arith }) (record { run_within = w; pending_flag = omega arith }))
+advance_within m s on tc idx h = follow_within m (moved_of m s.run (bit on) tc) s idx (moved_within m s.run (bit on) tc (bit_flag on) h.run_within) h
 
 pub begin_env_within : (t : Float) (s : Env) → EnvWithin s → EnvWithin (begin_env_of t s)
 unfolding begin_env_of

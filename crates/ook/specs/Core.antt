@@ -1,5 +1,4 @@
--- The records of the core. A caller's record has an enum, the angle or the two sums; in the core a carrier is a number and two
--- floats, so that a burst is copied without an enum, and it becomes the enum where a record leaves the core.
+-- The records of the core, whose record has no serial, and those of a caller.
 use Rattle.ook.specs.Types.{Ended}
 use Rattle.ook.specs.Types.{EndedCore}
 use Rattle.ook.specs.Types.{Done}

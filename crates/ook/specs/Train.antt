@@ -2,10 +2,10 @@
 -- A slot past the end of the lent buffer is not written, as by `put`: so `set` leaves the list.
 use Rattle.std.specs.Prelude.{ℕ, ◌+◌, ◌*◌, Bool, true, false, cond, List, set, ltb, leb, eqb, pos, Float}
 use Rattle.std.specs.Float.{binary32}
-use Rattle.std.specs.Float.Ieee.{add, mul, lt, of_int}
+use Rattle.std.specs.Float.Ieee.{mul, lt, of_int}
 use Rattle.arith.specs.declared.C32.{C32}
 use Rattle.arith.specs.declared.Steps.{Steps}
-use Rattle.arith.specs.Leaves.{step_of}
+use Rattle.arith.specs.Leaves.{plus_of, step_of}
 use Rattle.ieee.specs.Constants.{zero64}
 use Rattle.shared.specs.Counts.{inc, bit, zero_c32}
 use Rattle.ook.specs.declared.Train.{Train}
@@ -61,10 +61,6 @@ with_acc acc t = train_of t.start t.pulse_end t.started t.ook_n t.«open» t.lon
 
 abbrev pub zero_steps : Steps
 zero_steps = record { 0 = 0 }
-
--- the two sums, part by part
-abbrev pub plus_of : C32 → C32 → C32
-plus_of a b = record { re = add binary32 a.re b.re; im = add binary32 a.im b.im }
 
 -- push_pulse: false and the mark where the train is full, else the pulse in its slot, open
 unfoldable pub push_pulse_of : ℕ → Train → C32 → Steps → List ℕ → Pushed × List ℕ

@@ -7,17 +7,18 @@ ghost use Rattle.run.specs.Run.{edge_at};
 ghost use Rattle.shared.specs.Core.{whole_out};
 ghost use Rattle.ook.specs.Core.{whole_ended, whole_done};
 ghost use Rattle.ook.specs.Run.{advance_of, zero_if, pac_run_of, begin_env_of};
-ghost use Rattle.ook.specs.Refine.{refine_level_of, refine_lo_of, excess_of, best_at, split_at, best_split_of, refine_in_of, refine_of};
-ghost use Rattle.ook.specs.Train.{push_pulse_of, close_gap_of, empty_train_of, finish_of, end_train_of, longer_of, pushed_by, pulse_done_of, gap_ratio_exceeded_of};
+ghost use Rattle.ook.specs.Refine.{refine_level_of, refine_lo_of, excess_of, best_split_of, refine_in_of, refine_of};
+ghost use Rattle.ook.specs.Train.{push_pulse_of, close_gap_of, empty_train_of, finish_of, end_train_of, pulse_done_of, gap_ratio_exceeded_of};
 
 use arith::{C32, Steps};
-use run::{Crossing, Run};
-use shared::{Flat, Next, Out, OutCore, Settings};
+use run::{Crossing, Move, Run};
+use shared::{Carrier, Next, Out, OutCore, Settings};
 
 // ---- what the run and the train are
 
-// The run of the envelope (flags are numbers, as in shared::Settings), whose edge t_run is refined once the run is long enough, and what that needs.
-#[derive(Clone, Copy)]
+// The run of the envelope (flags are numbers, as in shared::Settings), whose edge t_run is refined once the run is long enough, and what
+// that needs.
+#[derive(Clone, Copy, Default)]
 pub struct Env {
     pub run: Run,
     // The edges of the run and of the one before as the envelope crossed: by them a train starts and ends, refined or not.
@@ -28,8 +29,9 @@ pub struct Env {
     pub ref_pending: u32,
 }
 
-// The train of the pulses so far (flags are numbers, as in shared::Settings); origin is the first pulse's edge, bound the last boundary in 64ths of a step after it.
-#[derive(Clone, Copy)]
+// The train of the pulses so far (flags and counts are numbers, as in shared::Settings); origin is the first pulse's edge, bound the last
+// boundary in 64ths of a step after it.
+#[derive(Clone, Copy, Default)]
 pub struct Train {
     pub start: u64,
     pub pulse_end: u64,
@@ -43,15 +45,16 @@ pub struct Train {
     pub bound: u64,
 }
 
-// Whether a pulse had room, and the train. A flag beside it, and neither Option nor Result: both cases have a train.
+// Whether a pulse had room, and the train. As a Result both arms would be the same struct, and `pulse_done` puts the train beside the record
+// before it asks which.
 #[derive(Clone, Copy)]
 pub struct Pushed {
     pub fits: bool,
     pub train: Train,
 }
 
-// The train after its end, and a record: a caller's (`Ended`), or the core's (`EndedCore`). So with each pair of names below and in
-// the crates above: one struct, over the type in which the two differ.
+// The train and the record beside it, as one stage hands them to the next: the record a caller's (`Ended`), or the core's (`EndedCore`). Each
+// pair of names below, and in the crates above, is likewise one struct over the type in which the two differ.
 #[derive(Clone, Copy)]
 pub struct EndedOf<O> {
     pub train: Train,
@@ -77,34 +80,31 @@ pub type DoneCore = DoneOf<OutCore>;
 // ---- the run of the envelope
 
 // The run after a sample whose level is `on`: a glitch takes its edge back, and the edge of a run that begins waits for its refinement.
-#[tactic(auto, unfolding(crate::specs::Run::advance_of, run::specs::Run::begin_run_of, run::specs::Run::moved_of))]
-pub fn advance(same: bool, short: bool, env: Env, on: bool, c: Crossing) -> Env
-    ensures { result ≡ advance_of same short env on (edge_at c) c.idx }
+#[tactic(auto, unfolding(crate::specs::Run::advance_of, run::specs::Run::begin_run_of))]
+pub fn advance(m: Move, env: Env, on: bool, c: Crossing) -> Env
+    ensures { result ≡ advance_of m env on (edge_at c) c.idx }
 {
-    let r = env.run;
-    // Fields set one by one: as `Env { run: .., ..env }` a call of the OOK stream takes 4 % more instructions.
-    if same {
-        let q = r.lengthen();
-        let mut n = env;
-        n.run = q;
-        return n;
-    }
-    if short {
-        let q = r.rejoin(u32::from(on));
-        let mut n = env;
-        n.run = q;
-        n.c_run = env.c_prev;
-        n.ref_pending = 0;
-        return n;
-    }
-    let tc = c.edge_at();
-    let q = r.begin_run(u32::from(on), tc);
-    Env {
-        run: q,
-        c_run: tc,
-        c_prev: env.c_run,
-        ref_idx: c.idx,
-        ref_pending: 1,
+    match m {
+        Move::Same => Env {
+            run: env.run.lengthen(),
+            ..env
+        },
+        Move::Glitch => Env {
+            run: env.run.rejoin(u32::from(on)),
+            c_run: env.c_prev,
+            ref_pending: 0,
+            ..env
+        },
+        Move::Begins => {
+            let tc = c.edge_at();
+            Env {
+                run: env.run.begin_run(u32::from(on), tc),
+                c_run: tc,
+                c_prev: env.c_run,
+                ref_idx: c.idx,
+                ref_pending: 1,
+            }
+        }
     }
 }
 
@@ -112,24 +112,18 @@ pub fn advance(same: bool, short: bool, env: Env, on: bool, c: Crossing) -> Env
 fn zero_if(b: bool, pac: C32) -> C32
     ensures { result ≡ zero_if b pac }
 {
-    if b {
-        return C32 { re: 0.0, im: 0.0 };
-    }
-    pac
+    if b { C32::default() } else { pac }
 }
 
 // The pulse's sum: a short pulse leaves nothing, and a pulse that begins starts from 0.
-#[tactic(auto, unfolding(crate::specs::Run::pac_run_of))]
-pub fn pac_run(same: bool, short: bool, on: bool, pac: C32) -> C32
-    ensures { result ≡ pac_run_of same short on pac }
+pub fn pac_run(m: Move, on: bool, pac: C32) -> C32
+    ensures { result ≡ pac_run_of m on pac }
 {
-    if same {
-        return pac;
+    match m {
+        Move::Same => pac,
+        Move::Glitch => zero_if(!on, pac),
+        Move::Begins => zero_if(on, pac),
     }
-    if short {
-        return zero_if(!on, pac);
-    }
-    zero_if(on, pac)
 }
 
 // A burst begins at the time t; ref_idx and ref_pending stay as an earlier one left them, as in the Rust.
@@ -175,23 +169,19 @@ pub fn refine_lo(min_steps: u32, ref_idx: u64, lead_at: u64, idx: u64) -> u64
 fn excess(on: bool, m: f32, t: f32) -> f32
     ensures { result ≡ excess_of on m t }
 {
-    if on {
-        return m - t;
-    }
-    -(m - t)
+    if on { m - t } else { -(m - t) }
 }
 
 // The split that gives the samples after it the largest sum: the change point of a step at the level.
 fn best_split(ring: &[f32; 32], t: f32, on: bool, lo: u64, idx: u64) -> u64
+    requires { lo < idx }
     ensures { result ≡ best_split_of ring.now t on lo idx }
 {
     let mut sum: f32 = 0.0;
     let mut best: f32 = f32::NEG_INFINITY;
     let mut split = idx;
-    for below in (lo..idx).rev() {
-        let j = below + 1;
-        let i = (j % 32) as usize;
-        sum += excess(on, ring[i], t);
+    for j in (lo + 1..=idx).rev() {
+        sum += excess(on, ring[(j % 32) as usize], t);
         if sum > best {
             best = sum;
             split = j;
@@ -205,14 +195,14 @@ fn best_split(ring: &[f32; 32], t: f32, on: bool, lo: u64, idx: u64) -> u64
 fn refine_in(ring: &[f32; 32], t: f32, on: bool, lo: u64, idx: u64, t_run: f64) -> f64
     ensures { result ≡ refine_in_of ring.now t on lo idx t_run }
 {
-    let none = idx <= lo;
-    if none {
-        return t_run;
+    if idx <= lo {
+        t_run
+    } else {
+        let s = best_split(ring, t, on, lo, idx);
+        let i = (s % 32) as usize;
+        let k = (s.saturating_sub(1) % 32) as usize;
+        arith::edge(s, arith::cross(ring[k], ring[i], t))
     }
-    let s = best_split(ring, t, on, lo, idx);
-    let i = (s % 32) as usize;
-    let k = (s.saturating_sub(1) % 32) as usize;
-    arith::edge(s, arith::cross(ring[k], ring[i], t))
 }
 
 // The edge found again in the envelopes around it, since the low-pass delays the crossing.
@@ -236,165 +226,155 @@ pub fn refine(
 
 // ---- the train
 
-// A full train takes no pulse and is marked; else the pulse goes into its slot and waits for its gap.
-#[tactic(auto, unfolding(crate::specs::Train::push_pulse_of))]
-pub fn push_pulse(max_pulses: u32, t: Train, pac: C32, len: Steps, ook: &mut [u32]) -> Pushed
-    ensures { (result, ook.new) ≡ push_pulse_of max_pulses t pac len ook.old }
-{
-    let full = t.ook_n >= max_pulses;
-    if full {
-        let mut n = t;
-        n.truncated = 1;
-        return Pushed {
-            fits: false,
-            train: n,
+impl Train {
+    // A full train takes no pulse and is marked; else the pulse goes into its slot and waits for its gap.
+    #[tactic(auto, unfolding(crate::specs::Train::push_pulse_of))]
+    pub fn push_pulse(self, max_pulses: u32, pac: C32, len: Steps, ook: &mut [u32]) -> Pushed
+        ensures { (result, ook.new) ≡ push_pulse_of max_pulses self pac len ook.old }
+    {
+        if self.ook_n >= max_pulses {
+            Pushed {
+                fits: false,
+                train: Train {
+                    truncated: 1,
+                    ..self
+                },
+            }
+        } else {
+            shared::put(ook, 2 * (self.ook_n as usize), len.0);
+            Pushed {
+                fits: true,
+                train: Train {
+                    open: 1,
+                    acc: self.acc.plus(pac),
+                    ..self
+                },
+            }
+        }
+    }
+
+    // The gap of the pulse that waits: the pair is whole.
+    #[tactic(auto, unfolding(crate::specs::Train::close_gap_of, shared::specs::Counts::inc))]
+    pub fn close_gap(self, gap: Steps, ook: &mut [u32]) -> Train
+        ensures { (result, ook.new) ≡ close_gap_of self gap ook.old }
+    {
+        if self.open == 1 {
+            shared::put(ook, 2 * (self.ook_n as usize) + 1, gap.0);
+            Train {
+                ook_n: self.ook_n.wrapping_add(1),
+                open: 0,
+                ..self
+            }
+        } else {
+            self
+        }
+    }
+
+    // No pulses; start and pulse_end stay, as in the Rust.
+    #[tactic(auto, unfolding(crate::specs::Train::empty_train_of))]
+    pub fn emptied(self) -> Train
+        ensures { result ≡ empty_train_of self }
+    {
+        Train {
+            start: self.start,
+            pulse_end: self.pulse_end,
+            ..Train::default()
+        }
+    }
+}
+
+impl<O> EndedOf<O> {
+    // What the call asks for now.
+    pub fn then(self, next: Next) -> DoneOf<O>
+        ensures { result ≡ record { next = next; train = self.train; out = self.out } }
+    {
+        DoneOf {
+            next,
+            train: self.train,
+            out: self.out,
+        }
+    }
+}
+
+impl EndedOf<OutCore> {
+    // Pairs make a record, and the train is empty then.
+    #[tactic(auto, unfolding(crate::specs::Train::finish_of))]
+    fn finish(self, high: f32) -> EndedCore
+        ensures { whole_ended result ≡ finish_of self.train high (whole_out self.out) }
+    {
+        let t = self.train;
+        let out = if t.ook_n > 0 {
+            OutCore {
+                index: t.start,
+                end: t.pulse_end,
+                state: 1,
+                cut: u32::from(t.truncated == 1),
+                pairs: t.ook_n,
+                level: high,
+                fsk: 0,
+                carrier: Carrier::Vector(t.acc.re, t.acc.im),
+            }
+        } else {
+            self.out
         };
-    }
-    shared::put(ook, 2 * (t.ook_n as usize), len.0);
-    let acc = C32 {
-        re: t.acc.re + pac.re,
-        im: t.acc.im + pac.im,
-    };
-    let mut n = t;
-    n.open = 1;
-    n.acc = acc;
-    Pushed {
-        fits: true,
-        train: n,
-    }
-}
-
-// The gap of the pulse that waits: the pair is whole.
-#[tactic(auto, unfolding(crate::specs::Train::close_gap_of, shared::specs::Counts::inc))]
-pub fn close_gap(t: Train, gap: Steps, ook: &mut [u32]) -> Train
-    ensures { (result, ook.new) ≡ close_gap_of t gap ook.old }
-{
-    let waits = t.open == 1;
-    if waits {
-        shared::put(ook, 2 * (t.ook_n as usize) + 1, gap.0);
-        let k = t.ook_n.wrapping_add(1);
-        let mut n = t;
-        n.ook_n = k;
-        n.open = 0;
-        return n;
-    }
-    t
-}
-
-// No pulses; start and pulse_end stay, as in the Rust.
-#[tactic(auto, unfolding(crate::specs::Train::empty_train_of))]
-pub fn empty_train(t: Train) -> Train
-    ensures { result ≡ empty_train_of t }
-{
-    Train {
-        started: 0,
-        ook_n: 0,
-        open: 0,
-        longest: Steps(0),
-        truncated: 0,
-        acc: C32 { re: 0.0, im: 0.0 },
-        origin: 0.0,
-        bound: 0,
-        ..t
-    }
-}
-
-// Pairs make a record, and the train is empty then.
-#[tactic(auto, unfolding(crate::specs::Train::finish_of))]
-fn finish(t: Train, high: f32, out: OutCore) -> EndedCore
-    ensures { whole_ended result ≡ finish_of t high (whole_out out) }
-{
-    let empty = empty_train(t);
-    let some = t.ook_n > 0;
-    if some {
-        let cut = u32::from(t.truncated == 1);
-        let carrier = Flat::vector(t.acc.re, t.acc.im);
-        let o = OutCore {
-            index: t.start,
-            end: t.pulse_end,
-            state: 1,
-            cut,
-            pairs: t.ook_n,
-            level: high,
-            fsk: 0,
-            carrier,
-        };
-        return EndedCore {
-            train: empty,
-            out: o,
-        };
-    }
-    EndedCore { train: empty, out }
-}
-
-// The train ends: a pulse that waits gets the gap 0.
-#[tactic(auto, unfolding(crate::specs::Train::end_train_of))]
-pub fn end_train(t: Train, high: f32, out: OutCore, ook: &mut [u32]) -> EndedCore
-    ensures { (whole_ended result, ook.new) ≡ end_train_of t high (whole_out out) ook.old }
-{
-    let n = close_gap(t, Steps(0), ook);
-    finish(n, high, out)
-}
-
-fn longer(longest: Steps, len: Steps) -> Steps
-    ensures { result ≡ longer_of longest len }
-{
-    Steps(longest.0.max(len.0))
-}
-
-// After the push of a pulse: the burst stays, or the train is full and ends.
-fn after_push(q: Pushed, high: f32, out: OutCore, ook: &mut [u32]) -> DoneCore
-    ensures { (whole_done result, ook.new) ≡ pushed_by high (whole_out out) (q, ook.old) }
-{
-    let t = q.train;
-    let fits = q.fits;
-    if fits {
-        return DoneCore {
-            next: Next::Stay,
-            train: t,
+        EndedCore {
+            train: t.emptied(),
             out,
-        };
+        }
     }
-    let e = end_train(t, high, out, ook);
-    let et = e.train;
-    let eo = e.out;
-    DoneCore {
-        next: Next::Idle,
-        train: et,
-        out: eo,
-    }
-}
 
-// A pulse is final. In FSK mode it is not kept: frames alone are asked for there.
-#[tactic(auto, unfolding(crate::specs::Train::pulse_done_of))]
-pub fn pulse_done(
-    p: Settings,
-    t: Train,
-    pac: C32,
-    high: f32,
-    out: OutCore,
-    len: Steps,
-    end: f64,
-    ook: &mut [u32],
-) -> DoneCore
-    ensures { (whole_done result, ook.new) ≡ pulse_done_of p t pac high (whole_out out) len end ook.old }
-{
-    let mut n = t;
-    n.pulse_end = arith::step_of(end);
-    let fsk = p.mode == 1;
-    if fsk {
-        n.started = 0;
-        return DoneCore {
-            next: Next::Stay,
-            train: n,
-            out,
-        };
+    // The train ends: a pulse that waits gets the gap 0.
+    #[tactic(auto, unfolding(crate::specs::Train::end_train_of))]
+    pub fn end_train(self, high: f32, ook: &mut [u32]) -> EndedCore
+        ensures { (whole_ended result, ook.new) ≡ end_train_of self.train high (whole_out self.out) ook.old }
+    {
+        EndedCore {
+            train: self.train.close_gap(Steps(0), ook),
+            ..self
+        }
+        .finish(high)
     }
-    let old = t.longest;
-    let long = longer(old, len);
-    n.longest = long;
-    let q = push_pulse(p.max_pulses, n, pac, len, ook);
-    after_push(q, high, out, ook)
+
+    // A pulse is final. In FSK mode it is not kept: frames alone are asked for there. A train that has no room for it ends.
+    #[tactic(auto, unfolding(crate::specs::Train::pulse_done_of))]
+    pub fn pulse_done(
+        self,
+        p: Settings,
+        pac: C32,
+        high: f32,
+        len: Steps,
+        end: f64,
+        ook: &mut [u32],
+    ) -> DoneCore
+        ensures { (whole_done result, ook.new) ≡ pulse_done_of p self.train pac high (whole_out self.out) len end ook.old }
+    {
+        let t = Train {
+            pulse_end: arith::step_of(end),
+            ..self.train
+        };
+        if p.mode == 1 {
+            EndedCore {
+                train: Train { started: 0, ..t },
+                ..self
+            }
+            .then(Next::Stay)
+        } else {
+            let q = Train {
+                longest: t.longest.max(len),
+                ..t
+            }
+            .push_pulse(p.max_pulses, pac, len, ook);
+            let e = EndedCore {
+                train: q.train,
+                ..self
+            };
+            if q.fits {
+                e.then(Next::Stay)
+            } else {
+                e.end_train(high, ook).then(Next::Idle)
+            }
+        }
+    }
 }
 
 // A gap so much longer than the longest pulse ends the train.
@@ -402,5 +382,6 @@ pub fn pulse_done(
 pub fn gap_ratio_exceeded(gap_ratio: f32, longest: Steps, n: u32) -> bool
     ensures { result ≡ gap_ratio_exceeded_of gap_ratio longest n }
 {
-    longest.0 > 0 && arith::u32_to_f32(n) > gap_ratio * arith::u32_to_f32(longest.0)
+    longest.0 > 0
+        && std::num::nearest_u32_to_f32(n) > gap_ratio * std::num::nearest_u32_to_f32(longest.0)
 }

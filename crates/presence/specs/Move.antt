@@ -5,6 +5,8 @@ use Rattle.std.specs.Float.Ieee.{mul, of_bits}
 use Rattle.shared.specs.Counts.{sat_add_of}
 use Rattle.run.specs.Run.{with_length, moved_of}
 use Rattle.run.specs.declared.Run.{Run}
+use Rattle.run.specs.declared.Move.{Move}
+use Rattle.run.specs.declared.Move.TheVariants.{Same, Glitch, Begins}
 use Rattle.fsk.specs.Makers.{with_runs}
 use Rattle.fsk.specs.Makers as frames
 use Rattle.fsk.specs.Resolve.{begin_frame_of}
@@ -24,13 +26,15 @@ pres_thr_of was noise p_factor =
     let trig = mul binary32 noise p_factor in
     cond was (mul binary32 trig (of_bits binary32 0x3f60_0000)) (mul binary32 trig (of_bits binary32 0x3f90_0000))
 
-unfoldable pub move_pres_of : Bool → Bool → Pres → ℕ → Float → Pres
-move_pres_of same short s level tc = with_run (moved_of same short s.run level tc) s
+unfoldable pub move_pres_of : Move → Pres → ℕ → Float → Pres
+move_pres_of m s level tc = with_run (moved_of m s.run level tc) s
 
 -- a short absence inside a frame: its n samples extend the frequency run
 unfoldable pub extend_of : Frame → ℕ → Frame
 extend_of fr n = with_runs (frames.with_run (with_length (sat_add_of fr.runs.run.run_len n) fr.runs.run) fr.runs) fr
 
 -- what the same move does to the frame: a presence that begins begins a frame; n are the samples of a run that was a glitch
-unfoldable pub move_frame_of : Bool → Bool → Bool → ℕ → Float → Frame → Frame
-move_frame_of same short on n tc fr = cond same fr (cond short (cond on (extend_of fr n) fr) (cond on (begin_frame_of fr tc) fr))
+abbrev pub move_frame_of : Move → Bool → ℕ → Float → Frame → Frame
+move_frame_of Same on n tc fr = fr
+move_frame_of Glitch on n tc fr = cond on (extend_of fr n) fr
+move_frame_of Begins on n tc fr = cond on (begin_frame_of fr tc) fr

@@ -5,8 +5,9 @@ use Rattle.std.specs.Float.Ieee.{add, sub, le, of_bits, of_int}
 use Rattle.ieee.specs.Constants.{zero64, one64}
 use Rattle.arith.specs.Leaves.{edge_of, cross_of}
 use Rattle.shared.specs.Counts.{bit}
-use Rattle.run.specs.Run.{with_confirmed, with_start, due_of}
+use Rattle.run.specs.Run.{meets_of, with_confirmed, with_start, due_of}
 use Rattle.run.specs.declared.Run.{Run}
+use Rattle.run.specs.declared.Move.{Move}
 use Rattle.ook.specs.Train.{end_train_of}
 use Rattle.ook.specs.Types.{Ended}
 use Rattle.shared.specs.declared.Settings.{Settings}
@@ -36,9 +37,8 @@ advance_by on s q = (record { on = on; pres = s; frame = q.0 }, q.1)
 
 abbrev pub advance_at : Settings → Inputs → Pres → Frame → Bool → Float → List ℕ → Advanced × List ℕ
 advance_at p a s fr on tc fsk =
-    let same : Bool = eqb (bit on) s.run.level in
-    let short : Bool = eqb s.run.confirmed 0 in
-    advance_by on (move_pres_of same short s (bit on) tc) (slice_if_of p a on (move_frame_of same short on s.run.run_len tc fr) fsk)
+    let m : Move = meets_of s.run (bit on) in
+    advance_by on (move_pres_of m s (bit on) tc) (slice_if_of p a on (move_frame_of m on s.run.run_len tc fr) fsk)
 
 abbrev pub advance_thr : Settings → Inputs → Pres → Frame → Float → List ℕ → Advanced × List ℕ
 advance_thr p a s fr thr fsk = advance_at p a s fr (upper_of (eqb s.run.level 1) a.e thr) (edge_of a.idx (cross_of a.ep a.e thr)) fsk

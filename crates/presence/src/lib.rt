@@ -3,7 +3,7 @@
 
 ghost use Rattle.std.specs.Prelude.{◌≡◌, ◌+◌, ◌*◌, ◌-◌, ◌<◌, List, Float};
 ghost use Rattle.presence.specs.Move.{pres_thr_of, move_pres_of, extend_of, move_frame_of};
-ghost use Rattle.presence.specs.Presence.{slice_if_of, sure_if_of, ends_of, in_window_of, end_of, end_if_of, long_of, end_carrier_of, carrier_if_of, advance_of, presence_of, near_start_of, snap_of};
+ghost use Rattle.presence.specs.Presence.{slice_if_of, ends_of, in_window_of, end_of, end_if_of, end_carrier_of, carrier_if_of, advance_of, presence_of, near_start_of, snap_of};
 ghost use Rattle.run.specs.Run.{edge_at};
 ghost use Rattle.fsk.specs.Core.{whole_frame};
 ghost use Rattle.frame_end.specs.Core.{whole_body};
@@ -11,18 +11,21 @@ ghost use Rattle.presence.specs.Core.{whole_advanced, whole_present, whole_snapp
 
 use arith::C32;
 use frame_end::{BodyCore, BodyOf};
-use fsk::{Cand, CandCore, FrameCore, FrameOf};
-use run::{Crossing, Run};
-use shared::{Next, Out, OutCore, Settings};
+use fsk::{CandCore, FrameCore, FrameOf};
+use ook::EndedCore;
+use run::{Crossing, Move, Run};
+use shared::{Next, OutCore, Settings};
 
 // The run of the presence, which is high while the envelope is above the trigger, and the trigger as a factor of the noise.
-#[derive(Clone, Copy)]
+#[derive(Clone, Copy, Default)]
 pub struct Pres {
     pub run: Run,
     pub p_factor: f32,
 }
 
-// What the presence machine reads beside its own state.
+// What the presence machine reads beside its own state. The level is the number of the envelope's run, since the
+// definitions (`inputs_of`, `end_of`) hand it on and test it as one. It goes with the settings through six functions: they in it, at the
+// same speed, would be one parameter less, and `a.p.min_steps` for `p.min_steps` here and in each definition and law of a presence.
 #[derive(Clone, Copy)]
 pub struct Inputs {
     pub idx: u64,
@@ -44,8 +47,6 @@ pub struct AdvancedOf<C> {
     pub frame: FrameOf<C>,
 }
 
-pub type Advanced = AdvancedOf<Cand>;
-
 pub type AdvancedCore = AdvancedOf<CandCore>;
 
 // What the sample asks for, the presence, and what the end of a frame may have changed.
@@ -56,77 +57,54 @@ pub struct PresentOf<C, O> {
     pub body: BodyOf<C, O>,
 }
 
-pub type Present = PresentOf<Cand, Out>;
-
 pub type PresentCore = PresentOf<CandCore, OutCore>;
 
-// The trigger, an eighth (HYSTERESIS) below where the carrier is present and an eighth above where it is not.
+// The trigger, an eighth below where the carrier is present and an eighth above where it is not.
 #[tactic(auto, unfolding(crate::specs::Move::pres_thr_of))]
 fn pres_thr(up: bool, noise: f32, factor: f32) -> f32
     ensures { result ≡ pres_thr_of up noise factor }
 {
     if up {
-        return noise * factor * 0.875;
+        noise * factor * 0.875
+    } else {
+        noise * factor * 1.125
     }
-    noise * factor * 1.125
 }
 
 // The run of the presence after a sample of this level.
-#[tactic(auto, unfolding(crate::specs::Move::move_pres_of, run::specs::Run::moved_of))]
-fn move_pres(same: bool, short: bool, s: Pres, level: u32, c: Crossing) -> Pres
-    ensures { result ≡ move_pres_of same short s level (edge_at c) }
+#[tactic(auto, unfolding(crate::specs::Move::move_pres_of))]
+fn move_pres(m: Move, s: Pres, level: u32, c: Crossing) -> Pres
+    ensures { result ≡ move_pres_of m s level (edge_at c) }
 {
-    let r = s.run;
-    if same {
-        let n = r.lengthen();
-        let mut q = s;
-        q.run = n;
-        return q;
+    Pres {
+        run: s.run.moved(m, level, c),
+        ..s
     }
-    if short {
-        let n = r.rejoin(level);
-        let mut q = s;
-        q.run = n;
-        return q;
-    }
-    let n = r.begin_run(level, c.edge_at());
-    let mut q = s;
-    q.run = n;
-    q
 }
 
-// The carrier was away only for a glitch: the frequency run goes on through those samples.
+// The carrier was away only for a glitch: the frequency run goes on through those samples. Changed in place, here, in end_carrier and in
+// snap: the field is two or three structs down, and `..` at each level is no plainer.
 #[tactic(auto, unfolding(crate::specs::Move::extend_of, shared::specs::Counts::sat_add_of))]
-fn extend(fr: FrameCore, n: u32) -> FrameCore
+fn extend(mut fr: FrameCore, n: u32) -> FrameCore
     ensures { (cs : List Float) → whole_frame cs result ≡ extend_of (whole_frame cs fr) n }
 {
-    let k = fr.runs.run.run_len.saturating_add(n);
-    let mut q = fr;
-    q.runs.run.run_len = k;
-    q
+    fr.runs.run.run_len = fr.runs.run.run_len.saturating_add(n);
+    fr
 }
 
 // What the move of the presence does to the frame: an absence of n samples that was a glitch extends its run, and a presence that
 // begins begins a frame.
-#[tactic(auto, unfolding(crate::specs::Move::move_frame_of))]
-fn move_frame(same: bool, short: bool, on: bool, n: u32, c: Crossing, fr: FrameCore) -> FrameCore
-    ensures { (cs : List Float) → whole_frame cs result ≡ move_frame_of same short on n (edge_at c) (whole_frame cs fr) }
+fn move_frame(m: Move, on: bool, n: u32, c: Crossing, fr: FrameCore) -> FrameCore
+    ensures { (cs : List Float) → whole_frame cs result ≡ move_frame_of m on n (edge_at c) (whole_frame cs fr) }
 {
-    if same {
-        return fr;
+    match m {
+        Move::Glitch if on => extend(fr, n),
+        Move::Begins if on => fsk::begin_frame(fr, c.edge_at()),
+        _ => fr,
     }
-    if short {
-        if on {
-            return extend(fr, n);
-        }
-        return fr;
-    }
-    if on {
-        return fsk::begin_frame(fr, c.edge_at());
-    }
-    fr
 }
 
+// An early return: as an if-expression this takes 7 % more instructions on an FSK stream, `end_if` and `carrier_if` together 14 %.
 #[tactic(auto, unfolding(crate::specs::Presence::slice_if_of))]
 fn slice_if(
     p: Settings,
@@ -139,8 +117,7 @@ fn slice_if(
     ensures { (whole_frame cs.new result, fsk.new) ≡ slice_if_of p a on (whole_frame cs.old fr) fsk.old }
 {
     if on {
-        let d = a.d;
-        return fsk_sample::fsk_sample(p, fr, a.high, d, a.e, a.idx, cs, fsk);
+        return fsk_sample::fsk_sample(p, fr, a.high, a.d, a.e, a.idx, cs, fsk);
     }
     fr
 }
@@ -168,36 +145,18 @@ fn advance(
         at: a.e,
         thr,
     };
-    let same = level == r.level;
-    let short = r.confirmed == 0;
-    let q = move_pres(same, short, s, level, c);
-    let f = move_frame(same, short, on, r.run_len, c, fr);
-    let g = slice_if(p, a, on, f, cs, fsk);
-    AdvancedCore {
-        on,
-        pres: q,
-        frame: g,
-    }
-}
-
-#[tactic(auto, unfolding(crate::specs::Presence::sure_if_of))]
-fn sure_if(due: bool, s: Pres) -> Pres
-    ensures { result ≡ sure_if_of due s }
-{
-    if due {
-        let mut q = s;
-        q.run.confirmed = 1;
-        return q;
-    }
-    s
+    let m = r.meets(level);
+    let pres = move_pres(m, s, level, c);
+    let moved = move_frame(m, on, r.run_len, c, fr);
+    let frame = slice_if(p, a, on, moved, cs, fsk);
+    AdvancedCore { on, pres, frame }
 }
 
 #[tactic(auto, unfolding(crate::specs::Presence::ends_of))]
 fn ends_of(due: bool, on: bool, prev: u32, min_steps: u32) -> bool
     ensures { result ≡ ends_of due on prev min_steps }
 {
-    // One test in the other, here and in `in_window`, `end_of`, `long_of` and `near_start`: by `&&` the FSK stream takes 11 % more
-    // instructions.
+    // One test in the other: by `&&` an FSK stream takes 9.6 % more instructions.
     if due {
         if on {
             return false;
@@ -214,11 +173,7 @@ const EDGE_WINDOW: f64 = 4.0;
 fn in_window(x: f64) -> bool
     ensures { result ≡ in_window_of x }
 {
-    let low = 0.0 <= x;
-    if low {
-        return x <= EDGE_WINDOW;
-    }
-    false
+    0.0 <= x && x <= EDGE_WINDOW
 }
 
 // Where the envelope fell right before, its edge tells the frame's end better than presence does.
@@ -226,15 +181,11 @@ fn in_window(x: f64) -> bool
 fn end_of(level: u32, c_run: f64, end: f64) -> f64
     ensures { result ≡ end_of level c_run end }
 {
-    let off = level == 0;
-    if off {
-        let near = in_window(end - c_run);
-        if near {
-            return c_run;
-        }
-        return end;
+    if level == 0 && in_window(end - c_run) {
+        c_run
+    } else {
+        end
     }
-    end
 }
 
 #[tactic(auto, unfolding(crate::specs::Presence::end_if_of))]
@@ -251,23 +202,12 @@ fn end_if(
 {
     if ends {
         let end = end_of(a.level, a.c_run, q.t_run);
-        let pac = a.pac;
-        // Copies: a struct that is handed on here would else stand in memory on the other way too.
+        // Copies, here and in carrier_if: without them an FSK stream takes 29 % more instructions.
         let k = p;
         let c = b;
-        return frame_end::frame_done(k, c, a.high, pac, q.t_prev, end, ook, fsk);
+        return frame_end::frame_done(k, c, a.high, a.pac, q.t_prev, end, ook, fsk);
     }
     b
-}
-
-#[tactic(auto, unfolding(crate::specs::Presence::long_of))]
-fn long_of(on: bool, run: u32, long_steps: u32) -> bool
-    ensures { result ≡ long_of on run long_steps }
-{
-    if on {
-        return run > long_steps;
-    }
-    false
 }
 
 // A carrier: the frame so far is kept, cut, and the train ends too.
@@ -276,29 +216,28 @@ fn end_carrier(
     p: Settings,
     a: Inputs,
     t_run: f64,
-    b: BodyCore,
+    mut b: BodyCore,
     ook: &mut [u32],
     fsk: &mut [u32],
 ) -> BodyCore
     ensures { (cs : List Float) → (whole_body cs result, ook.new, fsk.new) ≡ end_carrier_of p a t_run (whole_body cs b) ook.old fsk.old }
 {
-    let mut m = b;
-    m.frame.done.fsk_full = 1;
-    let end = arith::u64_to_f64(a.idx) + 1.0;
-    let pac = a.pac;
-    let n = frame_end::frame_done(p, m, a.high, pac, t_run, end, ook, fsk);
-    let t = n.train;
-    let o = n.out_ook;
-    let e = ook::end_train(t, a.high, o, ook);
-    let et = e.train;
-    let eo = e.out;
-    let mut k = n;
-    k.train = et;
-    k.out_ook = eo;
-    k
+    b.frame.done.fsk_full = 1;
+    let end = std::num::nearest_u64_to_f64(a.idx) + 1.0;
+    let n = frame_end::frame_done(p, b, a.high, a.pac, t_run, end, ook, fsk);
+    let kept = EndedCore {
+        train: n.train,
+        out: n.out_ook,
+    };
+    let e = kept.end_train(a.high, ook);
+    BodyCore {
+        train: e.train,
+        out_ook: e.out,
+        ..n
+    }
 }
 
-#[tactic(auto, unfolding(crate::specs::Presence::carrier_if_of))]
+#[tactic(auto, unfolding(crate::specs::Presence::carrier_if_of, crate::specs::Presence::long_of))]
 fn carrier_if(
     p: Settings,
     a: Inputs,
@@ -310,16 +249,14 @@ fn carrier_if(
 ) -> PresentCore
     ensures { (cs : List Float) → (whole_present cs result, ook.new, fsk.new) ≡ carrier_if_of p a on s (whole_body cs b) ook.old fsk.old }
 {
-    let long = long_of(on, s.run.run_len, p.long_steps);
-    if long {
+    if on && s.run.run_len > p.long_steps {
         // Copies, as in end_if.
         let c = b;
         let q = p;
-        let k = end_carrier(q, a, s.run.t_run, c, ook, fsk);
         return PresentCore {
             next: Next::IdleAt(a.e),
             pres: s,
-            body: k,
+            body: end_carrier(q, a, s.run.t_run, c, ook, fsk),
         };
     }
     PresentCore {
@@ -329,6 +266,7 @@ fn carrier_if(
     }
 }
 
+// One sample of the presence machine, and of the frame where the carrier is present: what it asks for, the presence, and the body.
 #[tactic(auto, unfolding(crate::specs::Presence::presence_of))]
 pub fn presence(
     p: Settings,
@@ -343,16 +281,19 @@ pub fn presence(
 {
     let fr = b.frame;
     let l = advance(p, a, s, fr, cs, fsk);
-    let s1 = l.pres;
-    let r1 = s1.run;
-    let f1 = l.frame;
-    let mut b1 = b;
-    b1.frame = f1;
-    let due = r1.due(p.min_steps);
-    let ends = ends_of(due, l.on, r1.prev_len, p.min_steps);
-    let s2 = sure_if(due, s1);
-    let b2 = end_if(ends, p, a, r1, b1, ook, fsk);
-    carrier_if(p, a, l.on, s2, b2, ook, fsk)
+    let run = l.pres.run;
+    let body = BodyCore {
+        frame: l.frame,
+        ..b
+    };
+    let due = run.due(p.min_steps);
+    let ends = ends_of(due, l.on, run.prev_len, p.min_steps);
+    let sure = Pres {
+        run: run.confirm_if(due),
+        ..l.pres
+    };
+    let ended = end_if(ends, p, a, run, body, ook, fsk);
+    carrier_if(p, a, l.on, sure, ended, ook, fsk)
 }
 
 // The presence and the frame with their start.
@@ -362,27 +303,17 @@ pub struct SnappedOf<C> {
     pub frame: FrameOf<C>,
 }
 
-pub type Snapped = SnappedOf<Cand>;
-
 pub type SnappedCore = SnappedOf<CandCore>;
 
 // `begin_run` of the envelope, at a rise: a frame that presence has only just begun starts at the envelope's edge instead.
 #[tactic(auto, unfolding(crate::specs::Presence::snap_of))]
-pub fn snap(s: Pres, fr: FrameCore, tc: f64) -> SnappedCore
+pub fn snap(mut s: Pres, mut fr: FrameCore, tc: f64) -> SnappedCore
     ensures { (cs : List Float) → whole_snapped cs result ≡ snap_of s (whole_frame cs fr) tc }
 {
-    let near = near_start(
-        s.run.level,
-        fr.fsk_phase,
-        fr.done.fsk_runs,
-        tc - s.run.t_run,
-    );
-    if near {
-        let mut q = s;
-        q.run.t_run = tc;
-        let mut f = fr;
-        f.runs.run.t_run = tc;
-        return SnappedCore { pres: q, frame: f };
+    let lead = tc - s.run.t_run;
+    if near_start(s.run.level, fr.fsk_phase, fr.done.fsk_runs, lead) {
+        s.run.t_run = tc;
+        fr.runs.run.t_run = tc;
     }
     SnappedCore { pres: s, frame: fr }
 }
@@ -391,17 +322,5 @@ pub fn snap(s: Pres, fr: FrameCore, tc: f64) -> SnappedCore
 fn near_start(level: u32, phase: u32, runs: u32, lead: f64) -> bool
     ensures { result ≡ near_start_of level phase runs lead }
 {
-    let present = level == 1;
-    if present {
-        let first = phase == 0;
-        if first {
-            let none = runs == 0;
-            if none {
-                return in_window(lead);
-            }
-            return false;
-        }
-        return false;
-    }
-    false
+    level == 1 && phase == 0 && runs == 0 && in_window(lead)
 }

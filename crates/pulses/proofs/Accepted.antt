@@ -6,9 +6,10 @@ use Prim.Native.Nat.{ℕ, ◌*◌, ◌≤◌}
 use lib.Dec.{leb, eqb}
 use borrow.Author.Tests.{leb-true, eqb-false, not-true}
 use lib.ListN.{length}
-use Rattle.std.specs.Prelude.{Ok, is_ok}
+use Rattle.std.specs.Prelude.{⊤, Result, Ok, is_ok}
 use Rattle.shared.specs.declared.Settings.{Settings}
 use Rattle.shared.proofs.Tests.{both_true}
+use Rattle.refusals.specs.declared.Refusal.{Refusal}
 use Rattle.refusals.proofs.Domain.{InDomain, settings_tell}
 use Rattle.refusals.specs.Domain.{index_ok, room_ok}
 use Rattle.refusals.proofs.Order.{none_failed, is_passed, not_passed}
@@ -24,7 +25,7 @@ use Rattle.lane.specs.Begin.{lead_lane}
 use Rattle.lane.specs.Advance.{advance_of}
 use Rattle.lane.specs.Close.{close_of}
 use Rattle.lane.specs.Serial.{stamped, stamped_with}
-use Rattle.lane.specs.Step.{stay, opened, begun, stepped, closed}
+use Rattle.lane.specs.Step.{unless_refused, stay, opened, begun, stepped, closed}
 
 -- ---- what a call that is not refused tells
 pub begin_tells : (l : Lane) (b : BeginArgs) (ook fsk : ℕ) → begin_refusal l b ook fsk ≡ Ok tt → InDomain l.settings × (2 * l.settings.max_pulses ≤ ook)
@@ -49,6 +50,11 @@ close_tells l ook fsk h =
     eqb-false l.phase 0 (not-true (eqb l.phase 0) t.phase_ok)
 
 -- ---- what the calls answer
+
+-- what is refused answers as a refusal does
+pub when_refused : {A : Type 0} (P : A → Type 0) (k : Result ⊤ Refusal) (a : A) (r : Refusal → A) → is_ok k ≡ false → ((n : Refusal) → P (r n)) → P (unless_refused k a r)
+when_refused P k a r h f = by_refusal P k (λ q. absurd (not_passed k h q)) (λ n q. f n)
+
 module _ (l : Lane) (p : Settings) where
   pub open_accepted : is_ok (open_refusal l p) ≡ true → opened l p ≡ stamped l (stay (idle_lane 1 p))
   unfolding opened
@@ -56,7 +62,7 @@ module _ (l : Lane) (p : Settings) where
 
   pub open_refused : is_ok (open_refusal l p) ≡ false → (opened l p).lane ≡ l
   unfolding opened
-  open_refused h = by_refusal (λ (a : Answer). a.lane ≡ l) (open_refusal l p) (λ q. absurd (not_passed _ h q)) (λ n q. refl)
+  open_refused h = when_refused (λ (a : Answer). a.lane ≡ l) (open_refusal l p) _ _ h (λ n. refl)
 
 module _ (l : Lane) (b : BeginArgs) (ook fsk : List ℕ) where
   pub begin_accepted : is_ok (begin_refusal l b (length ook) (length fsk)) ≡ true → begun l b ook fsk ≡ stamped l (stay (lead_lane l b))
@@ -65,7 +71,7 @@ module _ (l : Lane) (b : BeginArgs) (ook fsk : List ℕ) where
 
   pub begin_refused : is_ok (begin_refusal l b (length ook) (length fsk)) ≡ false → (begun l b ook fsk).lane ≡ l
   unfolding begun
-  begin_refused h = by_refusal (λ (a : Answer). a.lane ≡ l) (begin_refusal l b (length ook) (length fsk)) (λ q. absurd (not_passed _ h q)) (λ n q. refl)
+  begin_refused h = when_refused (λ (a : Answer). a.lane ≡ l) (begin_refusal l b (length ook) (length fsk)) _ _ h (λ n. refl)
 
 module _ (l : Lane) (s : StepArgs) (ook fsk : List ℕ) where
   pub step_accepted : is_ok (step_refusal l s (length ook) (length fsk)) ≡ true → stepped l s ook fsk ≡ stamped_with l (advance_of l s ook fsk)
@@ -74,7 +80,7 @@ module _ (l : Lane) (s : StepArgs) (ook fsk : List ℕ) where
 
   pub step_refused : is_ok (step_refusal l s (length ook) (length fsk)) ≡ false → (stepped l s ook fsk).0.lane ≡ l
   unfolding stepped
-  step_refused h = by_refusal (λ (a : Answer × List ℕ × List ℕ). a.0.lane ≡ l) (step_refusal l s (length ook) (length fsk)) (λ q. absurd (not_passed _ h q)) (λ n q. refl)
+  step_refused h = when_refused (λ (a : Answer × List ℕ × List ℕ). a.0.lane ≡ l) (step_refusal l s (length ook) (length fsk)) _ _ h (λ n. refl)
 
 module _ (l : Lane) (ook fsk : List ℕ) where
   pub close_accepted : is_ok (close_refusal l (length ook) (length fsk)) ≡ true → closed l ook fsk ≡ stamped_with l (close_of l ook fsk)
@@ -83,4 +89,4 @@ module _ (l : Lane) (ook fsk : List ℕ) where
 
   pub close_refused : is_ok (close_refusal l (length ook) (length fsk)) ≡ false → (closed l ook fsk).0.lane ≡ l
   unfolding closed
-  close_refused h = by_refusal (λ (a : Answer × List ℕ × List ℕ). a.0.lane ≡ l) (close_refusal l (length ook) (length fsk)) (λ q. absurd (not_passed _ h q)) (λ n q. refl)
+  close_refused h = when_refused (λ (a : Answer × List ℕ × List ℕ). a.0.lane ≡ l) (close_refusal l (length ook) (length fsk)) _ _ h (λ n. refl)

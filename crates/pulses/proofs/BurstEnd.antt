@@ -3,12 +3,12 @@ use mathlib.Core.Path.{◌≡◌, refl, sym, ap, ◌∙◌, subst}
 use mathlib.Core.Bool.{Bool, true, false}
 use mathlib.Core.Option.{some}
 use mathlib.Core.List.{List, [], ◌∷◌, ◌++◌, map}
-use Prim.Native.Nat.{ℕ, suc, ◌+◌, ◌-◌, ◌*◌, ◌≤◌, ◌<◌, min}
+use Prim.Native.Nat.{ℕ, ◌+◌, ◌-◌, ◌*◌, ◌≤◌, ◌<◌, min}
 use native.Mathlib.Omega.{arith}
 use lib.Dec.{leb, ltb}
 use borrow.Author.Tests.{leb-true, leb-false, le-leb}
-use lib.ListN.{length, take}
-use lib.Seq.{take_all, length-take-le}
+use lib.ListN.{length, length-take, take}
+use lib.Seq.{take_all, take-append_seam, take-append-add, length-take-le}
 use lib.Ieee.{Float, nan}
 use Rattle.shared.specs.declared.Settings.{Settings}
 use Rattle.shared.specs.declared.Out.{Out}
@@ -17,10 +17,9 @@ use Rattle.refusals.proofs.Domain.{InDomain}
 use Rattle.lane.specs.Part.{front, named_of}
 use Rattle.pulses.specs.Runs.{Sample, Pulse, pulses}
 use Rattle.pulses.proofs.Edges.{both, flat, same_length, edges_emitted, widths_emitted}
-use Rattle.pulses.proofs.Flags.{flag_set, flag_clear}
 use Rattle.pulses.proofs.TrainState.{Edges, flat_length, Claim, no_pulse, gives}
 use Rattle.slots.specs.Slots.{slots_from, slots_of}
-use Rattle.slots.proofs.Slots.{slots_length, Heads, heads_take}
+use Rattle.slots.proofs.Slots.{slots_length, Heads}
 use Rattle.arith.specs.Carry.{width_by}
 use Rattle.pulses.proofs.OokSample.{given}
 use Rattle.pulses.specs.Yardstick.{Given, given_by}
@@ -56,17 +55,6 @@ unfolding slots_of flat
 slots_count carry [] l = absurd (omega arith)
 slots_count carry (q ∷ qs) l = slots_length carry q.0 0 q.0 (q.1 ∷ flat qs) ∙ omega (arith, flat_length qs)
 
--- one slot more than stand at the head
-take_heads : (xs rest : List ℕ) (n : ℕ) → take (length xs + n) (xs ++ rest) ≡ xs ++ take n rest
-take_heads [] rest n = let e : 0 + n ≡ n = omega arith in rw e
-take_heads (x ∷ xs) rest n =
-    let e : length (x ∷ xs) + n ≡ suc (length xs + n) = omega arith in
-    rw e (ap {B = List ℕ} (λ l. x ∷ l) (take_heads xs rest n))
-
-take_one : (l : List ℕ) → length (take 1 l) ≤ 1
-take_one [] = omega arith
-take_one (x ∷ l) = omega arith
-
 -- the part of an OOK record whose pairs fit
 part_ook : (out : Out) (ook fsk : List ℕ) → out.state ≡ 1 → out.fsk ≡ 0 → 2 * out.pairs ≤ length ook → named_of out ook fsk ≡ take (2 * out.pairs) ook
 unfolding named_of front
@@ -74,11 +62,11 @@ part_ook out ook fsk s f h = rw (s, f, le-leb (2 * out.pairs) (length ook) h)
 
 pub given_none : (out : Out) (part : List ℕ) → out.state ≡ 0 → given_by out part ≡ []
 unfolding given_by
-given_none out part q = flag_clear out.state _ _ q
+given_none out part q = rw q
 
 given_one : (out : Out) (part : List ℕ) → out.state ≡ 1 → given_by out part ≡ record { out = out; part = part } ∷ []
 unfolding given_by
-given_one out part q = flag_set out.state _ _ q
+given_one out part q = rw q
 
 -- the part that is fetched is the one that the record names
 module _ (p : Settings) (D : InDomain p) (xs : List (Sample Float)) (out : Out) (ook fsk part : List ℕ) (names : part ≡ named_of out ook fsk) where
@@ -101,7 +89,7 @@ module _ (p : Settings) (D : InDomain p) (xs : List (Sample Float)) (out : Out) 
         ∙ widths_emitted width nan p.min_steps p.max_pulses xs D.min_steps.0;
     cut = qc ∙ ap (λ (n : ℕ). bit (ltb p.max_pulses n)) same;
     slots =
-        ap some (ap (take (2 * out.pairs - 1)) split ∙ ap (λ (n : ℕ). take n (ss ++ take 1 S.rest)) (sym count) ∙ heads_take ss (ss ++ take 1 S.rest) (record { rest = take 1 S.rest; split = refl }))
+        ap some (ap (take (2 * out.pairs - 1)) split ∙ ap (λ (n : ℕ). take n (ss ++ take 1 S.rest)) (sym count) ∙ take-append_seam ss (take 1 S.rest))
         ∙ ap (λ (qs : List Edges). some (slots_of p.carry (flat qs))) listed
         ∙ ap (slots_between p.carry) (sym (edges_emitted width nan p.min_steps p.max_pulses xs D.min_steps.0));
   }
@@ -124,10 +112,10 @@ module _ (p : Settings) (D : InDomain p) (xs : List (Sample Float)) (out : Out) 
       split : part ≡ ss ++ take 1 S.rest
       split =
           let e : 2 * out.pairs ≡ length ss + 1 = omega (arith, count) in
-          names ∙ part_ook out ook fsk qs' qf r ∙ ap (take (2 * out.pairs)) S.split ∙ ap (λ (n : ℕ). take n (ss ++ S.rest)) e ∙ take_heads ss S.rest 1
+          names ∙ part_ook out ook fsk qs' qf r ∙ ap (take (2 * out.pairs)) S.split ∙ ap (λ (n : ℕ). take n (ss ++ S.rest)) e ∙ take-append-add ss S.rest 1
 
       firsts_part : p.carry ≡ 0 → firsts (ss ++ take 1 S.rest) ≡ map (both width) qs
-      firsts_part off = ap (λ (c : ℕ). firsts (slots_of c (flat qs) ++ take 1 S.rest)) off ∙ firsts_slots qs (take 1 S.rest) (omega (arith, few)) (take_one S.rest)
+      firsts_part off = ap (λ (c : ℕ). firsts (slots_of c (flat qs) ++ take 1 S.rest)) off ∙ firsts_slots qs (take 1 S.rest) (omega (arith, few)) (omega (arith, length-take 1 S.rest))
 
   pub claim_gives : Claim p.carry p.max_pulses (given p xs) out ook → Gives p (pulses p.min_steps xs) (given_by out part)
   unfolding Gives

@@ -34,7 +34,8 @@ use Rattle.burst.proofs.LeadLaws.{replay_stop}
 use Rattle.pulses.specs.Runs.{Sample}
 use Rattle.pulses.specs.Yardstick.{levelled, replayed, phase_after, phases_replayed, burst_at}
 use Rattle.pulses.specs.Auto.{AllZero}
-use Rattle.pulses.proofs.Flags.{clash}
+use Rattle.shared.proofs.Cases.{either}
+use Rattle.shared.proofs.Tests.{clash}
 use Rattle.pulses.proofs.Machine.{after, emitted}
 use Rattle.pulses.proofs.RunState.{opened, rest_low}
 use Rattle.pulses.proofs.Edges.{flat}
@@ -131,11 +132,9 @@ module _ (p : Settings) (D : InDomain p) where
 
     present_frames : (present_of p a ep s b ook fsk).0.burst.frames ≡ 0 → b.frames ≡ 0
     unfolding present_of by last_of
-    present_frames z = go (is_stay_of present.0.next) z
-      where
-        go : (c : Bool) → (by c).0.burst.frames ≡ 0 → b.frames ≡ 0
-        go true z = sym (presence_frames p auto (inputs_of a ep s b) b.pres (body_in b) ook fsk (unframed z)) ∙ z
-        go false z = sym (presence_frames p auto (inputs_of a ep s b) b.pres (body_in b) ook fsk (unframed z)) ∙ z
+    present_frames =
+        let had : present.0.body.frames ≡ 0 → b.frames ≡ 0 = λ z. sym (presence_frames p auto (inputs_of a ep s b) b.pres (body_in b) ook fsk (unframed z)) ∙ z in
+        either (λ (r : Sampled × List ℕ × List ℕ). r.0.burst.frames ≡ 0 → b.frames ≡ 0) (is_stay_of present.0.next) had had
 
     present_follows : (ys : List (Sample Float)) → b.env.run.level ≡ bit s.on → Under p b ook ys
         → Unfound (present_of p a ep s b ook fsk).0.burst.frame.fsk_phase (present_of p a ep s b ook fsk).0.burst.frames → Next-is p (present_of p a ep s b ook fsk) ys
@@ -167,12 +166,9 @@ module _ (p : Settings) (D : InDomain p) where
     -- a sample never takes a frame back
     pub sample_frames : p.mode ≡ 2 → (sample_of p a ring b ook fsk).0.burst.frames ≡ 0 → b.frames ≡ 0
     unfolding sample_of rest_of last_of rest
-    sample_frames auto = go (is_stay_of acts.0.next) (eqb p.mode 0)
-      where
-        go : (c m : Bool) → (cond {A = Sampled × List ℕ × List ℕ} c (rest m) (record { next = acts.0.next; burst = burst' }, acts.1, fsk)).0.burst.frames ≡ 0 → b.frames ≡ 0
-        go true true z = z
-        go true false z = present_frames auto a b.e_prev seen burst' acts.1 fsk z
-        go false m z = z
+    sample_frames auto =
+        let Had : Sampled × List ℕ × List ℕ → Type 0 = λ (r : Sampled × List ℕ × List ℕ). r.0.burst.frames ≡ 0 → b.frames ≡ 0 in
+        either Had (is_stay_of acts.0.next) (either Had (eqb p.mode 0) (λ z. z) (present_frames auto a b.e_prev seen burst' acts.1 fsk)) (λ z. z)
 
     rest_follows : (ys : List (Sample Float)) → burst'.env.run.level ≡ bit seen.on → Under p burst' acts.1 ys
         → Apart p (rest_of p a b.e_prev seen burst' acts.1 fsk).0.burst → Next-is p (rest_of p a b.e_prev seen burst' acts.1 fsk) ys
@@ -215,11 +211,9 @@ module _ (p : Settings) (D : InDomain p) where
     replay_frames : (k i : ℕ) (r : Sampled × List ℕ × List ℕ) → p.mode ≡ 2 → (replay_from p noise ring l k i r).0.burst.frames ≡ 0 → r.0.burst.frames ≡ 0
     unfolding replay_from
     replay_frames zero i r auto z = z
-    replay_frames (suc k) i r auto z = go (is_stay_of r.0.next) (replay_frames k (i + 1) (onward p (lead_at_of noise l i) ring r) auto z)
-      where
-        go : (c : Bool) → (cond c (sample_of p (lead_at_of noise l i) ring r.0.burst r.1 r.2) r).0.burst.frames ≡ 0 → r.0.burst.frames ≡ 0
-        go true q = sample_frames (lead_at_of noise l i) ring r.0.burst r.1 r.2 auto q
-        go false q = q
+    replay_frames (suc k) i r auto z =
+        either (λ (q : Sampled × List ℕ × List ℕ). q.0.burst.frames ≡ 0 → r.0.burst.frames ≡ 0) (is_stay_of r.0.next)
+        (sample_frames (lead_at_of noise l i) ring r.0.burst r.1 r.2 auto) (λ q. q) (replay_frames k (i + 1) (onward p (lead_at_of noise l i) ring r) auto z)
 
     -- the burst after the whole of a replay, and its phases from a sample on
     abbrev Rest : ℕ → ℕ → Sampled × List ℕ × List ℕ → Type 0

@@ -15,9 +15,8 @@ use Rattle.pulses.specs.Runs.{Sample}
 use Rattle.pulses.specs.Yardstick.{as_left, other, lent, Call, opening, begin, step, close, Given, Yardstick, refusal, accepts, step_samples, step_phases, step_of, closing_of, fetched, answered_by, advanced, ends, lent_well, handed_on}
 use Rattle.pulses.specs.Demand.{returned_by, the_lane, Place, after, after_all, bursts}
 use Rattle.pulses.specs.Auto.{EachWhere, NoneYetWhere}
-use Rattle.shared.proofs.Tests.{both_true}
+use Rattle.shared.proofs.Tests.{clash, both_true}
 use Rattle.pulses.proofs.Measure.{ListedAt, Good, Fine, call_fine, good, none_yet}
-use Rattle.pulses.proofs.Flags.{clash}
 use Rattle.pulses.proofs.BurstEnd.{given_none}
 use Rattle.pulses.proofs.Accepted.{open_accepted, open_refused, begin_accepted, begin_refused, step_accepted, step_refused, close_accepted, close_refused}
 

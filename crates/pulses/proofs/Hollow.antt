@@ -5,7 +5,8 @@ use mathlib.Core.Bool.{Bool, true, not, ◌&&◌}
 use mathlib.Core.List.{List, [], ◌∷◌, ◌++◌, map}
 use borrow.Author.Tests.{not-true}
 use Rattle.shared.proofs.Tests.{both_true}
-use Rattle.lane.specs.Answers.{Reply}
+use Rattle.std.specs.Prelude.{Result}
+use Rattle.shared.specs.declared.Next.{Next}
 use Rattle.pulses.specs.Yardstick.{Call}
 use Rattle.pulses.specs.Demand.{Program}
 use Rattle.pulses.specs.Lists.{opens, slots, first, lo, his, shut, m6, m7, two, halves, unended}
@@ -16,7 +17,7 @@ use Rattle.pulses.proofs.Refuted.{Test, by_pulses, by_slots, under_way, passes, 
 abbrev Row : Type 1
 Row = Test × Program × List Call
 
-abbrev hollow : Reply → List Row
+abbrev hollow : {E : Type 0} → Result Next E → List Row
 hollow reply =
     -- M6, and no train, whatever it replies
     (by_pulses, silent reply, opens 4 ++ m6 10 (slots 8))
@@ -68,7 +69,7 @@ all_fail_lem (r ∷ rs) h =
     let f = both_true (ran r.1 r.2).handed (not (passes r.0 (ran r.1 r.2))) t.0 in
     (refuted r.0 r.1 r.2 f.0 (not-true _ f.1), all_fail_lem rs t.1)
 
-pub hollow_fail : (reply : Reply)
+pub hollow_fail : {E : Type 0} (reply : Result Next E)
     → AllFail (silent reply ∷ fixed ∷ first_only ∷ invented ∷ idle_early ∷ cut_early ∷ glitch_counts ∷ train_early ∷ other_kind ∷ gapless ∷ never_carries ∷ always_carries ∷ carries_on ∷ too_late ∷ loses ∷ zeroes_gap ∷ replays_lead ∷ [])
 unfolding fails all_fail passes ran silent fixed first_only invented idle_early cut_early glitch_counts train_early other_kind gapless never_carries always_carries carries_on too_late loses zeroes_gap replays_lead
 hollow_fail reply = all_fail_lem (hollow reply) refl

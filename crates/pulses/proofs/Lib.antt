@@ -1,5 +1,4 @@
 -- The proof of demand 3.
-pub mod Flags
 pub mod Domain
 pub mod Division
 pub mod Machine

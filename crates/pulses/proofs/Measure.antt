@@ -34,7 +34,7 @@ use Rattle.lane.proofs.PartLaws.{part_named}
 use Rattle.pulses.specs.Runs.{Sample, pulses}
 use Rattle.pulses.specs.Yardstick.{lent, Call, opening, begin, step, close, Yardstick, refusal, accepts, levelled, replayed, phase_after, phases_replayed, burst_at, step_samples, step_phases, fetched, answered_by, advanced, ends}
 use Rattle.pulses.specs.Demand.{Gives}
-use Rattle.pulses.proofs.Flags.{clash}
+use Rattle.shared.proofs.Tests.{clash}
 use Rattle.pulses.proofs.Machine.{emitted}
 use Rattle.pulses.proofs.TrainState.{Claim, no_pulse, claim_numbered}
 use Rattle.pulses.proofs.OokSample.{given, stays, over, idle_not, idle_at_not, train_ends}
@@ -124,7 +124,7 @@ module _ (y : Yardstick) (D : InDomain y.lane.settings) where
         y' = answered_by y (stamped_with y.lane (settled y.lane s ld ring r)) (y.recorded ++ ms) (y.phases ++ ns)
 
         on_stay : r.0.next ≡ next.Stay → Next-is p r (y.recorded ++ ms) → y.trains ≡ [] → Running y'
-        on_stay n (stays n' F) t = record { under = record { run = F.run; train = F.train; undecided = F.undecided }; no_trains = rw t (given_none _ _ F.undecided) }
+        on_stay n (stays n' F) t = record { under = search; no_trains = rw t (given_none _ _ F.undecided) }
         on_stay n (over n' C') t = absurd (n' n)
 
         on_end : (r.0.next ≡ next.Stay → ⊥) → Next-is p r (y.recorded ++ ms) → y.trains ≡ [] → Gives p (pulses p.min_steps (y.recorded ++ ms)) y'.trains

@@ -7,7 +7,7 @@ use Prim.Native.Nat.{ℕ, suc, ◌+◌, ◌*◌, ◌≤◌}
 use native.Mathlib.Omega.{arith}
 use lib.Dec.{leb, ltb, eqb}
 use lib.Ieee.{Float}
-use borrow.Author.Tests.{le-leb, lt-ltb, eqb-true}
+use borrow.Author.Tests.{le-leb, lt-ltb}
 use lib.ListN.{length, length-append}
 use Rattle.arith.specs.declared.C32.{C32}
 use Rattle.arith.specs.Leaves.{step_of}
@@ -22,7 +22,7 @@ use Rattle.shared.specs.Answers.{is_stay_of}
 use Rattle.shared.specs.Counts.{bit}
 use Rattle.shared.specs.Params.{refine_at_of}
 use Rattle.ook.specs.Refine.{refine_of}
-use Rattle.ook.specs.Train.{with_started, with_first, with_bound, close_gap_of, pulse_done_of, end_train_of, stay_by, end_by}
+use Rattle.ook.specs.Train.{with_first, with_bound, close_gap_of, pulse_done_of, end_train_of, stay_by, end_by}
 use Rattle.refusals.proofs.Domain.{InDomain}
 use Rattle.envelope.specs.declared.At.{At}
 use Rattle.envelope.specs.declared.Seen.{Seen}
@@ -33,12 +33,13 @@ use Rattle.run.specs.Run.{due_of}
 use Rattle.envelope.specs.Act.{taken_of, confirm_if, rise_of, fall_of, confirm_of, act_of}
 use Rattle.envelope.specs.Tail.{carrier_of, gone_of, has_pulses_of, gap_over_of, limit_of, wait_of, tail_of}
 use Rattle.pulses.specs.Runs.{Sample, sample}
-use Rattle.pulses.proofs.Machine.{Conf, lowed, highed, mstep, memit, after, emitted, after_snoc, emitted_snoc}
-use Rattle.pulses.proofs.Flags.{clash, empty, flag_set, flag_clear}
+use Rattle.pulses.proofs.Machine.{Conf, lowed, mstep, memit, after, emitted, after_snoc, emitted_snoc}
+use Rattle.shared.proofs.Cases.{either, by_test}
+use Rattle.shared.proofs.Tests.{clash}
 use Rattle.pulses.proofs.Edges.{flat}
 use Rattle.pulses.proofs.Domain.{run_grows, pairs_grow}
 use Rattle.pulses.proofs.RunState.{opened, Ends, RunRel, rest_low, try_high, rest_high, try_low, Outcome, keeps, rises, falls, Refined, outcome, level_after}
-use Rattle.pulses.proofs.TrainState.{Edges, flat_length, flat_append, TrainRel, none_yet, under_way, Held, Claim, no_pulse, held_ends, held_first, held_gap, Fallen, goes_on, ends, held_falls}
+use Rattle.pulses.proofs.TrainState.{empty, Edges, flat_length, flat_append, TrainRel, none_yet, under_way, Held, Claim, no_pulse, held_ends, held_first, held_gap, Fallen, goes_on, ends, held_falls}
 
 -- the run machine over the record so far
 abbrev pub machine : Settings → List (Sample Float) → Conf Float
@@ -69,23 +70,21 @@ pub idle_at_not : (e : Float) → IdleAt e ≡ Stay → ⊥
 idle_at_not e q = let z : ◌≡◌ {A = ℕ} 0 1 = cc in omega arith
 
 pub not_stay : (n : Next) → (n ≡ Stay → ⊥) → is_stay_of n ≡ false
-not_stay Stay h = absurd (h refl)
-not_stay Idle h = refl
-not_stay (IdleAt e) h = refl
+not_stay n h = grind arith
 
 -- ---- laws of the definition's stages
 rise_first : (carry : ℕ) (s : Env) (t : Train) (ook : List ℕ) → t.started ≡ 0 → rise_of carry s t ook ≡ (with_first (step_of s.c_run) s.run.t_run t, ook)
 unfolding rise_of
-rise_first carry s t ook q = flag_clear t.started _ _ q
+rise_first carry s t ook q = rw q
 
 rise_gap : (carry : ℕ) (s : Env) (t : Train) (ook : List ℕ) → t.started ≡ 1 → rise_of carry s t ook ≡ close_gap_of (with_bound (taken_of carry s t).bound t) (taken_of carry s t).width ook
 unfolding rise_of
-rise_gap carry s t ook q = flag_set t.started _ _ q
+rise_gap carry s t ook q = rw q
 
 fall_started : (p : Settings) (s : Env) (t : Train) (pac : C32) (high : Float) (out : Out) (ook : List ℕ) → t.started ≡ 1
     → fall_of p s t pac high out ook ≡ pulse_done_of p (with_bound (taken_of p.carry s t).bound t) pac high out (taken_of p.carry s t).width s.c_run ook
 unfolding fall_of
-fall_started p s t pac high out ook q = flag_set t.started _ _ q
+fall_started p s t pac high out ook q = rw q
 
 -- ---- edges: an even number outside a pulse, an odd one in it
 low_length : (ps : List Edges) (o : List Float) → o ≡ [] → length (flat ps ++ o) ≡ 2 * length ps
@@ -188,8 +187,7 @@ low_now m c es v (try_low qc q l u) k j = absurd (omega arith)
 
 opened_one : (c : Conf Float) → length (opened c) ≤ 1
 unfolding opened
-opened_one (lowed n) = omega arith
-opened_one (highed t n) = omega arith
+opened_one c = grind arith
 
 -- no pulse is held there
 none_held : (carry : ℕ) (ps : List Edges) (o : List Float) (t : Train) → TrainRel carry (flat ps ++ o) t → o ≡ [] → has_pulses_of t ≡ false → length ps ≡ 0
@@ -200,51 +198,39 @@ none_held carry ps o t (under_way a more qes qs ql qo qa qb) f q =
 
 gone_tells : (on : Bool) (c l g : ℕ) → gone_of on c l g ≡ true → (on ≡ false) × (c ≡ 1)
 unfolding gone_of
-gone_tells true c l g q = clash (sym q)
-gone_tells false c l g q = (refl, go (eqb c 1) refl q)
-  where
-    go : (b : Bool) → eqb c 1 ≡ b → cond b (cond (eqb l 0) (eqb g 1) false) false ≡ true → c ≡ 1
-    go true e h = eqb-true c 1 e
-    go false e h = clash (sym h)
+gone_tells on c l g q = grind arith
 
 module _ (p : Settings) (D : InDomain p) (v : Env) (t : Train) (out : Out) (ook : List ℕ) (xs : List (Sample Float)) (F : Follows p v t out ook xs) where
-  on_stay : After p v (stay_by out (t, ook)).0 (stay_by out (t, ook)).1 xs
+  abbrev Goes : Done × List ℕ → Type 0
+  Goes d = After p v d.0 d.1 xs
+
+  on_stay : Goes (stay_by out (t, ook))
   on_stay = stays refl F
 
   -- the train ends here, at the end of a sample or by a close
   pub train_ends : (high : Float) → Claim p.carry p.max_pulses (given p xs) (end_train_of t high out ook).0.out (end_train_of t high out ook).1
   train_ends high = held_ends p.carry p.max_pulses (pairs_grow p D) high out (edges_at p xs) (given p xs) (opened (machine p xs)) t ook refl (opened_one (machine p xs)) F.undecided F.train
 
-  on_end : (next : Next) (high : Float) → (next ≡ Stay → ⊥) → After p v (end_by next (end_train_of t high out ook)).0 (end_by next (end_train_of t high out ook)).1 xs
+  on_end : (next : Next) (high : Float) → (next ≡ Stay → ⊥) → Goes (end_by next (end_train_of t high out ook))
   on_end next high n = over n (train_ends high)
 
-  waits : (n frames : ℕ) (high : Float) → opened (machine p xs) ≡ [] → After p v (wait_of p n t frames high out ook).0 (wait_of p n t frames high out ook).1 xs
+  waits : (n frames : ℕ) (high : Float) → opened (machine p xs) ≡ [] → Goes (wait_of p n t frames high out ook)
   unfolding wait_of
-  waits n frames high low = go (has_pulses_of t) refl (gap_over_of p t n) (ltb (limit_of p frames) n)
-    where
-      go : (h : Bool) → has_pulses_of t ≡ h → (g l : Bool)
-          → After p v
-          (cond h (cond g (end_by Idle (end_train_of t high out ook)) (stay_by out (t, ook))) (cond l (record { next = Idle; train = with_started 0 t; out = out }, ook) (stay_by out (t, ook)))).0
-          (cond h (cond g (end_by Idle (end_train_of t high out ook)) (stay_by out (t, ook))) (cond l (record { next = Idle; train = with_started 0 t; out = out }, ook) (stay_by out (t, ook)))).1
-          xs
-      go true q true l = on_end Idle high idle_not
-      go true q false l = on_stay
-      go false q g true = over idle_not (no_pulse (empty (given p xs) (none_held p.carry (given p xs) (opened (machine p xs)) t F.train.state low q)) F.undecided)
-      go false q g false = on_stay
+  waits n frames high low =
+      by_test Goes (has_pulses_of t) (λ q. either Goes (gap_over_of p t n) (on_end Idle high idle_not) on_stay)
+      (λ q. either Goes (ltb (limit_of p frames) n)
+      (over idle_not (no_pulse (empty (given p xs) (none_held p.carry (given p xs) (opened (machine p xs)) t F.train.state low q)) F.undecided))
+      on_stay)
 
   pub tail_follows : (on : Bool) (e : Float) (a : Absence) (high : Float) → v.run.level ≡ bit on
       → After p v (tail_of p on e v.run a high t out ook).0 (tail_of p on e v.run a high t out ook).1 xs
   unfolding tail_of
-  tail_follows on e a high l = go (carrier_of on v.run.run_len p.long_steps) (gone_of on v.run.confirmed a.p_level a.p_confirmed) refl
-    where
-      go : (c g : Bool) → gone_of on v.run.confirmed a.p_level a.p_confirmed ≡ g
-          → After p v (cond c (end_by (IdleAt e) (end_train_of t high out ook)) (cond g (wait_of p v.run.run_len t a.frames high out ook) (stay_by out (t, ook)))).0
-          (cond c (end_by (IdleAt e) (end_train_of t high out ook)) (cond g (wait_of p v.run.run_len t a.frames high out ook) (stay_by out (t, ook)))).1 xs
-      go true g q = on_end (IdleAt e) high (idle_at_not e)
-      go false true q =
-          let w = gone_tells on v.run.confirmed a.p_level a.p_confirmed q in
-          waits v.run.run_len a.frames high (low_now p.min_steps (machine p xs) (edges_at p xs) v F.run w.1 (l ∙ ap bit w.0))
-      go false false q = on_stay
+  tail_follows on e a high l =
+      either Goes (carrier_of on v.run.run_len p.long_steps) (on_end (IdleAt e) high (idle_at_not e))
+      (by_test Goes (gone_of on v.run.confirmed a.p_level a.p_confirmed)
+      (λ q. let w = gone_tells on v.run.confirmed a.p_level a.p_confirmed q in
+      waits v.run.run_len a.frames high (low_now p.min_steps (machine p xs) (edges_at p xs) v F.run w.1 (l ∙ ap bit w.0)))
+      (λ q. on_stay))
 
 abbrev pub done_of : Acted → Done
 done_of q = record { next = q.next; train = q.train; out = q.out }
@@ -255,7 +241,7 @@ refined_if m v t true true e h = record { same_level = refl; same_sure = refl; s
 refined_if m v t true false e h = record { same_level = refl; same_sure = refl; same_length = refl; same_before = refl; settled = λ q. refl; settles = λ l. clash (sym (h l)) }
 refined_if m v t false c e h = record { same_level = refl; same_sure = refl; same_length = refl; same_before = refl; settled = λ q. refl; settles = λ l. e }
 
-refine_due : (m : ℕ) (a : At) (ring : List Float) (high : Float) (on : Bool) (v : Env) → Refined m v (refine_due_of m a ring high on v)
+pub refine_due : (m : ℕ) (a : At) (ring : List Float) (high : Float) (on : Bool) (v : Env) → Refined m v (refine_due_of m a ring high on v)
 unfolding refine_due_of
 refine_due m a ring high on v =
     refined_if m v (refine_of ring m high a.noise on a.lead_at a.idx v) (eqb v.ref_pending 1) (leb (refine_at_of m) v.run.run_len) refl
@@ -283,8 +269,4 @@ module _ (p : Settings) (D : InDomain p) (mode : eqb p.mode 1 ≡ false) (a : At
   -- confirming a run leaves its level
   pub acted_level : (act_of p seen t out ook).0.env.run.level ≡ bit seen.on
   unfolding act_of confirm_if
-  acted_level = go (due_of seen.env.run p.min_steps)
-    where
-      go : (b : Bool) → (confirm_if b seen.env).run.level ≡ bit seen.on
-      go true = seen_level
-      go false = seen_level
+  acted_level = either (λ (u : Env). u.run.level ≡ bit seen.on) (due_of seen.env.run p.min_steps) seen_level seen_level

@@ -28,7 +28,8 @@ use Rattle.presence.specs.Types.{Advanced}
 use Rattle.presence.specs.Types.{Present}
 use Rattle.presence.specs.Presence.{advance_of, sure_if_of, ends_of, end_of, end_if_of, long_of, full_body, end_train_by, end_carrier_of, present_by, carrier_if_of, presence_of}
 use Rattle.pulses.specs.Runs.{Sample}
-use Rattle.pulses.proofs.Flags.{clash}
+use Rattle.shared.proofs.Cases.{either}
+use Rattle.shared.proofs.Tests.{clash}
 use Rattle.pulses.proofs.OokSample.{Follows, After, stays, over, idle_at_not, train_ends}
 
 -- after a sample: there are no two levels yet (`fsk_phase` 0), or the burst has had no frame (`frames` 0)
@@ -141,16 +142,10 @@ module _ (p : Settings) (auto : p.mode ≡ 2) where
     -- the count of frames is the one before the sample
     pub presence_frames : (presence_of p a s b ook fsk).0.body.frames ≡ b.frames
     unfolding passed
-    presence_frames = ap (λ (r : Present × List ℕ × List ℕ). r.0.body.frames) presence_passed ∙ go long
-      where
-        go : (l : Bool) → (passed l a sure (with_frame moved.0.frame b) ook moved.1).0.body.frames ≡ b.frames
-        go true = refl
-        go false = refl
+    presence_frames = ap (λ (r : Present × List ℕ × List ℕ). r.0.body.frames) presence_passed ∙ either (λ (r : Present × List ℕ × List ℕ). r.0.body.frames ≡ b.frames) long refl refl
 
     pub presence_follows : InDomain p → (v : Env) (xs : List (Sample Float)) → Follows p v b.train b.out_ook ook xs → After p v (present_done (presence_of p a s b ook fsk)) (presence_of p a s b ook fsk).1 xs
     unfolding passed
-    presence_follows D v xs F = rw presence_passed (go long)
-      where
-        go : (l : Bool) → After p v (present_done (passed l a sure (with_frame moved.0.frame b) ook moved.1)) (passed l a sure (with_frame moved.0.frame b) ook moved.1).1 xs
-        go true = over (idle_at_not a.e) (train_ends p D v b.train b.out_ook ook xs F a.high)
-        go false = stays refl F
+    presence_follows D v xs F =
+        rw presence_passed
+        (either (λ (r : Present × List ℕ × List ℕ). After p v (present_done r) r.1 xs) long (over (idle_at_not a.e) (train_ends p D v b.train b.out_ook ook xs F a.high)) (stays refl F))

@@ -18,7 +18,7 @@ use Rattle.pulses.specs.Demand.{Program, Place, slots_between, Gives, settings_a
 use Rattle.pulses.specs.Auto.{EachWhere, Demand3Where, InMode}
 use Rattle.pulses.specs.Ran.{Ran, ran}
 use Rattle.pulses.specs.Hollow.{Fails}
-use Rattle.pulses.proofs.Flags.{clash}
+use Rattle.shared.proofs.Tests.{clash}
 
 -- ---- the tests
 -- kind, pairs, cut mark and the slots from the first pulse to the last, as trains tell them and as a record asks them

@@ -3,6 +3,8 @@ use mathlib.Core.Path.{◌≡◌, sym, ap, ◌∙◌, subst}
 use mathlib.Core.Option.{Option}
 use mathlib.Core.List.{List, [], ◌∷◌}
 use Prim.Native.Nat.{ℕ}
+use native.Mathlib.Omega.{arith}
+use lib.ListN.{length}
 use lib.Ieee.{Float}
 use Rattle.arith.specs.Carry.{rounded_of}
 use Rattle.shared.specs.declared.Settings.{Settings}
@@ -23,19 +25,10 @@ train_adds p ps g T c a es q U =
     ap sum (ap numbers T.slots ∙ ap (λ (o : Option (List Float)). numbers (slots_between p.carry o)) q ∙ ap (λ (n : ℕ). slots_of n (a ∷ es)) c)
     ∙ adds_up a es U ∙ ap rounded_of (sym (all_edges a es))
 
--- a list of one train has that train alone
-head : List Given → Given → Given
-head [] d = d
-head (g ∷ gs) d = g
-
-Empty : List Given → Type 0
-Empty [] = Unit {0}
-Empty (g ∷ gs) = ⊥
-
 gives_adds : (p : Settings) (ps : List (Pulse Float)) (ts : List Given) → Gives p ps ts → p.carry ≡ 1 → (g : Given) → ts ≡ g ∷ [] → AddsUp p ps g
-unfolding Gives head Empty
-gives_adds p [] ts G c g q = absurd (subst Empty (sym G ∙ q) tt)
-gives_adds p (x ∷ ps) ts (h, e, T) c g q = subst (AddsUp p (x ∷ ps)) (ap (λ (l : List Given). head l g) (sym e ∙ q)) (train_adds p (x ∷ ps) h T c)
+unfolding Gives
+gives_adds p [] ts G c g q = absurd (omega (arith, ap length (sym G ∙ q)))
+gives_adds p (x ∷ ps) ts (h, e, T) c g q = let same : h ≡ g = cc in subst (AddsUp p (x ∷ ps)) same (train_adds p (x ∷ ps) h T c)
 
 each_adds : {W : Program} (ks : List (Place W)) → Each ks → EachAdds ks
 unfolding Each EachAdds

@@ -1,16 +1,17 @@
 -- Demand 3 as a statement of a program, `Demand3`: lists of calls run on it, the trains that it returns, and what is asked of them. Record,
 -- run, edge and pulse stand in Runs, the yardstick in Yardstick. `demand_3` in proofs/Theorem is `Demand3 the_lane`.
-use Rattle.std.specs.Prelude.{◌≡◌, Bool, true, cond, List, [], ◌∷◌, ◌++◌, map, ℕ, ◌-◌, ◌*◌, min, ltb, length, take, Float}
+use Rattle.std.specs.Prelude.{◌≡◌, Result, Bool, true, cond, List, [], ◌∷◌, ◌++◌, map, ℕ, ◌-◌, ◌*◌, min, ltb, length, take, Float}
 use Rattle.std.proofs.Math.Option.{Option, none, some}
 use Rattle.arith.specs.Leaves.{width_of}
 use Rattle.shared.specs.declared.Settings.{Settings}
+use Rattle.shared.specs.declared.Next.{Next}
 use Rattle.shared.specs.declared.Out.{Out}
+use Rattle.refusals.specs.declared.Refusal.{Refusal}
 use Rattle.shared.specs.Counts.{bit}
 use Rattle.lane.specs.declared.Lane.{Lane}
 use Rattle.lane.specs.declared.Answer.{Answer}
 use Rattle.lane.specs.declared.BeginArgs.{BeginArgs}
 use Rattle.lane.specs.declared.StepArgs.{StepArgs}
-use Rattle.lane.specs.Answers.{Reply}
 use Rattle.lane.specs.Step.{new_lane, opened, begun, stepped, closed}
 use Rattle.lane.specs.Part.{part_of}
 use Rattle.slots.specs.Slots.{slots_of}
@@ -18,31 +19,34 @@ use Rattle.pulses.specs.Runs.{Pulse, pulses, edges, pulse_width}
 use Rattle.pulses.specs.Yardstick.{lent, Call, opening, begin, step, close, Given, given_by, Yardstick, unused, accepts, advanced, ends, handed_on}
 
 -- ---- programs
--- What begin, step and close return: reply, lane, OOK record, and both buffers as the call leaves them. Of the reply demands 1 and 2 speak.
-pub record Returned (L : Type 0) : Type 0 where
-  pub reply : Reply
+-- What begin, step and close return: reply, lane, OOK record, and both buffers as the call leaves them. Of the reply demands 1 and 2 speak;
+-- why it refuses, a program says in a type of its own.
+pub record Returned (E L : Type 0) : Type 0 where
+  pub reply : Result Next E
   pub lane : L
   pub out : Out
   pub ook : List ℕ
   pub fsk : List ℕ
 
--- A program, right or hollow: lanes of any type, the one that never had settings, and the four calls. Opening returns a lane alone.
+-- A program, right or hollow: refusals and lanes of any type, the lane that never had settings, and the four calls. Opening returns a lane alone.
 -- "Fetching a part takes lane and record" (document 02, R-6), and both buffers.
 pub record Program : Type 1 where
+  pub Refused : Type 0
   pub Lanes : Type 0
   pub new : Lanes
   pub opening : Lanes → Settings → Lanes
-  pub begin : Lanes → BeginArgs → List ℕ → List ℕ → Returned Lanes
-  pub step : Lanes → StepArgs → List ℕ → List ℕ → Returned Lanes
-  pub close : Lanes → List ℕ → List ℕ → Returned Lanes
+  pub begin : Lanes → BeginArgs → List ℕ → List ℕ → Returned Refused Lanes
+  pub step : Lanes → StepArgs → List ℕ → List ℕ → Returned Refused Lanes
+  pub close : Lanes → List ℕ → List ℕ → Returned Refused Lanes
   pub part : Lanes → Out → List ℕ → List ℕ → List ℕ
 
 -- the program of this repository: the definitions that the contracts of `new_lane`, `open`, `begin`, `step`, `close` and `part` cite
-unfoldable pub returned_by : Answer × List ℕ × List ℕ → Returned Lane
+unfoldable pub returned_by : Answer × List ℕ × List ℕ → Returned Refusal Lane
 returned_by r = record { reply = r.0.reply; lane = r.0.lane; out = r.0.lane.burst.out_ook; ook = r.1; fsk = r.2 }
 
 abbrev pub the_lane : Program
 the_lane = record {
+  Refused = Refusal;
   Lanes = Lane;
   new = new_lane;
   opening = λ l p. (opened l p).lane;
@@ -67,7 +71,7 @@ module _ (W : Program) where
 
   -- "A burst gives a train where a call of it returns an OOK record that decides one": begin, step or close c returned r, and earlier are
   -- the trains that its burst had given before. The part is fetched by the lane that the call returned. A refusal returns its reason alone.
-  abbrev taken : Bool → Place W → Call → List Given → Returned W.Lanes → Place W
+  abbrev taken : Bool → Place W → Call → List Given → Returned W.Refused W.Lanes → Place W
   taken a k c earlier r = record {
     lane = r.lane;
     ook = cond a r.ook k.ook;

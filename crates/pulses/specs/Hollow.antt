@@ -1,15 +1,17 @@
 -- Hollow programs, document 01's table "What a hollow lane would meet", and others that demand 3 shuts out. That none of them meets it is
 -- proved in proofs/Hollow (`hollow_fail`), each by one small list.
-use Rattle.std.specs.Prelude.{Bool, false, cond, ◌||◌, List, [], ◌∷◌, ℕ, ◌+◌, ◌-◌, ◌*◌, max, leb, eqb, set}
+use Rattle.std.specs.Prelude.{Result, Bool, false, cond, ◌||◌, List, [], ◌∷◌, ℕ, ◌+◌, ◌-◌, ◌*◌, max, leb, eqb, set}
 use Rattle.ieee.specs.Constants.{zero32}
 use Rattle.shared.specs.declared.Settings.{Settings}
+use Rattle.shared.specs.declared.Next.{Next}
 use Rattle.shared.specs.declared.Out.{Out}
 use Rattle.shared.specs.Counts.{bit}
+use Rattle.refusals.specs.declared.Refusal.{Refusal}
 use Rattle.lane.specs.Idle.{no_out}
 use Rattle.lane.specs.Serial.{stamp_of}
 use Rattle.lane.specs.declared.Lane.{Lane}
 use Rattle.lane.specs.declared.StepArgs.{StepArgs}
-use Rattle.lane.specs.Answers.{Reply, reply_number_of}
+use Rattle.lane.specs.Answers.{reply_number_of}
 use Rattle.pulses.specs.Demand.{Returned, Program, the_lane, Demand3}
 
 -- a program that does not meet demand 3
@@ -18,22 +20,23 @@ Fails W = Demand3 W → ⊥
 
 -- ---- the lane with something changed
 -- what is returned, with another OOK record, and with other slots
-abbrev with_out : Out → Returned Lane → Returned Lane
+abbrev with_out : Out → Returned Refusal Lane → Returned Refusal Lane
 with_out o r = record { reply = r.reply; lane = r.lane; out = o; ook = r.ook; fsk = r.fsk }
 
-abbrev with_slots : List ℕ → Returned Lane → Returned Lane
+abbrev with_slots : List ℕ → Returned Refusal Lane → Returned Refusal Lane
 with_slots ook r = record { reply = r.reply; lane = r.lane; out = r.out; ook = ook; fsk = r.fsk }
 
 -- a record that decides a train of so many pairs, with this cut mark
 abbrev train : ℕ → ℕ → Out → Out
 train pairs cut o = record { index = o.index; end = o.end; state = 1; cut = cut; pairs = pairs; level = o.level; fsk = o.fsk; carrier = o.carrier; serial = o.serial }
 
-abbrev decides : Returned Lane → Bool
+abbrev decides : Returned Refusal Lane → Bool
 decides r = eqb r.out.state 1
 
 -- other settings than those that it is opened with, something else returned of a step, another close, and a part fetched by another lane
-abbrev lane_by : (Lane → Settings → Settings) → (Returned Lane → Returned Lane) → (Lane → List ℕ → List ℕ → Returned Lane) → (Lane → Lane) → Program
+abbrev lane_by : (Lane → Settings → Settings) → (Returned Refusal Lane → Returned Refusal Lane) → (Lane → List ℕ → List ℕ → Returned Refusal Lane) → (Lane → Lane) → Program
 lane_by settings stepped close fetching = record {
+  Refused = Refusal;
   Lanes = Lane;
   new = the_lane.new;
   opening = λ l p. the_lane.opening l (settings l p);
@@ -49,21 +52,21 @@ asked l p = p
 abbrev same : {A : Type 0} → A → A
 same x = x
 
-abbrev closing : (Returned Lane → Returned Lane) → Lane → List ℕ → List ℕ → Returned Lane
+abbrev closing : (Returned Refusal Lane → Returned Refusal Lane) → Lane → List ℕ → List ℕ → Returned Refusal Lane
 closing f l ook fsk = f (the_lane.close l ook fsk)
 
 -- what a step or a close returns is changed, and the same where it decides a train
-abbrev changed : (Returned Lane → Returned Lane) → Program
+abbrev changed : (Returned Refusal Lane → Returned Refusal Lane) → Program
 changed f = lane_by asked f (closing f) same
 
-abbrev train_changed : (Returned Lane → Returned Lane) → Program
+abbrev train_changed : (Returned Refusal Lane → Returned Refusal Lane) → Program
 train_changed f = changed (λ r. cond (decides r) (f r) r)
 
 -- where a lane with other settings refuses a step or a close, it returns the number alone
 abbrev opens_by : (Lane → Settings → Settings) → Program
 opens_by f = lane_by f alone (closing alone) same
   where
-    alone : Returned Lane → Returned Lane
+    alone : Returned Refusal Lane → Returned Refusal Lane
     alone r = cond (eqb (reply_number_of r.reply) 3) (with_out no_out r) r
 
 abbrev pub opens_with : (Settings → Settings) → Program
@@ -78,8 +81,9 @@ with_steps min gap pre p = with_whole min gap pre p.carry p
 
 -- ---- document 01's table
 -- "stays for ever and writes no slot", "refuses each call": whatever it replies, it gives no train
-unfoldable pub silent : Reply → Program
-silent reply = record {
+unfoldable pub silent : {E : Type 0} → Result Next E → Program
+silent {E} reply = record {
+  Refused = E;
   Lanes = Unit {0};
   new = tt;
   opening = λ l p. tt;
@@ -89,7 +93,7 @@ silent reply = record {
   part = λ l o ook fsk. [];
 }
   where
-    nothing : List ℕ → List ℕ → Returned (Unit {0})
+    nothing : List ℕ → List ℕ → Returned E (Unit {0})
     nothing ook fsk = record { reply = reply; lane = tt; out = no_out; ook = ook; fsk = fsk }
 
 -- "gives one fixed train", that of M6
@@ -99,6 +103,7 @@ fixed = train_changed (λ r. with_slots (4 ∷ 0 ∷ []) (with_out (train 1 0 r.
 -- "works out the first burst and gives no train for any later one": its lane remembers that it gave one
 unfoldable pub first_only : Program
 first_only = record {
+  Refused = Refusal;
   Lanes = Lane × Bool;
   new = (the_lane.new, false);
   opening = λ l p. (the_lane.opening l.0 p, l.1);
@@ -108,7 +113,7 @@ first_only = record {
   part = λ l o ook fsk. the_lane.part l.0 o ook fsk;
 }
   where
-    once : Bool → Returned Lane → Returned (Lane × Bool)
+    once : Bool → Returned Refusal Lane → Returned Refusal (Lane × Bool)
     once gave r = record { reply = r.reply; lane = (r.lane, gave || decides r); out = cond gave no_out r.out; ook = r.ook; fsk = r.fsk }
 
 -- "invents the pair count": one more than the lane has

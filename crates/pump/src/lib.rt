@@ -9,7 +9,7 @@ ghost use Rattle.input.specs.Passes.{Carries, Fails, Runs};
 
 use input::Failed;
 use std::io::{Read, Write};
-use stream::{Fed, Station};
+use stream::{Fed, Station, Stop};
 
 #[derive(Clone, Copy, Debug, PartialEq, Eq)]
 struct Passed {
@@ -30,10 +30,11 @@ fn pass<R: Read, W: Write, S: Station>(
 ) -> Result<Passed, Failed>
     requires { (p.fed.left ≤ length buf.old) × S.is_sound station.old }
     ensures sound { S.is_sound station.new }
+    ensures same { S.lent station.new ≡ S.lent station.old }
     ensures carries { MatchResult result (λ q. Carries S.machine (S.state station.old) p.fed p.last buf.old (S.state station.new) q.fed q.last buf.new text.new (R.remaining from.old) (R.remaining from.new) (W.contents to.old) (W.contents to.new) true) (λ _. Fails S.machine (S.state station.old) p.fed p.last buf.old (S.state station.new) (R.remaining from.old) (R.remaining from.new) (W.contents to.old) (W.contents to.new)) }
 {
     let q = p.fed;
-    let i = input::read_more(from, buf, q.left, p.last, q.full)?;
+    let i = input::read_more(from, buf, q.left, p.last, q.stop.is_full())?;
     let fed = feed::feed(station, buf, q.left + i.came, i.last, text);
     input::put(to, &text[..fed.at])?;
     Ok(Passed { fed, last: i.last })
@@ -52,17 +53,17 @@ pub fn run<R: Read, W: Write, S: Station>(
     ensures runs { Runs S.machine (S.state station.old) (S.state station.new) (is_ok result) }
     ensures writes { Writes (printed_of S.machine (S.state station.old)) (R.remaining from.old) (W.contents to.old) (W.contents to.new) (is_ok result) }
     ensures sound { S.is_sound station.new }
+    ensures same { S.lent station.new ≡ S.lent station.old }
 {
     let fed = Fed {
         left: 0,
         at: 0,
-        full: false,
-        done: false,
+        stop: Stop::Waiting,
     };
     let mut p = Passed { fed, last: false };
     for _ in 0..u64::MAX {
         p = pass(p, from, to, station, buf, text)?;
-        if p.fed.done {
+        if p.fed.stop.is_over() {
             return Ok(());
         }
     }

@@ -15,6 +15,7 @@ use Rattle.shared.specs.declared.Next.{Next}
 use Rattle.shared.specs.declared.Next.TheVariants as next
 use Rattle.shared.specs.Counts.{inc}
 use Rattle.shared.proofs.Counts.{inc_exact}
+use Rattle.refusals.specs.declared.Refusal.{Refusal}
 use Rattle.refusals.proofs.Domain.{InDomain}
 use Rattle.refusals.proofs.Order.{is_passed}
 use Rattle.burst.specs.declared.Lead.{Lead}
@@ -34,7 +35,7 @@ use Rattle.lane.specs.Serial.{stamp_of, stamped_with}
 use Rattle.reached.proofs.Accepted.{step_ways, close_ways}
 use Rattle.pulses.specs.Runs.{Sample}
 use Rattle.pulses.specs.Yardstick.{lent, Call, opening, begin, step, close, Yardstick, refusal, accepts, levelled, replayed, burst_at, step_samples, step_phases, answered_by, advanced}
-use Rattle.pulses.proofs.Flags.{clash}
+use Rattle.shared.proofs.Tests.{clash}
 use Rattle.pulses.proofs.BurstState.{full_replays}
 use Rattle.pulses.proofs.Phases.{lead_step_lem, burst_step_lem}
 use Rattle.pulses.proofs.Accepted.{begin_tells, step_tells}
@@ -70,7 +71,7 @@ module _ (w : Settings → ℕ) (N : (p : Settings) → InDomain p → Enough p 
         go next.Stay q =
             in_burst (ap phase_of q) D
             (λ o. let c = H o q in
-            (record { away = c.0.away; surely = c.0.surely; unframed = c.0.unframed; long = c.0.long; few = c.0.few; loud = c.0.loud }, c.1))
+            (let calm = c.0 in search, c.1))
         go next.Idle q = at_rest (ap phase_of q)
         go (next.IdleAt e) q = at_rest (ap phase_of q)
 
@@ -82,7 +83,7 @@ module _ (w : Settings → ℕ) (N : (p : Settings) → InDomain p → Enough p 
         answered y.lane.lead (sample_of p (at_of y.lane s) ring (cleared_of y.lane.burst) y.ook fsk) (levelled p (at_of y.lane s) ring (cleared_of y.lane.burst) ∷ [])
         (λ o q. let c = (H o).0 in (
           sample_calm p D o (w p) (N p D) (at_of y.lane s) ring (cleared_of y.lane.burst) y.ook fsk y.recorded
-              (record { away = c.away; surely = c.surely; unframed = c.unframed; long = c.long; few = c.few; loud = c.loud }) q,
+              (search) q,
           length-append y.recorded (levelled p (at_of y.lane s) ring (cleared_of y.lane.burst) ∷ []) ∙ ap (λ (k : ℕ). k + 1) (H o).1,
         ))
 
@@ -165,11 +166,9 @@ module _ (w : Settings → ℕ) (N : (p : Settings) → InDomain p → Enough p 
   quiet_rests y n (in_burst q D H) o t = clash (sym t ∙ (H o).0.loud)
 
 -- ---- the answer
-next_idles : (n : Next) → phase_of n ≡ 0 → idles (Ok n) ≡ true
+next_idles : (n : Next) → phase_of n ≡ 0 → idles {E = Refusal} (Ok n) ≡ true
 unfolding phase_of
-next_idles next.Stay q = absurd (omega (arith, q))
-next_idles next.Idle q = refl
-next_idles (next.IdleAt e) q = refl
+next_idles n q = grind arith
 
 -- a step that leaves the lane idle answers so
 pub step_idles : (l : Lane) (s : StepArgs) (ook fsk : List ℕ) → (advance_of l s ook fsk).0.lane.phase ≡ 0 → idles (advance_of l s ook fsk).0.reply ≡ true

@@ -9,13 +9,11 @@ use lib.Ieee.{Float, binary64, sub}
 use lib.ListN.{length}
 use borrow.Author.Tests.{leb-true, leb-false}
 use Rattle.ook.specs.declared.Env.{Env}
-use Rattle.run.specs.declared.Run.{Run}
 use Rattle.shared.specs.declared.Settings.{Settings}
 use Rattle.shared.specs.declared.Next.{Next}
 use Rattle.shared.specs.declared.Next.TheVariants.{Stay, Idle, IdleAt}
 use Rattle.shared.specs.Answers.{is_stay_of}
 use Rattle.shared.specs.Counts.{bit}
-use Rattle.shared.specs.Params.{refine_at_of}
 use Rattle.shared.proofs.Cases.{either}
 use Rattle.ook.specs.Run.{begin_env_of}
 use Rattle.refusals.proofs.Domain.{InDomain}
@@ -27,7 +25,7 @@ use Rattle.presence.specs.Presence.{near_start_of, snap_of}
 use Rattle.envelope.specs.declared.At.{At}
 use Rattle.envelope.specs.declared.Seen.{Seen}
 use Rattle.envelope.specs.Types.{Acted}
-use Rattle.envelope.specs.See.{refine_due_of, see_of}
+use Rattle.envelope.specs.See.{see_of}
 use Rattle.envelope.specs.Act.{act_of}
 use Rattle.envelope.specs.Tail.{tail_of}
 use Rattle.burst.specs.Types.{Burst}
@@ -38,10 +36,10 @@ use Rattle.burst.specs.Lead.{begin_burst_of, lead_at_of, staying, replay_from}
 use Rattle.burst.proofs.LeadLaws.{replay_stop}
 use Rattle.pulses.specs.Runs.{Sample}
 use Rattle.pulses.specs.Yardstick.{levelled, replayed}
-use Rattle.pulses.proofs.Flags.{clash}
+use Rattle.shared.proofs.Tests.{clash}
 use Rattle.pulses.proofs.BurstState as state
-use Rattle.pulses.proofs.RunState.{level_after}
-use Rattle.pulses.proofs.OokSample.{idle_not, idle_at_not, not_stay}
+use Rattle.pulses.proofs.RunState.{Refined, level_after}
+use Rattle.pulses.proofs.OokSample.{idle_not, idle_at_not, not_stay, refine_due}
 use Rattle.quiet.specs.Quiet.{lows_from, quiet_from, lows, quiet}
 use Rattle.quiet.proofs.Low.{lows_after, lows_snoc, loud_snoc, Enough, Long, long_after, Counts, confirmed_counts, tail_ends}
 
@@ -61,15 +59,8 @@ unfolding begin_burst_of begin_env_of start_run_of lows_from quiet_from
 start_calm w high t e b more = record { away = refl; surely = refl; unframed = refl; long = record { flag = omega arith; low = λ q. omega arith; high = λ q. refl }; few = omega arith; loud = refl }
 
 -- refining an edge leaves the run, but for the edge
-refine_run : (m : ℕ) (a : At) (ring : List Float) (high : Float) (on : Bool) (v : Env) → let r : Run = (refine_due_of m a ring high on v).run in
-    (r.level ≡ v.run.level) × (r.confirmed ≡ v.run.confirmed) × (r.run_len ≡ v.run.run_len)
-unfolding refine_due_of
-refine_run m a ring high on v =
-    let same : Env → Type 0 = λ (u : Env). (u.run.level ≡ v.run.level) × (u.run.confirmed ≡ v.run.confirmed) × (u.run.run_len ≡ v.run.run_len) in
-    either same (eqb v.ref_pending 1) (either same (leb (refine_at_of m) v.run.run_len) (refl, refl, refl) (refl, refl, refl)) (refl, refl, refl)
-
-long_as : {n : ℕ} {v w : Run} → (w.level ≡ v.level) × (w.confirmed ≡ v.confirmed) × (w.run_len ≡ v.run_len) → Long n v → Long n w
-long_as q L = record { flag = rw q.1 L.flag; low = λ e. rw q.2 (L.low (sym q.0 ∙ e)); high = λ e. L.high (λ z. e (q.0 ∙ z)) }
+long_as : {m n : ℕ} {v w : Env} → Refined m v w → Long n v.run → Long n w.run
+long_as R L = record { flag = rw R.same_sure L.flag; low = λ e. rw R.same_length (L.low (sym R.same_level ∙ e)); high = λ e. L.high (λ z. e (R.same_level ∙ z)) }
 
 -- an envelope's edge moves the start of presence, and no more of it
 snap_level : (began on : Bool) (t : Float) (s : Pres) (f : Frame) → ((snap_if_of began on t s f).pres.run.level ≡ s.run.level) × ((snap_if_of began on t s f).pres.run.confirmed ≡ s.run.confirmed)
@@ -90,7 +81,7 @@ module _ (p : Settings) (D : InDomain p) (mode : p.mode ≡ 0) (w : ℕ) (N : En
     long_seen : Long (lows_after (lows xs) seen.on) seen.env.run
     unfolding see_of
     long_seen =
-        long_as (refine_run p.min_steps a ring b.high seen.on _)
+        long_as (refine_due p.min_steps a ring b.high seen.on _)
         (long_after (lows xs) b.env seen.on _ a.idx (omega (arith, C.few, N.small)) C.long)
 
     abbrev acts : Acted × List ℕ
@@ -117,7 +108,7 @@ module _ (p : Settings) (D : InDomain p) (mode : p.mode ≡ 0) (w : ℕ) (N : En
 
     level : acts.0.env.run.level ≡ bit seen.on
     unfolding see_of
-    level = counts.same_level ∙ (refine_run p.min_steps a ring b.high seen.on _).0 ∙ level_after b.env seen.on _ a.idx
+    level = counts.same_level ∙ (refine_due p.min_steps a ring b.high seen.on _).same_level ∙ level_after b.env seen.on _ a.idx
 
     quiet_ends : seen.on ≡ false → w ≤ lows_after (lows xs) seen.on → tail ≡ Idle
     quiet_ends q h =
@@ -162,7 +153,7 @@ module _ (p : Settings) (D : InDomain p) (mode : p.mode ≡ 0) (w : ℕ) (N : En
         After r = r.0.next ≡ Stay → Calm w r.0.burst grown
 
         last : After (last_of p seen.on a.e burst' acts.1 fsk)
-        last n = let c = calm_after n in record { away = c.away; surely = c.surely; unframed = c.unframed; long = c.long; few = c.few; loud = c.loud }
+        last n = let c = calm_after n in search
 
         go : (c : Bool) → is_stay_of acts.0.next ≡ c
             → After (cond c (rest_of p a b.e_prev seen burst' acts.1 fsk) (record { next = acts.0.next; burst = burst' }, acts.1, fsk))

@@ -10,7 +10,7 @@ use Rattle.pulses.specs.Demand.{Program, Place, the_lane, start, after, after_al
 use Rattle.pulses.specs.Lists.{lo}
 use Rattle.pulses.specs.Hollow.{silent}
 use Rattle.pulses.specs.Ran.{ran}
-use Rattle.pulses.proofs.Flags.{clash}
+use Rattle.shared.proofs.Tests.{clash}
 use Rattle.quiet.specs.Quiet.{wait, shortest, lows_from, quiet_from, EndsBy, EachEnds, QuietEnds, brought, counted, Waits, WaitKnown}
 use Rattle.quiet.specs.Examples.{shown, opens, pulse, table, Right, deaf, late}
 

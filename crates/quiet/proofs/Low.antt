@@ -1,12 +1,12 @@
 -- One sample in OOK mode: the low samples at the end of the record are no more than the run is long, and a run that is long enough ends the burst.
 use mathlib.Core.Path.{◌≡◌, refl, sym}
-use mathlib.Core.Bool.{Bool, true, false, cond, ◌||◌}
+use mathlib.Core.Bool.{Bool, true, false, ◌||◌}
 use mathlib.Core.List.{List, [], ◌∷◌, ◌++◌}
-use Prim.Native.Nat.{ℕ, zero, suc, ◌+◌, ◌≤◌, ◌<◌}
+use Prim.Native.Nat.{ℕ, suc, ◌+◌, ◌≤◌, ◌<◌}
 use native.Mathlib.Omega.{arith}
 use lib.Dec.{leb, eqb}
 use lib.Ieee.{Float}
-use borrow.Author.Tests.{leb-false, lt-leb, lt-ltb, eqb-true, eqb-false}
+use borrow.Author.Tests.{lt-leb, lt-ltb, eqb-true, eqb-false}
 use Rattle.ook.specs.declared.Env.{Env}
 use Rattle.run.specs.declared.Run.{Run}
 use Rattle.ook.specs.declared.Train.{Train}
@@ -16,7 +16,7 @@ use Rattle.shared.specs.declared.Out.{Out}
 use Rattle.shared.specs.declared.Settings.{Settings}
 use Rattle.shared.specs.declared.Next.TheVariants.{Idle}
 use Rattle.shared.specs.Counts.{sat_add_of}
-use Rattle.run.specs.Run.{lengthen_of, rejoin_of, begin_run_of, moved_of, due_of}
+use Rattle.run.specs.Run.{move_of, lengthen_of, rejoin_of, begin_run_of, due_of}
 use Rattle.ook.specs.Run.{advance_of}
 use Rattle.domain.specs.Limits.{max_steps}
 use Rattle.refusals.proofs.Domain.{InDomain}
@@ -24,7 +24,7 @@ use Rattle.envelope.specs.declared.Absence.{Absence}
 use Rattle.envelope.specs.Act.{confirm_if}
 use Rattle.envelope.specs.Tail.{carrier_of, gone_of, has_pulses_of, gap_over_of, wait_of, tail_of}
 use Rattle.pulses.specs.Runs.{Sample, sample}
-use Rattle.pulses.proofs.Flags.{clash}
+use Rattle.shared.proofs.Tests.{clash}
 use Rattle.pulses.proofs.RunState.{run_after}
 use Rattle.quiet.specs.Quiet.{wait, shortest, lows_from, quiet_from}
 
@@ -77,16 +77,16 @@ pub record Long (n : ℕ) (r : Run) : Type 0 where
 
 -- a sample's level, where n low ones are far fewer than a count can be
 pub long_after : (n : ℕ) (s : Env) (on : Bool) (t : Float) (i : ℕ) → n ≤ max_steps → Long n s.run → Long (lows_after n on) (run_after s on t i).run
-unfolding advance_of moved_of lengthen_of rejoin_of begin_run_of sat_add_of lows_after
+unfolding advance_of lengthen_of rejoin_of begin_run_of sat_add_of lows_after
 long_after n s true t i h L = go (eqb 1 s.run.level) (eqb s.run.confirmed 0) refl
   where
-    go : (a b : Bool) → eqb 1 s.run.level ≡ a → Long 0 (advance_of a b s true t i).run
+    go : (a b : Bool) → eqb 1 s.run.level ≡ a → Long 0 (advance_of (move_of a b) s true t i).run
     go true b q = record { flag = L.flag; low = λ e. omega arith; high = λ e. refl }
     go false true q = record { flag = omega arith; low = λ e. omega arith; high = λ e. refl }
     go false false q = record { flag = omega arith; low = λ e. omega arith; high = λ e. refl }
 long_after n s false t i h L = go (eqb 0 s.run.level) (eqb s.run.confirmed 0) refl
   where
-    go : (a b : Bool) → eqb 0 s.run.level ≡ a → Long (suc n) (advance_of a b s false t i).run
+    go : (a b : Bool) → eqb 0 s.run.level ≡ a → Long (suc n) (advance_of (move_of a b) s false t i).run
     go true b q = record { flag = L.flag; low = λ e. omega (arith, L.low e, h); high = λ e. absurd (e (sym (eqb-true 0 s.run.level q))) }
     go false true q = let z : n ≡ 0 = L.high (λ e. eqb-false 0 s.run.level q (sym e)) in record { flag = omega arith; low = λ e. omega (arith, z); high = λ e. absurd (e refl) }
     go false false q = let z : n ≡ 0 = L.high (λ e. eqb-false 0 s.run.level q (sym e)) in record { flag = omega arith; low = λ e. omega (arith, z); high = λ e. absurd (e refl) }
@@ -100,17 +100,7 @@ pub record Counts (m : ℕ) (v : Run) (w : Run) : Type 0 where
 
 pub confirmed_counts : (m : ℕ) (v : Env) → v.run.confirmed ≤ 1 → Counts m v.run (confirm_if (due_of v.run m) v).run
 unfolding confirm_if due_of
-confirmed_counts m v h = go (eqb v.run.confirmed 0) (leb m v.run.run_len) refl refl
-  where
-    go : (a b : Bool) → eqb v.run.confirmed 0 ≡ a → leb m v.run.run_len ≡ b → Counts m v.run (confirm_if (cond a b false) v).run
-    go true true q r = record { same_level = refl; same_length = refl; sure = λ l. refl; flag = omega arith }
-    go true false q r = record { same_level = refl; same_length = refl; sure = λ l. absurd (omega (arith, leb-false m v.run.run_len r, l)); flag = h }
-    go false b q r = record { same_level = refl; same_length = refl; sure = λ l. sure_flag v.run.confirmed h (eqb-false v.run.confirmed 0 q); flag = h }
-      where
-        sure_flag : (n : ℕ) → n ≤ 1 → (n ≡ 0 → ⊥) → n ≡ 1
-        sure_flag zero l z = absurd (z refl)
-        sure_flag (suc zero) l z = refl
-        sure_flag (suc (suc n)) l z = absurd (omega arith)
+confirmed_counts m v h = grind arith
 
 -- ---- the end
 -- the envelope is gone and the carrier is away: a low run longer than the gap ends the burst, with pulses and without

@@ -4,7 +4,7 @@ use mathlib.Core.Bool.{Bool, true}
 use mathlib.Core.List.{List, [], ◌∷◌}
 use Prim.Native.Nat.{ℕ}
 use Rattle.shared.specs.declared.Settings.{Settings}
-use Rattle.shared.proofs.Tests.{both_true}
+use Rattle.shared.proofs.Tests.{clash, both_true}
 use Rattle.refusals.proofs.Domain.{InDomain}
 use Rattle.lane.specs.declared.StepArgs.{StepArgs}
 use Rattle.lane.specs.Idle.{idle_lane}
@@ -13,7 +13,6 @@ use Rattle.lane.specs.Serial.{stamp_of}
 use Rattle.lane.specs.Step.{new_lane}
 use Rattle.pulses.specs.Yardstick.{as_left, other, lent, Call, opening, begin, step, close, Yardstick, unused, accepts, advanced, lent_well, handed_on}
 use Rattle.pulses.specs.Demand.{the_lane, Place, returned_by, start, after}
-use Rattle.pulses.proofs.Flags.{clash}
 use Rattle.pulses.proofs.Calls.{Same, step_answers, after_same, yard_after}
 use Rattle.quiet.specs.Quiet.{wait, shortest, EndsBy, EachEnds, QuietEnds, brought, counted, Waits, WaitKnown}
 use Rattle.quiet.proofs.Low.{Enough, wait_enough, shortest_enough}

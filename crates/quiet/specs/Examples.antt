@@ -2,6 +2,7 @@
 use Rattle.std.specs.Prelude.{◌≡◌, List, [], ◌∷◌, ◌++◌, map, ℕ, ◌+◌, Ok}
 use Rattle.shared.specs.declared.Settings.{Settings}
 use Rattle.shared.specs.declared.Next.TheVariants.{Stay}
+use Rattle.refusals.specs.declared.Refusal.{Refusal}
 use Rattle.pulses.specs.Yardstick.{Call, opening, Yardstick, unused}
 use Rattle.pulses.specs.Demand.{Program}
 use Rattle.pulses.specs.Lists.{settings, slots, first, lo, shut, los, his}
@@ -61,7 +62,7 @@ Right rows = map (λ (r : List Call × Shown). shown r.0) rows ≡ map (λ (r : 
 -- ---- programs that do not end a burst in time
 -- it stays for ever
 abbrev pub deaf : Program
-deaf = silent (Ok Stay)
+deaf = silent {E = Refusal} (Ok Stay)
 
 -- it waits one sample longer than its settings say
 unfoldable pub late : Program

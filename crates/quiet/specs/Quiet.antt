@@ -1,10 +1,11 @@
 -- Document 02, R-9: "In OOK mode, in every list of demand 3, if max(min_steps, gap_steps) + 1 successive samples of an accepted burst are all
 -- low, the burst has ended by the last of them, or by the call that fills the lead if that comes later." `QuietEnds wait` says it of a program and of
 -- the call whose answer it is, `WaitKnown wait` counts the calls. Lists, programs, samples and their levels are demand 3's (crate pulses).
-use Rattle.std.specs.Prelude.{◌≡◌, Bool, true, false, ◌||◌, List, [], ◌∷◌, ℕ, suc, ◌+◌, ◌-◌, ◌<◌, max, leb, eqb, length}
+use Rattle.std.specs.Prelude.{◌≡◌, Result, Bool, true, false, ◌||◌, List, [], ◌∷◌, ℕ, suc, ◌+◌, ◌-◌, ◌<◌, max, leb, eqb, length}
 use Rattle.arith.specs.Leaves.{lead_len_of}
 use Rattle.shared.specs.declared.Settings.{Settings}
-use Rattle.lane.specs.Answers.{Reply, reply_number_of}
+use Rattle.shared.specs.declared.Next.{Next}
+use Rattle.lane.specs.Answers.{reply_number_of}
 use Rattle.pulses.specs.Runs.{Sample, sample}
 use Rattle.pulses.specs.Yardstick.{lent, Call, opening, begin, step, close, Yardstick, unused, accepts, advanced, handed_on}
 use Rattle.pulses.specs.Demand.{Program, Place, start, after}
@@ -43,7 +44,7 @@ module _ {E : Type 0} where
 
 -- ---- of a program: the call whose answer it is
 -- "the burst has ended": the answer is idle or idle-at, numbers 1 and 2
-abbrev pub idles : Reply → Bool
+abbrev pub idles : {E : Type 0} → Result Next E → Bool
 idles r = eqb (reply_number_of r) 1 || eqb (reply_number_of r) 2
 
 -- a burst in OOK mode (0) in whose record so many low samples as w says are in a row

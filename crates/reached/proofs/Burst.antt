@@ -46,7 +46,7 @@ Counted p q = PresentWithin p.max_pulses (fsk_min_of p.min_steps) p.long_steps (
 
 module _ (p : Settings) where
   counted : (q : Sampled × List ℕ × List ℕ) → UnderWay p q.0.burst → Counted p q
-  counted q r = record { flags = r.flags; frame_within = r.most; running = λ z. r }
+  counted q r = search
 
   last_counted : (on : Bool) (e : Float) (b : Burst) (ook fsk : List ℕ) → UnderWay p b → Counted p (last_of p on e b ook fsk)
   unfolding last_of
@@ -56,7 +56,7 @@ module _ (p : Settings) where
   present_by_counted a s b q h =
       by_test (Counted p) (is_stay_of q.0.next)
       (λ e. last_counted s.on a.e (with_body q.0.pres q.0.body b) q.1 q.2 (h.running e))
-      (λ e. record { flags = h.flags; frame_within = h.frame_within; running = h.running })
+      (λ e. search)
 
   module _ (small : p.long_steps ≤ max_steps) where
     rest_counted : (a : At) (ep : Float) (s : Seen) (b : Burst) (ook fsk : List ℕ) → UnderWay p b → Counted p (rest_of p a ep s b ook fsk)

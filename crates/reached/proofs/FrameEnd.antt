@@ -88,7 +88,7 @@ CutWithin max q = EndedWithin max q.0
 
 module _ (max : ℕ) (fits : max < 2 ^ 32) where
   pub ended_within : (t : Train) (high : Float) (out : Out) (ook : List ℕ) → TrainWithin max t → OutWithin max out → CutWithin max (end_train_of t high out ook)
-  ended_within t high out ook h o = record { train_within = (end_train_within max fits t high out ook h o).0; out_within = (end_train_within max fits t high out ook h o).1 }
+  ended_within t high out ook h o = let e = end_train_within max fits t high out ook h o in search
 
   cut_by_within : (t : Train) (high : Float) (out : Out) (ook : List ℕ) (s : Kept) → s.keep ≤ max → TrainWithin max t → OutWithin max out → CutWithin max (cut_by t high out ook s)
   cut_by_within t high out ook s n h o =

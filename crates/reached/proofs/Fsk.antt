@@ -12,7 +12,9 @@ use Rattle.shared.proofs.Cases.{either, by_test, bit_flag}
 use Rattle.fsk.specs.Commit.{count_run_of, upper_run_of, lower_run_of, fsk_commit_of}
 use Rattle.fsk.specs.RunStep.{lengthen_of, confirm_of, confirm_due_of, move_runs_of, fsk_run_step_of}
 use Rattle.run.specs.Run.{due_of, start_run_of}
-use Rattle.run.proofs.Limits.{moved_within}
+use Rattle.run.specs.declared.Move.{Move}
+use Rattle.run.specs.declared.Move.TheVariants.{Same, Glitch, Begins}
+use Rattle.run.proofs.Limits.{rejoin_within, begin_run_within}
 use Rattle.run.proofs.Limits as run
 use Rattle.fsk.specs.Resolve.{begin_frame_of, is_early_of, open_runs_of, turn_at_of, slice_thr_of, hi_lo_of, settle_of, fsk_resolve_of}
 use Rattle.fsk.specs.declared.Committed.{Committed}
@@ -73,14 +75,12 @@ StepWithin max m q = RanWithin max m q.0
 
 pub lengthen_within : (r : Runs) → RunsWithin r → RunsWithin (lengthen_of r)
 unfolding lengthen_of
-lengthen_within r h = record { run_within = run.lengthen_within r.run h.run_within; has_prev_flag = h.has_prev_flag }
+lengthen_within r h = search run.lengthen_within
 
-move_runs_within : (same short : Bool) (r : Runs) (upper : Bool) (tc : Float) → RunsWithin r → RunsWithin (move_runs_of same short r (bit upper) tc)
-move_runs_within same short r upper tc h =
-    record {
-      run_within = moved_within same short r.run (bit upper) tc (bit_flag upper) h.run_within;
-      has_prev_flag = either (λ (n : ℕ). n ≤ 1) same h.has_prev_flag (either (λ (n : ℕ). n ≤ 1) short (omega arith) (omega arith));
-    }
+move_runs_within : (m : Move) (r : Runs) (upper : Bool) (tc : Float) → RunsWithin r → RunsWithin (move_runs_of m r (bit upper) tc)
+move_runs_within Same r upper tc h = lengthen_within r h
+move_runs_within Glitch r upper tc h = search (rejoin_within, bit_flag upper, arith)
+move_runs_within Begins r upper tc h = search (begin_run_within, bit_flag upper, arith)
 
 module _ (max m : ℕ) where
   confirm_within : (r : Runs) (c : Committed) (upper : Bool) (fsk : List ℕ) → RunsWithin r → CommittedWithin max m c → StepWithin max (m + 1) (confirm_of max r c upper fsk)
@@ -98,7 +98,7 @@ module _ (max m : ℕ) where
   -- a step commits at most one run
   pub run_step_within : (least : ℕ) (r : Runs) (c : Committed) (upper : Bool) (tc : Float) (fsk : List ℕ) → RunsWithin r → CommittedWithin max m c → StepWithin max (m + 1) (fsk_run_step_of max least r c upper tc fsk)
   unfolding fsk_run_step_of
-  run_step_within least r c upper tc fsk h d = confirm_due_within least (move_runs_of _ _ r (bit upper) tc) c upper fsk (move_runs_within _ _ r upper tc h) d
+  run_step_within least r c upper tc fsk h d = confirm_due_within least (move_runs_of _ r (bit upper) tc) c upper fsk (move_runs_within _ r upper tc h) d
 
 -- a frame begins with nothing counted
 

@@ -1,14 +1,13 @@
 -- What a burst within the limits passes, and what leaves it within them: refusal 4's check says yes to it, and so it does to a burst that is new, cleared,
 -- ended, or has a new serial.
 use Prim.Native.Nat.{ℕ, ◌+◌, ◌^◌, ◌<◌, ◌≤◌}
-use mathlib.Core.Bool.{Bool, true, false, not, ◌||◌}
-use mathlib.Core.Path.{◌≡◌, refl}
+use mathlib.Core.Bool.{true}
+use mathlib.Core.Path.{◌≡◌}
 use mathlib.Core.List.{List}
 use native.Mathlib.Omega.{arith}
-use lib.Dec.{ltb, eqb}
 use lib.Ieee.{Float}
-use borrow.Author.Tests.{le-leb, lt-ltb, eqb-true}
-use Rattle.domain.specs.Limits.{max_count, max_bound, max_serial}
+use borrow.Author.Tests.{le-leb}
+use Rattle.domain.specs.Limits.{max_count, max_serial}
 use Rattle.shared.specs.Core.{numbered}
 use Rattle.shared.specs.Params.{fsk_min_of}
 use Rattle.run.specs.Limits.{RunWithin}
@@ -32,16 +31,16 @@ use Rattle.lane.specs.Begin.{with_factor, cleared_of}
 use Rattle.lane.specs.Close.{end_burst_of}
 
 run_ok_lem : (r : Run) → RunWithin r → run_ok r ≡ true
-run_ok_lem r h = simp (le-leb r.level 1 h.level_flag, le-leb r.confirmed 1 h.confirmed_flag)
+run_ok_lem r h = grind arith
 
 env_ok_lem : (v : Env) → EnvWithin v → env_ok v ≡ true
-env_ok_lem v h = simp (run_ok_lem v.run h.run_within, le-leb v.ref_pending 1 h.pending_flag)
+env_ok_lem v h = grind arith
 
 train_ok_lem : (max : ℕ) (t : Train) → TrainWithin max t → train_ok max t ≡ true
-train_ok_lem max t h = simp (le-leb t.started 1 h.started_flag, le-leb t.«open» 1 h.open_flag, le-leb t.truncated 1 h.truncated_flag, le-leb (t.ook_n + t.«open») max h.pulses, le-leb t.bound max_bound h.bounded)
+train_ok_lem max t h = grind arith
 
 out_ok_lem : (max : ℕ) (o : Out) → OutWithin max o → out_ok o ≡ true
-out_ok_lem max o h = simp (le-leb o.state 1 h.state_flag, le-leb o.cut 1 h.cut_flag, le-leb o.fsk 1 h.kind_flag, le-leb o.serial max_serial h.numbered)
+out_ok_lem max o h = grind arith
 
 pres_ok_lem : (q : Pres) → PresWithin q → pres_ok q ≡ true
 pres_ok_lem q h = run_ok_lem q.run h
@@ -77,54 +76,32 @@ burst_ok_lem {p} {b} d h =
 -- outside the burst, phase 2, the candidates are not asked for
 pub cand_ok_lem : (phase : ℕ) {p : Settings} {b : Burst} → BurstWithin p b → cand_ok phase p.min_steps b.frame ≡ true
 unfolding cand_ok
-cand_ok_lem phase {p} {b} h = go (eqb phase 2) (eqb b.frame.fsk_phase 0) refl
-  where
-    go : (c f : Bool) → eqb b.frame.fsk_phase 0 ≡ f → (not c || not f || ltb b.frame.cand.fsk_cand (fsk_min_of p.min_steps)) ≡ true
-    go true true q = lt-ltb b.frame.cand.fsk_cand (fsk_min_of p.min_steps) (h.frame_within.candidates (eqb-true b.frame.fsk_phase 0 q))
-    go true false q = refl
-    go false f q = refl
+cand_ok_lem phase {p} {b} h = grind arith
 
 no_out_lem : (max : ℕ) → OutWithin max no_out
-no_out_lem max = record { state_flag = omega arith; cut_flag = omega arith; kind_flag = omega arith; room = omega arith; numbered = omega arith }
+no_out_lem max = omega arith
 
 none_done_lem : (max m : ℕ) → CommittedWithin max m none_done
-none_done_lem max m = record { open_flag = omega arith; full_flag = omega arith; pairs = omega arith; runs_most = omega arith }
+none_done_lem max m = omega arith
 
 no_run_lem : RunWithin no_run
-no_run_lem = record { level_flag = omega arith; confirmed_flag = omega arith }
+no_run_lem = omega arith
 
 pub none_within : (p : Settings) → BurstWithin p no_burst
 unfolding no_burst
 none_within p =
-    record {
-      fits = record {
-        env_within = record { run_within = no_run_lem; pending_flag = omega arith };
-        train_within = record { started_flag = omega arith; open_flag = omega arith; truncated_flag = omega arith; pulses = omega arith; bounded = omega arith };
-        ook_within = no_out_lem p.max_pulses;
-        fsk_within = no_out_lem p.max_pulses;
-        pairs = none_done_lem p.max_pulses 0;
-      };
-      pres_within = no_run_lem;
-      frame_within = record {
-        phase_flag = omega arith;
-        early_flag = omega arith;
-        candidates = λ q. fsk_min_above p.min_steps;
-        count = omega arith;
-        runs_within = record { run_within = no_run_lem; has_prev_flag = omega arith };
-        done_within = none_done_lem p.max_pulses (most_runs p.long_steps);
-      };
-    }
+    let few : 0 < fsk_min_of p.min_steps = fsk_min_above p.min_steps in
+    search arith
 
 -- the records are cleared, whatever they were
 pub cleared_fits : (max : ℕ) (b : Burst) → EnvWithin b.env → TrainWithin max b.train → Paired max b.frame.done → BurstFits max (cleared_of b)
 unfolding cleared_of
-cleared_fits max b v t c = record { env_within = v; train_within = t; ook_within = no_out_lem max; fsk_within = no_out_lem max; pairs = c }
+cleared_fits max b v t c = search no_out_lem
 
 pub cleared_within : {p : Settings} {b : Burst} → BurstWithin p b → BurstWithin p (cleared_of b)
 unfolding cleared_of
 cleared_within {p} {b} h =
-    let f = h.fits in
-    record { fits = cleared_fits p.max_pulses b f.env_within f.train_within f.pairs; pres_within = h.pres_within; frame_within = h.frame_within }
+    search cleared_fits
 
 pub cleared_runs : (p : Settings) (b : Burst) → UnderWay p b → UnderWay p (cleared_of b)
 unfolding cleared_of
@@ -138,29 +115,18 @@ pub ended_fits : (max : ℕ) → max < 2 ^ 32 → (b : Burst) (ook : List ℕ) �
 unfolding cleared_of end_burst_of
 ended_fits max m b ook f =
     let e = end_train_within max m b.train b.high no_out ook f.train_within (no_out_lem max) in
-    record { env_within = f.env_within; train_within = e.0; ook_within = e.1; fsk_within = f.fsk_within; pairs = f.pairs }
+    search
 
 pub ended_within : {p : Settings} {b : Burst} → p.max_pulses < 2 ^ 32 → (ook : List ℕ) → BurstWithin p b → BurstWithin p (end_burst_of b ook).0
 unfolding end_burst_of cleared_of
 ended_within {p} {b} m ook h =
     let c = cleared_within h in
-    record { fits = ended_fits p.max_pulses m b ook c.fits; pres_within = c.pres_within; frame_within = c.frame_within }
+    search ended_fits
 
 -- the records get a serial that a lane may hold
 numbered_within : (max n : ℕ) (o : Out) → n ≤ max_serial → OutWithin max o → OutWithin max (numbered n o)
-numbered_within max n o h w = record { state_flag = w.state_flag; cut_flag = w.cut_flag; kind_flag = w.kind_flag; room = w.room; numbered = h }
+numbered_within max n o h w = search
 
 pub serials_within : {p : Settings} {b : Burst} (n : ℕ) → n ≤ max_serial → BurstWithin p b → BurstWithin p (with_serials n n b)
 serials_within {p} {b} n h w =
-    let f = w.fits in
-    record {
-      fits = record {
-        env_within = f.env_within;
-        train_within = f.train_within;
-        ook_within = numbered_within p.max_pulses n b.out_ook h f.ook_within;
-        fsk_within = numbered_within p.max_pulses n b.out_fsk h f.fsk_within;
-        pairs = f.pairs;
-      };
-      pres_within = w.pres_within;
-      frame_within = w.frame_within;
-    }
+    search numbered_within

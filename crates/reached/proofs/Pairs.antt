@@ -21,6 +21,8 @@ use Rattle.shared.specs.declared.Out.{Out}
 use Rattle.fsk.specs.RunStep.{confirm_of, confirm_due_of, move_runs_of, fsk_run_step_of}
 use Rattle.run.specs.Run.{due_of}
 use Rattle.run.specs.declared.Run.{Run}
+use Rattle.run.specs.declared.Move.{Move}
+use Rattle.run.specs.declared.Move.TheVariants.{Same, Glitch, Begins}
 use Rattle.fsk.specs.Resolve.{begin_frame_of, is_early_of, open_runs_of, turn_at_of, slice_thr_of, hi_lo_of, settle_of, fsk_resolve_of}
 use Rattle.fsk.specs.declared.Committed.{Committed}
 use Rattle.fsk.specs.declared.Runs.{Runs}
@@ -86,7 +88,7 @@ module _ (max : ℕ) where
 
   run_step_paired : (least : ℕ) (r : Runs) (c : Committed) (upper : Bool) (tc : Float) (fsk : List ℕ) → Paired max c → RanPaired max (fsk_run_step_of max least r c upper tc fsk)
   unfolding fsk_run_step_of
-  run_step_paired least r c upper tc fsk h = confirm_due_paired least (move_runs_of _ _ r (bit upper) tc) c upper fsk h
+  run_step_paired least r c upper tc fsk h = confirm_due_paired least (move_runs_of _ r (bit upper) tc) c upper fsk h
 
   resolve_paired : (least : ℕ) (fr : Frame) (f : Float) (idx : ℕ) (fsk : List ℕ) → Paired max fr.done → FramePaired max (fsk_resolve_of max least fr f idx fsk)
   unfolding fsk_resolve_of
@@ -158,11 +160,11 @@ module _ (p : Settings) (fits : p.max_pulses < 2 ^ 32) where
 
   -- ---- presence
 
-  move_paired : (same short on : Bool) (n : ℕ) (tc : Float) (fr : Frame) → Paired max fr.done → Paired max (move_frame_of same short on n tc fr).done
-  unfolding move_frame_of extend_of begin_frame_of
-  move_paired same short on n tc fr h =
-      let kept : Frame → Type 0 = λ (q : Frame). Paired max q.done in
-      either kept same h (either kept short (either kept on h h) (either kept on (search arith) h))
+  move_paired : (m : Move) (on : Bool) (n : ℕ) (tc : Float) (fr : Frame) → Paired max fr.done → Paired max (move_frame_of m on n tc fr).done
+  unfolding extend_of begin_frame_of
+  move_paired Same on n tc fr h = h
+  move_paired Glitch on n tc fr h = either (λ (q : Frame). Paired max q.done) on h h
+  move_paired Begins on n tc fr h = either (λ (q : Frame). Paired max q.done) on (search arith) h
 
   slice_paired : (a : Inputs) (on : Bool) (fr : Frame) (fsk : List ℕ) → Paired max fr.done → FramePaired max (slice_if_of p a on fr fsk)
   unfolding slice_if_of
@@ -192,7 +194,7 @@ module _ (p : Settings) (fits : p.max_pulses < 2 ^ 32) where
   presence_fits : (a : Inputs) (s : Pres) (b : Body) (ook fsk : List ℕ) → BodyFits max b → PresentFits (presence_of p a s b ook fsk)
   unfolding presence_of advance_of
   presence_fits a s b ook fsk h =
-      let f = slice_paired a _ _ fsk (move_paired _ _ _ _ _ b.frame h.pairs) in
+      let f = slice_paired a _ _ fsk (move_paired _ _ _ _ b.frame h.pairs) in
       carrier_fits a _ _ _ _ _ (end_if_fits _ a _ _ ook _ (record { pairs = f; train_within = h.train_within; ook_within = h.ook_within; fsk_within = h.fsk_within }))
 
 -- ---- a sample of a burst

@@ -8,15 +8,16 @@ use native.Mathlib.Omega.{arith}
 use lib.Dec.{ltb, leb, eqb}
 use lib.IntN.{pos}
 use lib.Ieee.{Float, add, sub, binary64, of_int}
-use borrow.Author.Tests.{eqb-true, eqb-false, ltb-false}
+use borrow.Author.Tests.{eqb-true, ltb-false}
 use Rattle.domain.specs.Limits.{max_steps}
 use Rattle.ieee.specs.Constants.{one64}
 use Rattle.arith.specs.Leaves.{edge_of, cross_of}
 use Rattle.shared.specs.Counts.{sat_add_of}
 use Rattle.shared.specs.Params.{fsk_min_of}
 use Rattle.shared.proofs.Cases.{by_test}
+use Rattle.shared.proofs.Tests.{clash}
 use Rattle.shared.specs.declared.Settings.{Settings}
-use Rattle.run.specs.Run.{with_start, lengthen_of, rejoin_of, begin_run_of, moved_of, due_of}
+use Rattle.run.specs.Run.{with_start, move_of, meets_of, lengthen_of, rejoin_of, begin_run_of, due_of}
 use Rattle.run.specs.declared.Run.{Run}
 use Rattle.fsk.specs.Makers.{with_runs}
 use Rattle.fsk.specs.Makers as frames
@@ -42,7 +43,7 @@ frame_up i j h = search arith
 
 -- of two flags that differ each is the other's opposite
 opposite : (a n : ℕ) → a ≤ 1 → n ≤ 1 → eqb a n ≡ false → n ≡ 1 - a
-opposite a n g h q = let z : a ≡ n → ⊥ = eqb-false a n q in omega (arith, z)
+opposite a n g h q = grind arith
 
 -- ---- the move of the presence, and what it does to the frame
 
@@ -62,8 +63,8 @@ record OffMoved (max least long : ℕ) (s : Pres) (fr : Frame) : Type 0 where
   absent : s.run.confirmed ≡ 0 → (s.run.prev_len ≤ long) × FrameWithin max least s.run.prev_len (2 * s.run.prev_len) fr
 
 module _ (max least long : ℕ) (small : long ≤ max_steps) (some : 0 < least) (s : Pres) (fr : Frame) (tc : Float) (h : Running max least long s fr) where
-  on_moved : (same short : Bool) → eqb 1 s.run.level ≡ same → eqb s.run.confirmed 0 ≡ short → OnMoved max least long (move_pres_of same short s 1 tc) (move_frame_of same short true s.run.run_len tc fr)
-  unfolding move_pres_of move_frame_of moved_of lengthen_of rejoin_of begin_run_of extend_of sat_add_of
+  on_moved : (same short : Bool) → eqb 1 s.run.level ≡ same → eqb s.run.confirmed 0 ≡ short → OnMoved max least long (move_pres_of (move_of same short) s 1 tc) (move_frame_of (move_of same short) true s.run.run_len tc fr)
+  unfolding move_pres_of lengthen_of rejoin_of begin_run_of extend_of sat_add_of
   on_moved true short q r =
       let one : s.run.level ≡ 1 = sym (eqb-true 1 s.run.level q) in
       let now = h.present one in
@@ -77,8 +78,8 @@ module _ (max least long : ℕ) (small : long ≤ max_steps) (some : 0 < least) 
       record { k = s.run.prev_len; is_on = refl; sure_flag = omega arith; low = b; longer = omega arith; frame_within = search arith }
   on_moved false false q r = record { k = 0; is_on = refl; sure_flag = omega arith; low = omega arith; longer = omega arith; frame_within = begin_frame_within max least fr tc some }
 
-  off_moved : (same short : Bool) → eqb 0 s.run.level ≡ same → eqb s.run.confirmed 0 ≡ short → OffMoved max least long (move_pres_of same short s 0 tc) (move_frame_of same short false s.run.run_len tc fr)
-  unfolding move_pres_of move_frame_of moved_of lengthen_of rejoin_of begin_run_of
+  off_moved : (same short : Bool) → eqb 0 s.run.level ≡ same → eqb s.run.confirmed 0 ≡ short → OffMoved max least long (move_pres_of (move_of same short) s 0 tc) (move_frame_of (move_of same short) false s.run.run_len tc fr)
+  unfolding move_pres_of lengthen_of rejoin_of begin_run_of
   off_moved true short q r =
       let none : s.run.level ≡ 0 = sym (eqb-true 0 s.run.level q) in
       record { is_off = none; sure_flag = h.flags.confirmed_flag; most = h.most; absent = h.absent none }
@@ -96,21 +97,13 @@ AnswerWithin max least long q = PresentWithin max least long q.0
 
 due_open : (s : Run) (n : ℕ) → due_of s n ≡ true → s.confirmed ≡ 0
 unfolding due_of
-due_open s n q = go (eqb s.confirmed 0) refl q
-  where
-    go : (b : Bool) → eqb s.confirmed 0 ≡ b → cond b (leb n s.run_len) false ≡ true → s.confirmed ≡ 0
-    go true r z = eqb-true s.confirmed 0 r
-    go false r z = let no : ◌≡◌ {A = ℕ} 0 1 = cc in absurd (omega arith)
+due_open s n q = grind arith
 
 -- the carrier is off: nothing more is counted, and a confirmed absence may end the frame
 off_answer : (p : Settings) (a : Inputs) (least : ℕ) (s : Pres) (b : Body) (ook fsk : List ℕ) → s.run.level ≡ 0 → s.run.confirmed ≤ 1 → FrameWithin p.max_pulses least (p.long_steps + 1) (most_runs p.long_steps) b.frame → (s.run.confirmed ≡ 0 → (s.run.prev_len ≤ p.long_steps) × FrameWithin p.max_pulses least s.run.prev_len (2 * s.run.prev_len) b.frame) → AnswerWithin p.max_pulses least p.long_steps (carrier_if_of p a false s b ook fsk)
 unfolding carrier_if_of long_of
 off_answer p a least s b ook fsk none sure h f =
-    record {
-      flags = omega arith;
-      frame_within = h;
-      running = λ z. record { flags = omega arith; most = h; present = λ o. absurd (omega arith); absent = λ o. f };
-    }
+    search arith
 
 module _ (p : Settings) (a : Inputs) (ook : List ℕ) where
   end_carrier_within : (least k m : ℕ) (t : Float) (b : Body) (fsk : List ℕ) → FrameWithin p.max_pulses least k m b.frame → DoneWithin p.max_pulses least k (m + 1) (end_carrier_of p a t b ook fsk)
@@ -127,7 +120,7 @@ module _ (p : Settings) (a : Inputs) (ook : List ℕ) where
       (λ q. record {
         flags = omega arith;
         frame_within = frame_up (omega arith) (omega arith) (end_carrier_within least (p.long_steps + 1) (2 * p.long_steps + 2) s.run.t_run b fsk h);
-        running = λ z. let no : ◌≡◌ {A = ℕ} 0 1 = cc in absurd (omega arith);
+        running = λ z. clash (sym z);
       })
       (λ q. record {
         flags = omega arith;
@@ -183,8 +176,8 @@ module _ (p : Settings) (a : Inputs) (ook : List ℕ) where
       go : (on : Bool) (tc : Float) → AnswerWithin p.max_pulses (fsk_min_of p.min_steps) p.long_steps (after_advance p a b ook (advance_at p a s b.frame on tc fsk))
       go true tc =
           let o = on_moved p.max_pulses (fsk_min_of p.min_steps) p.long_steps small (fsk_min_above p.min_steps) s b.frame tc h (eqb 1 s.run.level) (eqb s.run.confirmed 0) refl refl in
-          let q : Pres = move_pres_of (eqb 1 s.run.level) (eqb s.run.confirmed 0) s 1 tc in
-          let f = sample_within o.k (2 * o.k) p (move_frame_of (eqb 1 s.run.level) (eqb s.run.confirmed 0) true s.run.run_len tc b.frame) a.high a.d a.e a.idx fsk o.frame_within in
+          let q : Pres = move_pres_of (meets_of s.run 1) s 1 tc in
+          let f = sample_within o.k (2 * o.k) p (move_frame_of (meets_of s.run 1) true s.run.run_len tc b.frame) a.high a.d a.e a.idx fsk o.frame_within in
           let low : o.k ≤ p.long_steps = o.low in
           let longer : o.k + 1 ≤ q.run.run_len = o.longer in
           after_on (fsk_min_of p.min_steps) q _ _ (due_of q.run p.min_steps) o.is_on o.sure_flag
@@ -192,7 +185,7 @@ module _ (p : Settings) (a : Inputs) (ook : List ℕ) where
           (frame_up (omega arith) (omega arith) f)
       go false tc =
           let o = off_moved p.max_pulses (fsk_min_of p.min_steps) p.long_steps small (fsk_min_above p.min_steps) s b.frame tc h (eqb 0 s.run.level) (eqb s.run.confirmed 0) refl refl in
-          let q : Pres = move_pres_of (eqb 0 s.run.level) (eqb s.run.confirmed 0) s 0 tc in
+          let q : Pres = move_pres_of (meets_of s.run 0) s 0 tc in
           after_off (fsk_min_of p.min_steps) q _ _ (due_of q.run p.min_steps) refl o.is_off o.sure_flag
           o.most
           o.absent

@@ -1,15 +1,15 @@
 -- The lanes that calls hand back, from the one that never had settings on, pass refusal 4's check: each accepted call leads from a sound lane to a sound
 -- lane, and a refused one leaves it. So no list of calls meets refusal 4.
 use Prim.Native.Nat.{ℕ, ◌+◌, ◌<◌, ◌≤◌}
-use mathlib.Core.Bool.{Bool, true, false, not, ◌&&◌, ◌||◌}
+use mathlib.Core.Bool.{Bool, true, not, ◌&&◌}
 use mathlib.Core.Path.{◌≡◌, refl, sym, ap, ◌∙◌}
 use mathlib.Core.List.{List}
 use native.Mathlib.Omega.{arith}
 use lib.ListN.{length, get_or}
-use lib.Dec.{leb, ltb, eqb}
+use lib.Dec.{ltb, eqb}
 use lib.IntN.{pos}
 use lib.Ieee.{Float, nan, binary64, of_int, of_bits, to_bits}
-use borrow.Author.Tests.{leb-true, le-leb, lt-ltb, ltb-true, eqb-true, eqb-false, not-true}
+use borrow.Author.Tests.{leb-true, le-leb, ltb-true, eqb-false, not-true}
 use Rattle.std.specs.Prelude.{Ok, Err}
 use Rattle.domain.specs.Limits.{max_index, spent_serial, max_serial}
 use Rattle.arith.specs.Leaves.{lead_len_of}
@@ -17,7 +17,6 @@ use Rattle.shared.specs.declared.Settings.{Settings}
 use Rattle.shared.proofs.Cases.{either, by_test}
 use Rattle.shared.specs.Answers.{is_stay_of}
 use Rattle.shared.specs.declared.Next.{Next}
-use Rattle.shared.specs.declared.Next.TheVariants as next
 use Rattle.burst.specs.Makers.{with_serials}
 use Rattle.burst.specs.Types.{Burst}
 use Rattle.burst.specs.declared.Lead.{Lead}
@@ -29,7 +28,7 @@ use Rattle.refusals.specs.State.{burst_ok, frame_ok, lead_ok, cand_ok}
 use Rattle.refusals.specs.declared.Refusal.TheVariants as refusal
 use Rattle.refusals.specs.Order.{first_failed}
 use Rattle.refusals.proofs.Order.{passed, AllPassed, none_failed}
-use Rattle.shared.proofs.Tests.{both_true}
+use Rattle.shared.proofs.Tests.{clash, both_true}
 use Rattle.reached.specs.Limits.{BurstWithin, UnderWay}
 use Rattle.reached.proofs.Burst.{SampledWithin, sample_within, replay_within, begin_burst_within}
 use Rattle.reached.proofs.Kept.{burst_ok_lem, cand_ok_lem, none_within, cleared_within, cleared_runs, factor_within, ended_within, serials_within}
@@ -40,7 +39,7 @@ use Rattle.lane.specs.declared.Answer.{Answer}
 use Rattle.lane.specs.Answers.{phase_of}
 use Rattle.refusals.specs.Serial.{serial_left}
 use Rattle.lane.specs.Refusals.{opened_ok, lane_ok, follows_of, begin_floats_ok, step_floats_ok, open_refusal, begin_refusal, step_refusal, close_refusal}
-use Rattle.lane.proofs.Refusals.{passes_lane, by_refusal}
+use Rattle.lane.proofs.Refusals.{passes_lane, open_left, begin_left, by_refusal}
 use Rattle.lane.specs.Idle.{no_burst, idle_lane}
 use Rattle.lane.specs.Begin.{cleared_of, begin_lead_of, lead_lane, lane_of}
 use Rattle.lane.specs.Advance.{settle_of, fill_of, replay_step, lead_step, burst_step, advance_of}
@@ -51,11 +50,7 @@ use Rattle.reached.specs.Reached.{Reached, new, opening, beginning, stepping, cl
 
 lead_ok_lem : (phase m : ℕ) (ld : Lead) → (phase ≡ 1 → ld.lead_n < lead_len_of m) → ld.lead_at ≤ max_index → lead_ok phase m ld ≡ true
 unfolding lead_ok
-lead_ok_lem phase m ld n a = go (eqb phase 1) refl
-  where
-    go : (b : Bool) → eqb phase 1 ≡ b → (leb ld.lead_at max_index && (not b || ltb ld.lead_n (lead_len_of m))) ≡ true
-    go true q = simp (le-leb ld.lead_at max_index a, lt-ltb ld.lead_n (lead_len_of m) (n (eqb-true phase 1 q)))
-    go false q = simp (le-leb ld.lead_at max_index a)
+lead_ok_lem phase m ld n a = grind arith
 
 had_ok : (had phase : ℕ) (p : Settings) → had ≡ 1 → settings_ok p ≡ true → opened_ok had phase p ≡ true
 unfolding opened_ok
@@ -84,7 +79,7 @@ raises h = record { busy = λ b. h; idle = omega arith }
 stamp_sound : {l : Lane} (n : ℕ) → Kept l → Counts l.phase l.last n → Sound (stamp_of n l)
 unfolding stamp_of
 stamp_sound {l} n r c =
-    let k : Kept (stamp_of n l) = record { had = r.had; domain = r.domain; held = serials_within n (omega (arith, c.idle, r.near)) r.held; going = r.going; named = r.named; filled = r.filled; from = r.from; near = r.near } in
+    let k : Kept (stamp_of n l) = let held = serials_within n (omega (arith, c.idle, r.near)) r.held in search in
     let w : Within (stamp_of n l) = record { kept = k; counted = c; own_ook = refl; own_fsk = refl } in
     within w
 
@@ -92,19 +87,13 @@ stamp_sound {l} n r c =
 idle_kept : (p : Settings) → settings_ok p ≡ true → Kept (idle_lane 1 p)
 unfolding idle_lane
 idle_kept p q =
-    record { had = refl; domain = q; held = none_within p; going = λ e. absurd (omega arith); named = omega arith; filled = λ e. omega arith; from = omega arith; near = omega arith }
-
-opening_passes : (l : Lane) (p : Settings) → open_refusal l p ≡ Ok tt → (settings_ok p ≡ true) × (l.serial < spent_serial)
-unfolding open_refusal
-opening_passes l p e =
-    let a = passed refusal.Settings (settings_ok p) _ e in
-    (a.0, ltb-true l.serial spent_serial (passed refusal.Serial (serial_left l.serial) _ a.1).0)
+    search (none_within, arith)
 
 pub open_sound : {l : Lane} (p : Settings) → Sound l → Sound (opened l p).lane
-unfolding opened
+unfolding opened open_refusal
 open_sound {l} p h =
     by_refusal (λ (a : Answer). Sound a.lane) (open_refusal l p)
-    (λ q. let t = opening_passes l p q in stamp_sound (l.serial + 1) (idle_kept p t.0) (raises (omega (arith, t.1))))
+    (λ q. stamp_sound (l.serial + 1) (idle_kept p (passed refusal.Settings (settings_ok p) _ q).0) (raises (omega (arith, open_left l p q))))
     (λ k q. h)
 
 -- begin
@@ -115,14 +104,16 @@ begin_passes l b m n e = none_failed (not (eqb l.opened 0)) (lane_ok l) (eqb l.p
 
 lead_sound : {l : Lane} (b : BeginArgs) (m n : ℕ) → begin_refusal l b m n ≡ Ok tt → Sound l → Sound (stamp_of (l.serial + 1) (lead_lane l b))
 unfolding lead_lane begin_lead_of new_lane idle_lane
-lead_sound b m n e unopened = let z : ◌≡◌ {A = Bool} false true = (begin_passes new_lane b m n e).settings_ok in absurd (let y : ◌≡◌ {A = ℕ} 0 1 = cc in omega arith)
+lead_sound b m n e unopened = clash (sym (begin_passes new_lane b m n e).settings_ok)
 lead_sound {l} b m n e (within w) =
     let h = w.kept in
     let t = begin_passes l b m n e in
     let i : b.index ≤ max_index = leb-true b.index max_index t.index_ok in
     let d : InDomain l.settings = settings_tell l.settings h.domain in
-    let r : Kept (lead_lane l b) = record { had = h.had; domain = h.domain; held = factor_within b.factor (cleared_within h.held); going = λ q. absurd (omega arith); named = omega arith; filled = λ q. omega (arith, d.min_steps.0, d.min_steps.1); from = i; near = i } in
-    stamp_sound (l.serial + 1) r (raises (omega (arith, ltb-true l.serial spent_serial t.serial_ok)))
+    let held = factor_within b.factor (cleared_within h.held) in
+    let room = d.min_steps in
+    let r : Kept (lead_lane l b) = search arith in
+    stamp_sound (l.serial + 1) r (raises (omega (arith, begin_left l b m n e)))
 
 pub begin_sound : {l : Lane} (b : BeginArgs) (ook fsk : List ℕ) → Sound l → Sound (begun l b ook fsk).lane
 unfolding begun
@@ -142,9 +133,7 @@ lead_within p noise ring ld b ook fsk d h =
 -- step
 phase_ends : (n : Next) → (phase_of n ≤ 2) × (phase_of n ≡ 1 → ⊥) × (phase_of n ≡ 2 → is_stay_of n ≡ true)
 unfolding phase_of
-phase_ends next.Stay = (omega arith, λ e. omega arith, λ e. refl)
-phase_ends next.Idle = (omega arith, λ e. omega arith, λ e. absurd (omega arith))
-phase_ends (next.IdleAt x) = (omega arith, λ e. omega arith, λ e. absurd (omega arith))
+phase_ends n = grind arith
 
 -- an accepted step: its index is the one after the last, and the serial rises with it
 record Steps (l : Lane) (s : StepArgs) : Type 0 where
@@ -172,7 +161,7 @@ module _ {l : Lane} (s : StepArgs) (k : Steps l s) where
       let ld : Lead = lead_add_of l.lead s.envelope s.x in
       by_test (λ (r : Answer × List ℕ × List ℕ). Sound (stamp_of (l.serial + 1) r.0.lane)) (ltb ld.lead_n (lead_len_of l.settings.min_steps))
       (λ n. counts 1 ld ring (cleared_of l.burst)
-      (record { had = h.had; domain = h.domain; held = cleared_within h.held; going = λ e. absurd (omega arith); named = omega arith; filled = λ e. ltb-true _ _ n; from = h.from; near = k.index_most }))
+      (let held = cleared_within h.held in let few = ltb-true _ _ n in let near = k.index_most in search arith))
       (λ n. settled_sound ld ring _ (lead_within l.settings s.noise ring ld (cleared_of l.burst) ook fsk (settings_tell l.settings h.domain) (cleared_within h.held)) h.from)
 
   burst_step_sound : (ring : List Float) (ook fsk : List ℕ) → l.phase ≡ 2 → Sound (stamp_of (l.serial + 1) (burst_step l s ring ook fsk).0.lane)
@@ -196,11 +185,11 @@ step_passes l s m n e = none_failed true (lane_ok l) (not (eqb l.phase 0)) true 
 
 follows_is : (last index : ℕ) → follows_of last index ≡ true → index ≡ last + 1
 unfolding follows_of
-follows_is last index q = eqb-true index (last + 1) q
+follows_is last index q = grind arith
 
 accepted_sound : {l : Lane} (s : StepArgs) (ook fsk : List ℕ) → step_refusal l s (length ook) (length fsk) ≡ Ok tt → Sound l → Sound (stamp_of (l.serial + 1) (advance_of l s ook fsk).0.lane)
 unfolding new_lane idle_lane
-accepted_sound s ook fsk e unopened = let z : ◌≡◌ {A = Bool} false true = (step_passes new_lane s (length ook) (length fsk) e).phase_ok in absurd (let y : ◌≡◌ {A = ℕ} 0 1 = cc in omega arith)
+accepted_sound s ook fsk e unopened = clash (sym (step_passes new_lane s (length ook) (length fsk) e).phase_ok)
 accepted_sound {l} s ook fsk e (within h) =
     let t = step_passes l s (length ook) (length fsk) e in
     let i = both_true (index_ok s.index) (follows_of l.last s.index) t.index_ok in
@@ -222,12 +211,12 @@ idle_with_sound : {l : Lane} (b : Burst) → Within l → (l.phase ≡ 0 → ⊥
 unfolding idle_with
 idle_with_sound {l} b w busy g =
     let h = w.kept in
-    let k : Kept (lane_of l 0 l.last l.x_prev l.lead l.ring b) = record { had = h.had; domain = h.domain; held = g; going = λ e. absurd (omega arith); named = omega arith; filled = λ e. absurd (omega arith); from = h.from; near = h.near } in
+    let k : Kept (lane_of l 0 l.last l.x_prev l.lead l.ring b) = search arith in
     stamp_sound (l.serial + 1) k (record { busy = λ n. absurd (n refl); idle = omega (arith, w.counted.busy busy) })
 
 closes_sound : {l : Lane} (ook fsk : List ℕ) → close_refusal l (length ook) (length fsk) ≡ Ok tt → Sound l → Sound (stamp_of (l.serial + 1) (close_of l ook fsk).0.lane)
 unfolding new_lane idle_lane close_of
-closes_sound ook fsk e unopened = let z : ◌≡◌ {A = Bool} false true = (close_passes new_lane (length ook) (length fsk) e).phase_ok in absurd (let y : ◌≡◌ {A = ℕ} 0 1 = cc in omega arith)
+closes_sound ook fsk e unopened = clash (sym (close_passes new_lane (length ook) (length fsk) e).phase_ok)
 closes_sound {l} ook fsk e (within w) =
     let t = close_passes l (length ook) (length fsk) e in
     let busy = eqb-false l.phase 0 (not-true (eqb l.phase 0) t.phase_ok) in
@@ -268,14 +257,7 @@ reached_ok r = sound_ok (reached_sound r)
 -- where the lane passes its check, the first refusal is another one than 4
 not_four : (s l p n i f r : Bool) → l ≡ true → first_failed s l p n i f r ≡ Err refusal.Lane → ⊥
 unfolding first_failed
-not_four s false p n i f r q e = let y : ◌≡◌ {A = ℕ} 0 1 = cc in omega arith
-not_four false true p n i f r q e = grind arith
-not_four true true false n i f r q e = grind arith
-not_four true true true false i f r q e = grind arith
-not_four true true true true false f r q e = grind arith
-not_four true true true true true false r q e = grind arith
-not_four true true true true true true false q e = grind arith
-not_four true true true true true true true q e = grind arith
+not_four s l p n i f r q e = grind arith
 
 -- no list of calls meets refusal 4; an opening has no refusal but 3 and 13
 pub begin_not_four : {l : Lane} → Reached l → (b : BeginArgs) (ook fsk : ℕ) → begin_refusal l b ook fsk ≡ Err refusal.Lane → ⊥

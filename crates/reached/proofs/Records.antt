@@ -1,6 +1,6 @@
 -- The records of an accepted call, whatever the lane value: an opening and a begin leave none, and each that a step or a close leaves has at most
 -- max_pulses pairs. So the slots that belong to a record are at most 2 * max_pulses, which the domain ends at max_slots.
-use Prim.Native.Nat.{ℕ, ◌+◌, ◌*◌, ◌≤◌}
+use Prim.Native.Nat.{ℕ, ◌*◌, ◌≤◌}
 use mathlib.Core.Bool.{Bool, true, false, ◌&&◌}
 use mathlib.Core.Path.{◌≡◌, refl}
 use mathlib.Core.List.{List}
@@ -9,18 +9,17 @@ use lib.ListN.{length, get_or, length-take}
 use lib.Dec.{leb, ltb, eqb}
 use lib.IntN.{pos}
 use lib.Ieee.{Float, nan, binary64, of_int}
-use borrow.Author.Tests.{leb-true, not-true}
+use borrow.Author.Tests.{not-true}
 use Rattle.std.specs.Prelude.{⊤, Result, Ok, is_ok}
-use Rattle.domain.specs.Limits.{max_slots, max_count, max_bound}
+use Rattle.domain.specs.Limits.{max_slots}
 use Rattle.arith.specs.Leaves.{lead_len_of}
-use Rattle.shared.proofs.Tests.{both_true, six_true}
+use Rattle.shared.proofs.Tests.{six_true}
 use Rattle.shared.proofs.Cases.{either}
 use Rattle.ook.specs.Limits.{EnvWithin, TrainWithin}
 use Rattle.ook.specs.declared.Env.{Env}
 use Rattle.ook.specs.declared.Train.{Train}
 use Rattle.shared.specs.declared.Out.{Out}
 use Rattle.shared.specs.declared.Settings.{Settings}
-use Rattle.fsk.specs.declared.Committed.{Committed}
 use Rattle.fsk.specs.Types.{Frame}
 use Rattle.burst.specs.Types.{Burst}
 use Rattle.burst.specs.declared.Lead.{Lead}
@@ -29,7 +28,7 @@ use Rattle.reached.specs.Limits.{Paired, BurstFits}
 use Rattle.reached.proofs.Pairs.{SampledFits, sample_fits, replay_fits, begin_burst_fits}
 use Rattle.refusals.proofs.Domain.{InDomain, settings_tell}
 use Rattle.refusals.specs.declared.Refusal.{Refusal}
-use Rattle.refusals.specs.State.{run_ok, flag, env_ok, train_ok, runs_ok, committed_ok, out_ok, pres_ok, frame_ok, burst_ok}
+use Rattle.refusals.specs.State.{env_ok, train_ok, out_ok, pres_ok, frame_ok, burst_ok}
 use Rattle.reached.proofs.Kept.{cleared_fits, ended_fits}
 use Rattle.lane.specs.declared.BeginArgs.{BeginArgs}
 use Rattle.lane.specs.declared.StepArgs.{StepArgs}
@@ -43,38 +42,21 @@ use Rattle.lane.specs.Begin.{ring_of, cleared_of, lead_lane}
 use Rattle.lane.specs.Advance.{settle_of, fill_of, replay_step, lead_step, at_of, burst_step, advance_of}
 use Rattle.lane.specs.Serial.{stamp_of}
 use Rattle.lane.specs.Close.{idle_with, close_of}
-use Rattle.lane.specs.Step.{refuse, unless_refused, opened, begun, stepped, closed}
+use Rattle.lane.specs.Step.{unless_refused, opened, begun, stepped, closed}
 use Rattle.lane.specs.Part.{front, named_of, part_refusal, part_of}
 use Rattle.reached.proofs.Reached.{step_passes, close_passes}
 
 -- ---- what refusal 4's check says of the train and of the frame's pairs
 
 env_tells : (v : Env) → env_ok v ≡ true → EnvWithin v
-env_tells v h =
-    let b = both_true (run_ok v.run) (flag v.ref_pending) h in
-    let a = both_true (flag v.run.level) (flag v.run.confirmed) b.0 in
-    record { run_within = record { level_flag = leb-true _ _ a.0; confirmed_flag = leb-true _ _ a.1 }; pending_flag = leb-true _ _ b.1 }
-
-four_true : (a b c d : Bool) → (a && b && c && d) ≡ true → (a ≡ true) × (b ≡ true) × (c ≡ true) × (d ≡ true)
-four_true a b c d h =
-    let t = six_true true true a b c d h in
-    (t.2, t.3, t.4, t.5)
+env_tells v h = grind arith
 
 train_tells : (max : ℕ) (t : Train) → train_ok max t ≡ true → TrainWithin max t
-train_tells max t h =
-    let q = six_true true (flag t.started) (flag t.«open») (flag t.truncated) (leb (t.ook_n + t.«open») max) (leb t.bound max_bound) h in
-    record { started_flag = leb-true _ _ q.1; open_flag = leb-true _ _ q.2; truncated_flag = leb-true _ _ q.3; pulses = leb-true _ _ q.4; bounded = leb-true _ _ q.5 }
-
-pairs_tell : (max : ℕ) (c : Committed) → committed_ok max c ≡ true → Paired max c
-pairs_tell max c h =
-    let q = four_true (flag c.fsk_open) (flag c.fsk_full) (leb (c.fsk_n + c.fsk_open) max) (leb c.fsk_runs max_count) h in
-    record { open_flag = leb-true _ _ q.0; full_flag = leb-true _ _ q.1; pairs = leb-true _ _ q.2; runs_most = omega arith }
+train_tells max t h = grind arith
 
 frame_tells : (max : ℕ) (f : Frame) → frame_ok max f ≡ true → Paired max f.done
 unfolding frame_ok
-frame_tells max f h =
-    pairs_tell max f.done
-    (both_true (flag f.fsk_phase && leb f.mean.fsk_cnt max_count && flag f.early.early && runs_ok f.runs) (committed_ok max f.done) h).1
+frame_tells max f h = grind arith
 
 burst_tells : (max : ℕ) (b : Burst) → burst_ok max b ≡ true → BurstFits max (cleared_of b)
 unfolding burst_ok
@@ -210,15 +192,11 @@ parts_fit_begin l b ook fsk e most = none_most most (begun l b ook fsk).lane (re
 pub parts_fit_open : (l : Lane) (p : Settings) → open_refusal l p ≡ Ok tt → (most : ℕ) (x y : List ℕ) → PartsFit most (opened l p).lane x y
 parts_fit_open l p e most = none_most most (opened l p).lane (records_none_open l p e)
 
--- an accepted step has settings of the domain
-domain_step : (l : Lane) (s : StepArgs) (m n : ℕ) → step_refusal l s m n ≡ Ok tt → InDomain l.settings
-domain_step l s m n e = (ready l s m n e).domain
-
 pub slots_close : (l : Lane) (m n : ℕ) → close_refusal l m n ≡ Ok tt → 2 * l.settings.max_pulses ≤ max_slots
 slots_close l m n e = omega (arith, (ready_close l m n e).domain.max_pulses.1)
 
 pub slots_step : (l : Lane) (s : StepArgs) (m n : ℕ) → step_refusal l s m n ≡ Ok tt → 2 * l.settings.max_pulses ≤ max_slots
-slots_step l s m n e = omega (arith, (domain_step l s m n e).max_pulses.1)
+slots_step l s m n e = omega (arith, (ready l s m n e).domain.max_pulses.1)
 
 -- ---- a call that does not answer 3 is accepted
 
@@ -226,24 +204,21 @@ abbrev Accepts : Result ⊤ Refusal → Answer → Type 0
 Accepts k a = (reply_number_of a.reply ≡ 3 → ⊥) → k ≡ Ok tt
 
 -- k is the first check that fails
-not_three : (k : Result ⊤ Refusal) (l : Lane) (a : Answer) → Accepts k (unless_refused k a (λ r. refuse r l))
-not_three k l a = by_refusal (Accepts k) k (λ q h. q) (λ r q h. absurd (h refl))
-
-not_three_with : (k : Result ⊤ Refusal) (l : Lane) (a : Answer × List ℕ × List ℕ) (ook fsk : List ℕ) → Accepts k (unless_refused k a (λ r. (refuse r l, ook, fsk))).0
-not_three_with k l a ook fsk = by_refusal (λ (r : Answer × List ℕ × List ℕ). Accepts k r.0) k (λ q h. q) (λ r q h. absurd (h refl))
+not_three : {A : Type 0} (answer : A → Answer) (k : Result ⊤ Refusal) (a : A) (g : Refusal → A) → ((r : Refusal) → reply_number_of (answer (g r)).reply ≡ 3) → Accepts k (answer (unless_refused k a g))
+not_three answer k a g three = by_refusal (λ x. Accepts k (answer x)) k (λ q h. q) (λ r q h. absurd (h (three r)))
 
 pub answered_open : (l : Lane) (p : Settings) → Accepts (open_refusal l p) (opened l p)
 unfolding opened
-answered_open l p = not_three _ l _
+answered_open l p = not_three (λ (a : Answer). a) _ _ _ (λ r. refl)
 
 pub answered_begin : (l : Lane) (b : BeginArgs) (ook fsk : List ℕ) → Accepts (begin_refusal l b (length ook) (length fsk)) (begun l b ook fsk)
 unfolding begun
-answered_begin l b ook fsk = not_three _ l _
+answered_begin l b ook fsk = not_three (λ (a : Answer). a) _ _ _ (λ r. refl)
 
 pub answered_step : (l : Lane) (s : StepArgs) (ook fsk : List ℕ) → Accepts (step_refusal l s (length ook) (length fsk)) (stepped l s ook fsk).0
 unfolding stepped
-answered_step l s ook fsk = not_three_with _ l _ ook fsk
+answered_step l s ook fsk = not_three (λ (q : Answer × List ℕ × List ℕ). q.0) _ _ _ (λ r. refl)
 
 pub answered_close : (l : Lane) (ook fsk : List ℕ) → Accepts (close_refusal l (length ook) (length fsk)) (closed l ook fsk).0
 unfolding closed
-answered_close l ook fsk = not_three_with _ l _ ook fsk
+answered_close l ook fsk = not_three (λ (q : Answer × List ℕ × List ℕ). q.0) _ _ _ (λ r. refl)

@@ -1,7 +1,7 @@
 -- An accepted call raises the serial by 1, whatever the lane, and puts it in both records; a refused one leaves the lane. So along a list the
 -- serials count up.
 use Prim.Native.Nat.{ℕ, zero, suc, ◌+◌, ◌<◌}
-use mathlib.Core.Bool.{Bool, true, false, cond, not}
+use mathlib.Core.Bool.{true, cond, not}
 use mathlib.Core.Path.{◌≡◌, refl, sym, ap, ◌∙◌, subst}
 use mathlib.Core.List.{List, [], ◌∷◌, ◌++◌}
 use native.Mathlib.Nat.{not-suc-le-zero}
@@ -10,7 +10,6 @@ use lib.Dec.{eqb}
 use Rattle.std.specs.Prelude.{⊤, Result, Ok}
 use Rattle.refusals.specs.declared.Refusal.{Refusal}
 use Rattle.shared.specs.declared.Next.{Next}
-use Rattle.shared.specs.declared.Next.TheVariants as next
 use lib.ListN.{length, get_or}
 use Rattle.lane.specs.declared.Answer.{Answer}
 use Rattle.lane.specs.declared.Lane.{Lane}
@@ -19,10 +18,11 @@ use Rattle.lane.specs.Advance.{advance_of, fill_of, settle_of}
 use Rattle.lane.specs.Answers.{reply_number_of}
 use Rattle.lane.specs.Begin.{lead_lane}
 use Rattle.lane.specs.Idle.{idle_lane}
+use Rattle.shared.proofs.Tests.{clash}
 use Rattle.lane.proofs.Refusals.{by_refusal}
 use Rattle.lane.proofs.PartLaws.{part_named}
 use Rattle.lane.specs.Refusals.{open_refusal, begin_refusal, step_refusal, close_refusal}
-use Rattle.lane.specs.Serial.{stamp_of, stamped, stamped_with}
+use Rattle.lane.specs.Serial.{stamp_of, stamped}
 use Rattle.lane.specs.Close.{idle_with, close_of}
 use Rattle.lane.specs.Step.{new_lane, refuse, unless_refused, stay, opened, begun, stepped, closed}
 use Rattle.reached.proofs.Accepted.{step_ways, close_ways}
@@ -36,18 +36,14 @@ data Answers (l : Lane) (a : Answer) : Type 0 where
 abbrev Is : Answer × List ℕ × List ℕ → Type 0
 Is r = accepted r.0 ≡ true
 
-by_check : (l : Lane) (k : Result ⊤ Refusal) (b : Answer) → accepted b ≡ true → Answers l (unless_refused k (stamped l b) (λ n. refuse n l))
-by_check l k b t = by_refusal (Answers l) k (λ q. raises b t refl) (λ n q. refuses n refl)
-
-by_check_with : (l : Lane) (k : Result ⊤ Refusal) (r : Answer × List ℕ × List ℕ) (ook fsk : List ℕ) → Is r
-    → Answers l (unless_refused k (stamped_with l r) (λ n. (refuse n l, ook, fsk))).0
-by_check_with l k r ook fsk t = by_refusal (λ (a : Answer × List ℕ × List ℕ). Answers l a.0) k (λ q. raises r.0 t refl) (λ n q. refuses n refl)
+-- an answer that is alone, or has the buffers with it
+by_check : {A : Type 0} (answer : A → Answer) (l : Lane) (k : Result ⊤ Refusal) (b : Answer) {a : A} {g : Refusal → A} → accepted b ≡ true → answer a ≡ stamped l b
+    → ((n : Refusal) → answer (g n) ≡ refuse n l) → Answers l (answer (unless_refused k a g))
+by_check answer l k b t s r = by_refusal (λ x. Answers l (answer x)) k (λ q. raises b t s) (λ n q. refuses n (r n))
 
 -- a sample is never answered by a refusal
 next_accepted : (n : Next) → not (eqb (reply_number_of {E = Refusal} (Ok n)) 3) ≡ true
-next_accepted next.Stay = refl
-next_accepted next.Idle = refl
-next_accepted (next.IdleAt e) = refl
+next_accepted n = grind arith
 
 advance_accepted : (l : Lane) (s : StepArgs) (ook fsk : List ℕ) → Is (advance_of l s ook fsk)
 unfolding fill_of settle_of
@@ -59,10 +55,10 @@ close_accepted l ook fsk = close_ways Is l ook fsk (λ b o. refl)
 
 answers : (l : Lane) (c : Call) → Answers l (answer_to l c)
 unfolding opened begun stepped closed
-answers l (opening p) = by_check l (open_refusal l p) (stay (idle_lane 1 p)) refl
-answers l (begin b ook fsk) = by_check l (begin_refusal l b (length ook) (length fsk)) (stay (lead_lane l b)) refl
-answers l (step s ook fsk) = by_check_with l (step_refusal l s (length ook) (length fsk)) (advance_of l s ook fsk) ook fsk (advance_accepted l s ook fsk)
-answers l (close ook fsk) = by_check_with l (close_refusal l (length ook) (length fsk)) (close_of l ook fsk) ook fsk (close_accepted l ook fsk)
+answers l (opening p) = by_check (λ (a : Answer). a) l (open_refusal l p) (stay (idle_lane 1 p)) refl refl (λ n. refl)
+answers l (begin b ook fsk) = by_check (λ (a : Answer). a) l (begin_refusal l b (length ook) (length fsk)) (stay (lead_lane l b)) refl refl (λ n. refl)
+answers l (step s ook fsk) = by_check (λ (r : Answer × List ℕ × List ℕ). r.0) l (step_refusal l s (length ook) (length fsk)) (advance_of l s ook fsk).0 (advance_accepted l s ook fsk) refl (λ n. refl)
+answers l (close ook fsk) = by_check (λ (r : Answer × List ℕ × List ℕ). r.0) l (close_refusal l (length ook) (length fsk)) (close_of l ook fsk).0 (close_accepted l ook fsk) refl (λ n. refl)
 
 -- ---- one call
 
@@ -72,7 +68,7 @@ in_both l c t = go (answer_to l c) (answers l c) t
   where
     go : (a : Answer) → Answers l a → accepted a ≡ true → (a.lane.serial ≡ l.serial + 1) × InBoth a.lane
     go a (raises b y e) t = subst (λ (x : Answer). (x.lane.serial ≡ l.serial + 1) × InBoth x.lane) (sym e) (refl, record { ook = refl; fsk = refl })
-    go a (refuses k e) t = let z : ◌≡◌ {A = Bool} true false = sym t ∙ ap accepted e in absurd (let y : ◌≡◌ {A = ℕ} 0 1 = cc in omega arith)
+    go a (refuses k e) t = clash (sym t ∙ ap accepted e)
 
 pub both_fetched : BothFetched
 both_fetched l c ook fsk t =

@@ -39,3 +39,8 @@ none_failed s l p n i f r e =
     let d = passed refusal.Index i _ m.1 in
     let g = passed refusal.Float f _ d.1 in
     record { settings_ok = a.0; lane_ok = b.0; phase_ok = c.0; serial_ok = m.0; index_ok = d.0; floats_ok = g.0; room_ok = (passed refusal.Room r _ g.1).0 }
+
+-- and a call that passes each of them is not refused
+pub none_refuses : first_failed true true true true true true true ≡ Ok tt
+unfolding first_failed
+none_refuses = refl

@@ -5,7 +5,7 @@ ghost use Rattle.std.specs.Prelude.{◌≡◌, ◌+◌, leb};
 ghost use Rattle.refusals.specs.Serial.{serial_ok, serial_left, serials_match};
 ghost use Rattle.refusals.specs.Domain.{within, between, settings_ok, unset_ok, factor_ok, envelope_ok, sample_ok, index_ok, room_ok};
 ghost use Rattle.refusals.specs.State.{flag, run_ok, env_ok, train_ok, pres_ok, runs_ok, committed_ok, frame_ok, out_ok, burst_ok, lead_ok, cand_ok};
-ghost use Rattle.refusals.specs.Order.{number_of, check, first_failed};
+ghost use Rattle.refusals.specs.Order.{number_of, check};
 
 use arith::C32;
 use burst::{Burst, Lead};
@@ -15,8 +15,8 @@ use presence::Pres;
 use run::Run;
 use shared::{Out, Settings};
 
-// Why a call is refused: document 01's numbers 1 to 8, and document 02's 12 and 13. 9 is of the host library alone, which gives it by number;
-// 10 and 11 are not in use.
+// Why a call is refused: document 01's numbers 1 to 8, and document 02's 12 and 13. 9 is of the host library alone, which gives it by
+// number; 10 and 11 are not in use.
 #[derive(Clone, Copy, PartialEq, Eq)]
 pub enum Refusal {
     // The command byte is none of the commands'.
@@ -55,7 +55,8 @@ fn within_range(lo: u32, hi: u32, n: u32) -> bool
     (lo..=hi).contains(&n)
 }
 
-// Two comparisons, of each float of a step: a range's `contains` goes by the floats' partial order, which has four outcomes.
+// Two comparisons, which the definition has too: tried, `(lo..=hi).contains(&x)` is not proved without an answer, since its contract
+// speaks of the order that compares two floats and no definition here does.
 fn between_floats(lo: f32, hi: f32, x: f32) -> bool
     ensures { result ≡ between lo hi x }
 {
@@ -80,7 +81,7 @@ pub fn settings_ok(p: Settings) -> bool
         & (p.carry <= 1)
 }
 
-// The settings of a lane that never had any.
+// The settings of a lane that never had any. Not `p == Settings::default()`, to which a -0 is 0.
 #[tactic(auto, unfolding(crate::specs::Domain::unset_ok))]
 pub fn unset_ok(p: Settings) -> bool
     ensures { result ≡ unset_ok p }
@@ -162,7 +163,7 @@ fn env_ok(v: Env) -> bool
 fn sum_within(a: u32, b: u32, max: u32) -> bool
     ensures { result ≡ leb (a + b) max }
 {
-    (a as u64) + (b as u64) <= (max as u64)
+    u64::from(a) + u64::from(b) <= u64::from(max)
 }
 
 fn train_ok(max: u32, t: Train) -> bool
@@ -246,31 +247,9 @@ pub fn cand_ok(phase: u32, min_steps: u32, f: Frame) -> bool
     (phase != 2) | (f.fsk_phase != 0) | (f.cand.fsk_cand < shared::fsk_min(min_steps))
 }
 
-// A check that fails refuses by k.
+// A check that fails refuses by k; one after another with `?`, the first that fails refuses.
 pub fn check(ok: bool, k: Refusal) -> Result<(), Refusal>
     ensures { result ≡ check k ok (Ok tt) }
 {
     if ok { Ok(()) } else { Err(k) }
-}
-
-// The first check that fails refuses.
-#[tactic(auto, unfolding(crate::specs::Order::first_failed))]
-pub fn first_failed(
-    settings: bool,
-    lane: bool,
-    phase: bool,
-    serial: bool,
-    index: bool,
-    floats: bool,
-    room: bool,
-) -> Result<(), Refusal>
-    ensures { result ≡ first_failed settings lane phase serial index floats room }
-{
-    check(settings, Refusal::Settings)?;
-    check(lane, Refusal::Lane)?;
-    check(phase, Refusal::Phase)?;
-    check(serial, Refusal::Serial)?;
-    check(index, Refusal::Index)?;
-    check(floats, Refusal::Float)?;
-    check(room, Refusal::Room)
 }

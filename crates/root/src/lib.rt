@@ -6,24 +6,14 @@ ghost use Rattle.std.specs.Float.Ieee.Positive.{positive};
 ghost use Rattle.root.specs.Root.{special_of, scaled, InRange, IsRoot, exact_of, round_exact_of, sqrt_of};
 
 // The first step: what is answered with no root taken, if anything is. A NaN (IEEE 754-2019, 6.2), a zero with its sign (6.3) and plus
-// infinity (6.1) are their own roots, and for what is below zero the operation is invalid: a NaN (7.2). With these tests joined by `||` a root takes
-// a tenth more instructions.
+// infinity (6.1) are their own roots, and for what is below zero the operation is invalid: a NaN (7.2).
 fn special(x: f32) -> Option<f32>
     ensures { result ≡ special_of x }
 {
-    if x.is_nan() {
+    if x.is_nan() || x == 0.0 || x == f32::INFINITY {
         return Some(x);
     }
-    if x == 0.0 {
-        return Some(x);
-    }
-    if x == f32::INFINITY {
-        return Some(x);
-    }
-    if x < 0.0 {
-        return Some(f32::NAN);
-    }
-    None
+    (x < 0.0).then_some(f32::NAN)
 }
 
 // The exact root of a positive number: its 25 digits, whether it has more, and the power.
@@ -41,7 +31,7 @@ fn whole_root(n: u64) -> u64
     ensures { IsRoot n result }
 {
     let d = table::first_digits(n / 0x100_0000_0000) as u32 + 1;
-    let g = (d * 0x1_0000 + (n / 0x4_0000) as u32 / d) as u64;
+    let g = u64::from(d * 0x1_0000 + (n / 0x4_0000) as u32 / d);
     let h = (g + n / g) / 2;
     if n < h * h { h - 1 } else { h }
 }
@@ -53,7 +43,7 @@ fn exact_of(a: u32, k: u32) -> Exact
 {
     let s = 32 - a.leading_zeros();
     let p = (s + k + 1) / 2;
-    let n = (a as u64) << (50 + k - (p + p));
+    let n = u64::from(a) << (50 + k - (p + p));
     let r = whole_root(n);
     Exact {
         root: r as u32,
@@ -91,7 +81,8 @@ fn round_exact(e: Exact) -> f32
     f32::from_bits(base + kept)
 }
 
-// The square root of x.
+// The square root of x. A `match` and no `unwrap_or_else`: that x is positive where nothing is answered, the closure would have to be told
+// in a clause of its own.
 pub fn sqrt(x: f32) -> f32
     ensures { result ≡ sqrt_of x }
 {

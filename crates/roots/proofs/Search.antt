@@ -1,34 +1,22 @@
--- The search for the rule's number, from k down: it passes over k where the square of k is above n, and ends where it is not.
-use mathlib.Core.Path.{◌≡◌, refl, ap}
-use mathlib.Core.Bool.{Bool, true, false, not}
-use Prim.Native.Nat.{ℕ, zero, suc, ◌-◌, ◌*◌, ◌≤◌, ◌<◌}
-use native.Mathlib.Nat.{not-le_of_lt, not-suc-le-zero}
+-- The first number whose next one has a square above n is the largest whose square is not.
+use mathlib.Core.Path.{◌≡◌, refl, subst}
+use Prim.Native.Nat.{ℕ, zero, suc, ◌+◌, ◌-◌, ◌*◌, ◌≤◌, ◌<◌}
+use native.Mathlib.Numerals.{add-one}
 use native.Mathlib.Omega.{arith}
-use lib.Dec.{T, leb, leb→le, nleb→lt}
-use Rattle.table.specs.Rule.{first_of, largest}
+use Rattle.std.specs.Prelude.{Option, Some, None, MatchOption}
+use Rattle.std.specs.Option.{unwrap_or}
+use Rattle.table.specs.Rule.{IsLargest}
 
-pub largest_over : (k n : ℕ) → n < k * k → largest k n ≡ largest (k - 1) n
-unfolding largest
-largest_over zero n h = refl
-largest_over (suc k) n h = go (leb (suc k * suc k) n) (leb→le (suc k * suc k) n)
-  where
-    before : k ≡ suc k - 1
-    before = omega arith
+below : (n r : ℕ) → ((k : ℕ) → k < r → (k + 1) * (k + 1) ≤ n) → r * r ≤ n
+below n zero h = omega arith
+below n (suc k) h = subst (λ (x : ℕ). x * x ≤ n) (add-one k) (h k (omega arith))
 
-    go : (b : Bool) → (T b → suc k * suc k ≤ n) → first_of b (suc k) (largest k n) ≡ largest (suc k - 1) n
-    go true y = absurd (not-le_of_lt h (y tt))
-    go false y = ap (λ (x : ℕ). largest x n) before
+pub first_over : (n : ℕ) (r : Option ℕ) → n < 256 * 256
+    → MatchOption r ((k : ℕ) → 0 ≤ k → k < 255 → (k + 1) * (k + 1) ≤ n) (λ i. (0 ≤ i) × (i < 255) × (n < (i + 1) * (i + 1)) × ((k : ℕ) → 0 ≤ k → k < i → (k + 1) * (k + 1) ≤ n)) → IsLargest n (unwrap_or r 255)
+first_over n None l h = (below n 255 (λ k u. h k (omega arith) u), l)
+first_over n (Some i) l h = (below n i (λ k u. h.3 k (omega arith) u), h.2)
 
-pub largest_found : (k n : ℕ) → k * k ≤ n → largest k n ≡ k
-unfolding largest
-largest_found zero n h = refl
-largest_found (suc k) n h = go (leb (suc k * suc k) n) (nleb→lt (suc k * suc k) n)
-  where
-    go : (b : Bool) → (T (not b) → n < suc k * suc k) → first_of b (suc k) (largest k n) ≡ suc k
-    go true y = refl
-    go false y = absurd (not-le_of_lt (y tt) h)
-
--- there is such a k where some square is above n
+-- a number whose square is above another is above 0
 pub over_zero : (k n : ℕ) → n < k * k → 0 < k
-over_zero zero n h = absurd (not-suc-le-zero h)
+over_zero zero n h = omega (arith, h)
 over_zero (suc k) n h = omega arith

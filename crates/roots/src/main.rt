@@ -13,17 +13,15 @@ use lines::Text;
 use std::io::Write;
 use std::process::ExitCode;
 
-// The number of i, looked for from 255 down.
+// 768 lines of at most 21 bytes.
+const ROOM: usize = 768 * 21;
+
+// The number of i: the first whose next one has a square above 64 * i.
 fn rule(i: u64) -> u64
     requires { i < 1024 }
     ensures { result ≡ rule_of i }
 {
-    for r in (1..256).rev() {
-        if r * r <= 64 * i {
-            return r;
-        }
-    }
-    0
+    (0..255).find(|r| (r + 1) * (r + 1) > 64 * i).unwrap_or(255)
 }
 
 fn put_line(n: u64, text: &mut Text)
@@ -46,23 +44,16 @@ fn put_lines(text: &mut [u8]) -> usize
     t.at
 }
 
-fn print<W: Write>(to: &mut W, text: &mut [u8]) -> Result<(), Failed>
-    requires { text_room ≤ length text.old }
+fn run<W: Write>(to: &mut W, text: &mut [u8; ROOM]) -> Result<(), Failed>
     ensures { Gave (W.contents to.old) (W.contents to.new) printed (is_ok result) }
 {
     let at = put_lines(text);
     input::put(to, &text[..at])
 }
 
-fn run<W: Write>(to: &mut W, text: &mut [u8; 16128]) -> Result<(), Failed>
-    ensures { Gave (W.contents to.old) (W.contents to.new) printed (is_ok result) }
-{
-    print(to, text)
-}
-
 // A run that fails ends with a status that is not zero.
 fn main(rt: HostRuntime) -> ExitCode {
-    let mut text = [0u8; 16128];
+    let mut text = [0u8; ROOM];
     let mut to = rt.stdout();
     let done = run(&mut to, &mut text);
     let mut err = rt.stderr();

@@ -1,10 +1,10 @@
 -- Laws of the definitions in specs/Limits: the run machine leads from a run within its limits to another.
 use Prim.Native.Nat.{ℕ, ◌≤◌}
-use mathlib.Core.Bool.{Bool}
 use native.Mathlib.Omega.{arith}
 use lib.Ieee.{Float}
-use Rattle.shared.proofs.Cases.{either}
 use Rattle.run.specs.declared.Run.{Run}
+use Rattle.run.specs.declared.Move.{Move}
+use Rattle.run.specs.declared.Move.TheVariants.{Same, Glitch, Begins}
 use Rattle.run.specs.Run.{with_confirmed, lengthen_of, rejoin_of, begin_run_of, moved_of, start_run_of}
 use Rattle.run.specs.Limits.{RunWithin}
 
@@ -20,10 +20,10 @@ pub begin_run_within : (r : Run) (level : ℕ) (tc : Float) → level ≤ 1 → 
 unfolding begin_run_of
 begin_run_within r level tc flag = omega arith
 
-pub moved_within : (same short : Bool) (r : Run) (level : ℕ) (tc : Float) → level ≤ 1 → RunWithin r → RunWithin (moved_of same short r level tc)
-unfolding moved_of
-moved_within same short r level tc flag h =
-    either RunWithin same (lengthen_within r h) (either RunWithin short (rejoin_within r level flag) (begin_run_within r level tc flag))
+pub moved_within : (m : Move) (r : Run) (level : ℕ) (tc : Float) → level ≤ 1 → RunWithin r → RunWithin (moved_of m r level tc)
+moved_within Same r level tc flag h = lengthen_within r h
+moved_within Glitch r level tc flag h = rejoin_within r level flag
+moved_within Begins r level tc flag h = begin_run_within r level tc flag
 
 pub sure_within : (r : Run) → RunWithin r → RunWithin (with_confirmed 1 r)
 sure_within r h = omega arith

@@ -1,10 +1,12 @@
 -- The run machine (source document 000): what `sample`, `presence` and `fsk_run_step` do to a run with each sample, once for all three.
-use Rattle.std.specs.Prelude.{ℕ, Bool, false, cond, not, leb, eqb, Float}
+use Rattle.std.specs.Prelude.{ℕ, Bool, true, false, cond, leb, eqb, Float}
 use Rattle.std.specs.Float.Ieee.{lt, le}
 use Rattle.arith.specs.Leaves.{edge_of, cross_of}
 use Rattle.shared.specs.Counts.{sat_add_of}
 use Rattle.run.specs.declared.Run.{Run}
 use Rattle.run.specs.declared.Crossing.{Crossing}
+use Rattle.run.specs.declared.Move.{Move}
+use Rattle.run.specs.declared.Move.TheVariants.{Same, Glitch, Begins}
 
 -- edge(idx, cross(..)): where a run that begins with this sample has its edge
 unfoldable pub edge_at : Crossing → Float
@@ -28,9 +30,19 @@ with_confirmed confirmed r = run_of r.level r.run_len confirmed r.prev_len r.t_r
 abbrev pub with_start : Float → Run → Run
 with_start t r = run_of r.level r.run_len r.confirmed r.prev_len t r.t_prev
 
--- the sample is of another level than the run (not same), and the run is no glitch (not short): a run begins
-unfoldable pub begins_of : Bool → Bool → Bool
-begins_of same short = cond same false (not short)
+-- what a sample does: it is of the run's level (same), or it is not and the run is too short to count (short), a glitch, or a run begins
+abbrev pub move_of : Bool → Bool → Move
+move_of same short = cond same Same (cond short Glitch Begins)
+
+-- what a sample of this level does to the run
+abbrev pub meets_of : Run → ℕ → Move
+meets_of r level = move_of (eqb level r.level) (eqb r.confirmed 0)
+
+-- a run begins with the sample
+abbrev pub begins_of : Move → Bool
+begins_of Same = false
+begins_of Glitch = false
+begins_of Begins = true
 
 -- one sample more
 unfoldable pub lengthen_of : Run → Run
@@ -45,12 +57,18 @@ unfoldable pub begin_run_of : Run → ℕ → Float → Run
 begin_run_of r level tc = run_of level 1 0 r.run_len tc r.t_run
 
 -- the run after a sample of this level
-unfoldable pub moved_of : Bool → Bool → Run → ℕ → Float → Run
-moved_of same short r level tc = cond same (lengthen_of r) (cond short (rejoin_of r level) (begin_run_of r level tc))
+abbrev pub moved_of : Move → Run → ℕ → Float → Run
+moved_of Same r level tc = lengthen_of r
+moved_of Glitch r level tc = rejoin_of r level
+moved_of Begins r level tc = begin_run_of r level tc
 
 -- `confirmed == 0 && run_len >= steps`: the run counts from this sample on
 unfoldable pub due_of : Run → ℕ → Bool
 due_of r steps = cond (eqb r.confirmed 0) (leb steps r.run_len) false
+
+-- the run counts, where that is due
+abbrev pub confirm_if_of : Bool → Run → Run
+confirm_if_of due r = cond due (with_confirmed 1 r) r
 
 -- a low run at the time t, confirmed, of no samples
 unfoldable pub start_run_of : Float → Run

@@ -3,12 +3,12 @@
 #![tactic(auto)]
 
 ghost use Rattle.std.specs.Prelude.{◌≡◌};
-ghost use Rattle.run.specs.Run.{edge_at, is_high_of, begins_of, lengthen_of, rejoin_of, begin_run_of, due_of, start_run_of};
+ghost use Rattle.run.specs.Run.{edge_at, is_high_of, meets_of, begins_of, lengthen_of, rejoin_of, begin_run_of, moved_of, due_of, confirm_if_of, start_run_of};
 
-// A run under way (flags are numbers, as in shared::Settings), with what a glitch needs to go back to the run before. The Rust has these six for each of the three, as
-// level, run_len, confirmed, prev_len, t_run, t_prev (envelope), p_level, p_run, p_confirmed, p_prev, p_t_run, p_t_prev (presence) and
-// fsk_level, fsk_run, fsk_confirmed, fsk_prev, ft_run, ft_prev (frequency).
-#[derive(Clone, Copy)]
+// A run under way (flags are numbers, as in shared::Settings), with what a glitch needs to go back to the run before. The Rust has these six
+// for each of the three, as level, run_len, confirmed, prev_len, t_run, t_prev (envelope), p_level, p_run, p_confirmed, p_prev, p_t_run,
+// p_t_prev (presence) and fsk_level, fsk_run, fsk_confirmed, fsk_prev, ft_run, ft_prev (frequency).
+#[derive(Clone, Copy, Default)]
 pub struct Run {
     // 1 where the run is high, 0 where it is low.
     pub level: u32,
@@ -41,14 +41,22 @@ impl Crossing {
     }
 }
 
-// A sample is of the run's level (same), or it ends a run that is too short to count (short), or a run begins with it. Whoever moves
-// a run decides this once for a sample and hands the two flags on to all that moves with it; as an enum they take 4 to 6 % more
-// instructions (docs/SPEED.md).
-#[tactic(auto, unfolding(crate::specs::Run::begins_of))]
-pub fn begins(same: bool, short: bool) -> bool
-    ensures { result ≡ begins_of same short }
-{
-    !same && !short
+// What a sample does to a run: it is of the run's level, or it ends a run that is too short to count, a glitch, or a run begins with it.
+// Whoever moves a run decides this once for a sample and hands it on to all that moves with it.
+#[derive(Clone, Copy)]
+pub enum Move {
+    Same,
+    Glitch,
+    Begins,
+}
+
+impl Move {
+    #[inline(always)]
+    pub fn begins(self) -> bool
+        ensures { result ≡ begins_of self }
+    {
+        matches!(self, Move::Begins)
+    }
 }
 
 // The level of a sample: high above the threshold, and at it too where the run is high (up), so that noise there makes no runs.
@@ -60,6 +68,20 @@ pub fn is_high(up: bool, x: f32, thr: f32) -> bool
 }
 
 impl Run {
+    // What a sample of this level, 0 or 1, does to the run. A number: as a bool a call of each stream takes 3 to 4 % more instructions.
+    #[inline(always)]
+    pub fn meets(self, level: u32) -> Move
+        ensures { result ≡ meets_of self level }
+    {
+        if level == self.level {
+            Move::Same
+        } else if self.confirmed == 0 {
+            Move::Glitch
+        } else {
+            Move::Begins
+        }
+    }
+
     // One sample more.
     #[tactic(auto, unfolding(crate::specs::Run::lengthen_of, shared::specs::Counts::sat_add_of))]
     pub fn lengthen(self) -> Run
@@ -100,12 +122,37 @@ impl Run {
         }
     }
 
+    // The run after a sample of this level.
+    pub fn moved(self, m: Move, level: u32, c: Crossing) -> Run
+        ensures { result ≡ moved_of m self level (edge_at c) }
+    {
+        match m {
+            Move::Same => self.lengthen(),
+            Move::Glitch => self.rejoin(level),
+            Move::Begins => self.begin_run(level, c.edge_at()),
+        }
+    }
+
     // Whether the run counts from this sample on.
     #[tactic(auto, unfolding(crate::specs::Run::due_of))]
     pub fn due(self, steps: u32) -> bool
         ensures { result ≡ due_of self steps }
     {
         self.confirmed == 0 && self.run_len >= steps
+    }
+
+    // The run counts, where that is due.
+    pub fn confirm_if(self, due: bool) -> Run
+        ensures { result ≡ confirm_if_of due self }
+    {
+        if due {
+            Run {
+                confirmed: 1,
+                ..self
+            }
+        } else {
+            self
+        }
     }
 
     // Low and without a sample, at the time t: it counts, so that the first high sample begins a run.

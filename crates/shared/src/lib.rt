@@ -1,9 +1,10 @@
 // What the whole lane shares: settings, answers and records, each by value.
 #![tactic(auto)]
 
-ghost use Rattle.std.specs.Prelude.{◌≡◌, ◌+◌, ◌-◌, ◌<◌, slice_set};
+ghost use Rattle.std.specs.Prelude.{◌≡◌, slice_set};
+ghost use Rattle.ieee.specs.Constants.{zero32};
 ghost use Rattle.shared.specs.Answers.{next_number_of, next_envelope_of, is_stay_of, carrier_kind_of, carrier_first_of, carrier_second_of};
-ghost use Rattle.shared.specs.Core.{carrier_in, whole_out, numbered};
+ghost use Rattle.shared.specs.Core.{whole_out, numbered};
 ghost use Rattle.shared.specs.declared.Carrier.TheVariants as Carrier;
 ghost use Rattle.shared.specs.Params.{fsk_min_of, refine_at_of};
 
@@ -11,7 +12,7 @@ ghost use Rattle.shared.specs.Params.{fsk_min_of, refine_at_of};
 
 // mode: 0 OOK, 1 FSK, 2 Auto. carry: 1 where widths are taken by boundaries. Numbers, here and in the structs of a lane: what a caller
 // hands in may hold any number, and refusal 3 or 4 names one that is none of these; a bool or an enum would ask more of the caller.
-#[derive(Clone, Copy)]
+#[derive(Clone, Copy, Default)]
 pub struct Settings {
     pub mode: u32,
     pub min_steps: u32,
@@ -43,7 +44,7 @@ pub enum Carrier {
 
 // The record of a train or a frame; state is 1 where it decides one, cut is 0 or 1, fsk is its kind. The serial
 // is that of the call that returned it; 0, in a record of no call, matches no lane.
-#[derive(Clone, Copy)]
+#[derive(Clone, Copy, Default)]
 pub struct Out {
     pub index: u64,
     pub end: u64,
@@ -56,17 +57,10 @@ pub struct Out {
     pub serial: u64,
 }
 
-// The same in the core: the carrier as a number and two floats, which fit between the numbers around them (`carrier_in`); an enum there
-// takes 3 to 7 % more instructions (docs/SPEED.md). `OutCore` is a struct of its own: it differs from `Out` in two fields, and a serial beside a
-// generic record would put one struct more between a reader and each field.
-#[derive(Clone, Copy)]
-pub struct Flat {
-    pub kind: u32,
-    pub first: f32,
-    pub second: f32,
-}
-
-#[derive(Clone, Copy)]
+// The same in the core, where nothing has a serial yet: numbers as in Settings, and for its reason. A struct of its own: as one struct over
+// the type of the serial, `()` here, each record made in the core would state a field that it has not; `whole_out` and `core_out` are the
+// price, nine fields one by one.
+#[derive(Clone, Copy, Default)]
 pub struct OutCore {
     pub index: u64,
     pub end: u64,
@@ -75,12 +69,13 @@ pub struct OutCore {
     pub pairs: u32,
     pub level: f32,
     pub fsk: u32,
-    pub carrier: Flat,
+    pub carrier: Carrier,
 }
 
 // ---- the pulse buffers
 
-// A slot past the end is not written. An index test: of a slice whose `get_mut` gave None nothing is known, not even that it stays.
+// A slot past the end is not written. An index test: of a slice whose `get_mut` gave None nothing is known, not even that the slice is
+// unchanged.
 pub fn put(pairs: &mut [u32], i: usize, v: u32)
     ensures { pairs.new ≡ slice_set pairs.old i v }
 {
@@ -92,6 +87,7 @@ pub fn put(pairs: &mut [u32], i: usize, v: u32)
 // ---- document 01's numbers of the two enums
 
 impl Next {
+    // 0, 1 or 2, as a caller in C reads what a call asks for.
     pub fn number(self) -> u32
         ensures { result ≡ next_number_of self }
     {
@@ -102,16 +98,17 @@ impl Next {
         }
     }
 
+    // The envelope to be idle at; 0 where none is asked for.
     pub fn envelope(self) -> f32
         ensures { result ≡ next_envelope_of self }
     {
         match self {
-            Next::Stay => 0.0,
-            Next::Idle => 0.0,
+            Next::Stay | Next::Idle => 0.0,
             Next::IdleAt(e) => e,
         }
     }
 
+    // Whether the burst goes on.
     pub fn is_stay(self) -> bool
         ensures { result ≡ is_stay_of self }
     {
@@ -119,7 +116,16 @@ impl Next {
     }
 }
 
+impl Default for Carrier {
+    ghost is_default = { λ c. c ≡ Carrier.Angle zero32 };
+
+    fn default() -> Carrier {
+        Carrier::Angle(0.0)
+    }
+}
+
 impl Carrier {
+    // 1 for an angle, 0 for the two sums.
     pub fn kind(self) -> u32
         ensures { result ≡ carrier_kind_of self }
     {
@@ -129,6 +135,7 @@ impl Carrier {
         }
     }
 
+    // The angle, or the real sum.
     pub fn first(self) -> f32
         ensures { result ≡ carrier_first_of self }
     {
@@ -138,6 +145,7 @@ impl Carrier {
         }
     }
 
+    // 0 beside an angle, or the imaginary sum.
     pub fn second(self) -> f32
         ensures { result ≡ carrier_second_of self }
     {
@@ -148,61 +156,10 @@ impl Carrier {
     }
 }
 
-// ---- a carrier in the core, and a record
-
-impl Flat {
-    #[tactic(auto, unfolding(crate::specs::Core::carrier_in))]
-    pub fn angle(x: f32) -> Flat
-        ensures { carrier_in result ≡ Carrier.Angle x }
-    {
-        Flat {
-            kind: 1,
-            first: x,
-            second: 0.0,
-        }
-    }
-
-    #[tactic(auto, unfolding(crate::specs::Core::carrier_in))]
-    pub fn vector(re: f32, im: f32) -> Flat
-        ensures { carrier_in result ≡ Carrier.Vector re im }
-    {
-        Flat {
-            kind: 0,
-            first: re,
-            second: im,
-        }
-    }
-}
-
-impl From<Carrier> for Flat {
-    ghost from_gives = { λ c f. carrier_in f ≡ c };
-
-    fn from(c: Carrier) -> Flat {
-        match c {
-            Carrier::Angle(x) => Flat::angle(x),
-            Carrier::Vector(re, im) => Flat::vector(re, im),
-        }
-    }
-}
-
-impl From<Flat> for Carrier {
-    ghost from_gives = { λ f c. c ≡ carrier_in f };
-
-    #[tactic(auto, unfolding(crate::specs::Core::carrier_in))]
-    fn from(f: Flat) -> Carrier {
-        if f.kind == 1 {
-            Carrier::Angle(f.first)
-        } else {
-            Carrier::Vector(f.first, f.second)
-        }
-    }
-}
-
-// The record of a caller, made from that of the core and its serial, and back.
+// The record of a caller, made from that of the core and its serial. No `From`, here and on the way back: one way takes a serial.
 pub fn whole_out(o: OutCore, serial: u64) -> Out
     ensures { result ≡ numbered serial (whole_out o) }
 {
-    let carrier = Carrier::from(o.carrier);
     Out {
         index: o.index,
         end: o.end,
@@ -211,15 +168,15 @@ pub fn whole_out(o: OutCore, serial: u64) -> Out
         pairs: o.pairs,
         level: o.level,
         fsk: o.fsk,
-        carrier,
+        carrier: o.carrier,
         serial,
     }
 }
 
+// The record without its serial.
 pub fn core_out(o: Out) -> OutCore
     ensures { numbered o.serial (whole_out result) ≡ o }
 {
-    let carrier = Flat::from(o.carrier);
     OutCore {
         index: o.index,
         end: o.end,
@@ -228,25 +185,26 @@ pub fn core_out(o: Out) -> OutCore
         pairs: o.pairs,
         level: o.level,
         fsk: o.fsk,
-        carrier,
+        carrier: o.carrier,
     }
 }
 
 // ---- what follows min_steps
 
-// Tests with early returns: as `(min_steps / 2).max(2).min(8)` a call of the OOK stream takes 3.4 % more instructions.
+// Tests: as `(min_steps / 2).clamp(2, 8)` a call of the FSK stream takes 1.1 % more instructions.
 pub fn fsk_min(min_steps: u32) -> u32
     ensures { result ≡ fsk_min_of min_steps }
 {
     if min_steps < 4 {
-        return 2;
+        2
+    } else if min_steps < 16 {
+        min_steps / 2
+    } else {
+        8
     }
-    if 16 <= min_steps {
-        return 8;
-    }
-    min_steps / 2
 }
 
+// The samples after which an edge is refined: min_steps, and no more than the ring of 32 holds beside the samples before the edge.
 pub fn refine_at(min_steps: u32) -> u32
     ensures { result ≡ refine_at_of min_steps }
 {

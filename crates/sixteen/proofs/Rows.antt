@@ -6,7 +6,7 @@ use mathlib.Core.List.{List, [], ◌∷◌}
 use native.Mathlib.Omega.{arith}
 use native.Mathlib.Nat.{not-suc-le-zero, le_of_suc-le-suc}
 use lib.ListN.{length, set, get_or, length-set, replicate}
-use lib.Seq.{get_or-set_same, set-get_or, set-set}
+use lib.Seq.{get_or-set_same, set-set}
 use lib.Dec.{ltb}
 use borrow.Author.Tests.{ltb-true}
 use Rattle.lane.specs.declared.Lane.{Lane}
@@ -25,9 +25,6 @@ row_in i = go (ltb i antennas) refl
     go : (b : Bool) → ltb i antennas ≡ b → cond b i 0 < antennas
     go true q = ltb-true i antennas q
     go false q = omega arith
-
-pub put_own : (all : Lanes) (i : ℕ) → put_at all i (lane_at all i) ≡ all
-put_own all i = simp (set-get_or all.0 i new_lane, set-get_or all.1 i [], set-get_or all.2 i [])
 
 pub put_again : (all : Lanes) (i : ℕ) (q r : State) → put_at (put_at all i q) i r ≡ put_at all i r
 put_again all i q r = simp (set-set all.0 i q.0 r.0, set-set all.1 i q.1 r.1, set-set all.2 i q.2 r.2)

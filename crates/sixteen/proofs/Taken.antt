@@ -7,10 +7,10 @@ use mathlib.Core.List.{List, []}
 use native.Mathlib.Omega.{arith}
 use lib.ListN.{length, take, drop, length-drop}
 use lib.Dec.{eqb, ltb, leb}
-use borrow.Author.Tests.{ltb-true, ltb-false, not-true}
+use borrow.Author.Tests.{ltb-true, ltb-false, not-true, eqb-true, eq-eqb}
 use Rattle.shared.proofs.Tests.{both_true, clash}
 use Rattle.lane.specs.declared.Lane.{Lane}
-use Rattle.std.specs.Prelude.{Result, Ok, Err}
+use Rattle.std.specs.Prelude.{Result, Ok, Err, Option, Some, None}
 use Rattle.shared.specs.declared.Next.{Next}
 use Rattle.shared.specs.declared.Next.TheVariants.{Stay, Idle, IdleAt}
 use Rattle.refusals.specs.declared.Refusal.{Refusal}
@@ -20,9 +20,11 @@ use Rattle.lane.specs.Answers.{Reply, answer_of}
 use Rattle.lane.specs.Step.{refuse}
 use Rattle.reached.specs.Reached.{Sound}
 use Rattle.commands.specs.declared.Command.{Command}
-use Rattle.commands.specs.declared.Command.TheVariants.{End, Open, Begin, Step, Unknown, Short, Close}
-use Rattle.commands.specs.Command.{is_step_of}
-use Rattle.commands.proofs.Stream.{a_step}
+use Rattle.commands.specs.declared.Command.TheVariants.{Step}
+use Rattle.commands.specs.declared.Missing.{Missing}
+use Rattle.commands.specs.declared.Missing.TheVariants as missing
+use Rattle.commands.specs.Command.{Found, step_of, is_step_of}
+use Rattle.commands.proofs.Stream.{step_given, a_step}
 use Rattle.lines.specs.Line.{call_text, record_line, train_room, has_room, put, Put}
 use Rattle.lines.proofs.Room.{room_there}
 use Rattle.lines.proofs.Writers as lines
@@ -31,9 +33,9 @@ use Rattle.lines.specs.Text.{Puts}
 use Rattle.calls.specs.Turn.{State, Called, unchanged, called, next, shown_of, by_number, waits, most_of}
 use Rattle.calls.specs.Turn.{Shown}
 use Rattle.calls.proofs.Laws.{shown_most, too_few_left}
-use Rattle.calls.specs.Steps.{quiet_of}
-use Rattle.calls.proofs.Orderly.{step_whole}
-use Rattle.calls.proofs.Silent.{Quiet, Kept, kept_room, Steps, none, some, steps_sound, core_step, gave}
+use Rattle.calls.specs.Steps.{quiet_of, Quiet, Stepped, Went}
+use Rattle.calls.specs.Orderly.{step_whole}
+use Rattle.calls.proofs.Silent.{Kept, kept_room, Steps, none, some, steps_sound, went_all}
 use Rattle.addressed.specs.Addressed.{addressed_of, antenna_of, addressed_size}
 use Rattle.addressed.proofs.Laws.{size_fits, step_there}
 use Rattle.tagged.specs.Tagged.{tagged, tagged_text, tagged_room}
@@ -44,14 +46,14 @@ use Rattle.stream.specs.Blocks.{Seen, Passed}
 use Rattle.stream.proofs.Taken.{stored, passed_one, passed_then}
 use Rattle.sixteen.specs.declared.Asked.{Asked}
 use Rattle.calls.specs.declared.Past.{Past}
-use Rattle.calls.specs.declared.Turned.{Turned}
-use Rattle.sixteen.specs.Sixteen.{heard_text, is_heard_of, none_text, spoken_text, row_of, machine}
+use Rattle.stream.specs.declared.Turned.{Turned}
+use Rattle.sixteen.specs.Sixteen.{heard_text, none_text, spoken_text, row_of, machine}
 use Rattle.sixteen.specs.Spoken.{Among, one_of, Heard, spoken_room, has_tagged_room, Told}
-use Rattle.sixteen.proofs.Rows.{put_own, put_again, among_after}
-use Rattle.sixteen.proofs.Orderly.{orderly, whole_settled}
+use Rattle.sixteen.proofs.Rows.{put_again, among_after}
+use Rattle.sixteen.specs.Orderly.{put_own, orderly, whole_settled}
 
-abbrev pub past_of : Lane → ℕ → Reply → Past
-past_of l used r = record { lane = l; used = used; reply = r }
+abbrev pub past_of : ℕ → Reply → Past
+past_of used r = record { used = used; reply = r }
 
 -- ---- the answer to one command
 
@@ -63,25 +65,17 @@ refused_text : (i : ℕ) (n : Refusal) (p q : State) → heard_text i (unchanged
 unfolding heard_text tagged_text call_text
 refused_text i n p q = refl
 
-none_answers : (i : ℕ) (k : Command) (p q : State) → spoken_text i k (unchanged (no_antenna k) p) ≡ spoken_text i k (unchanged (no_antenna k) q)
-none_answers i End p q = refl
-none_answers i (Open s carries) p q = refused_text i refusal.Index p q
-none_answers i (Begin b) p q = refused_text i refusal.Index p q
-none_answers i (Step s) p q = refused_text i refusal.Index p q
-none_answers i Unknown p q = refl
-none_answers i Short p q = refl
-none_answers i Close p q = refused_text i refusal.Index p q
+none_answers : (i : ℕ) (k : Found) (p q : State) → spoken_text i k (unchanged (no_antenna k) p) ≡ spoken_text i k (unchanged (no_antenna k) q)
+none_answers i (Ok k) p q = refused_text i refusal.Index p q
+none_answers i (Err m) p q = refl
 
-none_shown : (k : Command) (p : State) (most : ℕ) → waits true k ≡ false → Shown (unchanged (no_antenna k) p) most
-none_shown End p most w = clash w
-none_shown (Open s carries) p most w = refused_shown refusal.Index p.0 p.1 p.2 most
-none_shown (Begin b) p most w = refused_shown refusal.Index p.0 p.1 p.2 most
-none_shown (Step s) p most w = refused_shown refusal.Index p.0 p.1 p.2 most
-none_shown Unknown p most w = refused_shown refusal.Unknown p.0 p.1 p.2 most
-none_shown Short p most w = refused_shown refusal.Short p.0 p.1 p.2 most
-none_shown Close p most w = refused_shown refusal.Index p.0 p.1 p.2 most
+none_shown : (k : Found) (p : State) (most : ℕ) → waits true k ≡ false → Shown (unchanged (no_antenna k) p) most
+none_shown (Ok k) p most w = refused_shown refusal.Index p.0 p.1 p.2 most
+none_shown (Err missing.End) p most w = clash w
+none_shown (Err missing.Unknown) p most w = refused_shown refusal.Unknown p.0 p.1 p.2 most
+none_shown (Err missing.Short) p most w = refused_shown refusal.Short p.0 p.1 p.2 most
 
-among_shown : (n : ℕ) (p : State) (k : Command) → waits true k ≡ false → length (called_among n p k).1 ≡ length p.1 → length (called_among n p k).2 ≡ length p.2 → Shown (called_among n p k) (most_of p)
+among_shown : (n : ℕ) (p : State) (k : Found) → waits true k ≡ false → length (called_among n p k).1 ≡ length p.1 → length (called_among n p k).2 ≡ length p.2 → Shown (called_among n p k) (most_of p)
 unfolding settled_of
 among_shown n p k w h g =
     let e = settled n p k in
@@ -96,7 +90,7 @@ module _ (a : Asked) (p : State) where
   abbrev i : ℕ
   i = a.antenna
 
-  abbrev k : Command
+  abbrev k : Found
   k = a.command
 
   abbrev here : Bool → Called
@@ -187,13 +181,13 @@ heard_one a p s from r q size inside sound is_k is_i ready is_size is_used is_c 
     is_w all A =
         ap (spoken_text a.antenna a.command) is_c ∙ one_text a p all A
         ∙ ap (λ (j : ℕ). spoken_text j a.command (answer_to all j a.command)) is_i
-        ∙ ap (λ (d : Command). spoken_text (antenna_of u) d (answer_to all (antenna_of u) d)) is_k
+        ∙ ap (λ (d : Found). spoken_text (antenna_of u) d (answer_to all (antenna_of u) d)) is_k
 
     is_q : (all : Lanes) → Among all a.antenna a.others p → put_at all (row_of a.antenna) q ≡ after_call all (antenna_of u) (addressed_of u)
     is_q all A =
         ap (λ (c : Called). put_at all (row_of a.antenna) (next c)) is_c ∙ one_after a p all A
         ∙ ap (λ (j : ℕ). after_call all j a.command) is_i
-        ∙ ap (λ (d : Command). after_call all (antenna_of u) d) is_k
+        ∙ ap (λ (d : Found). after_call all (antenna_of u) d) is_k
 
 -- ---- steps one after another
 
@@ -209,51 +203,47 @@ silent i (Ok Stay) l ook fsk h =
 silent i (Ok Idle) l ook fsk h = clash (sym h)
 silent i (Ok (IdleAt e)) l ook fsk h = clash (sym h)
 
-step_heard : (k : Command) → is_step_of k ≡ true → is_heard_of k ≡ true
-step_heard k h = ap is_heard_of (a_step k h).is
-
-step_text : (i : ℕ) (k : Command) (c : Called) → is_step_of k ≡ true → spoken_text i k c ≡ heard_text i c
-step_text i k c h = simp (step_heard k h)
+step_text : (i : ℕ) (k : Found) (c : Called) → is_step_of k ≡ true → spoken_text i k c ≡ heard_text i c
+step_text i k c h = ap (λ (d : Found). spoken_text i d c) (a_step k h).is
 
 -- the steps so far, from p on
 abbrev pub StepsHeard : Asked → State → List ℕ → ℕ → ℕ → Reply → State → Type 0
-StepsHeard a p s from used r q = Steps (λ (u : ℕ) (z : Reply) (n : State). Heard a p s from (past_of n.0 u z) n) p from used r q
+StepsHeard a p s from used r q = Steps (λ (u : ℕ) (z : Reply) (n : State). Heard a p s from (past_of u z) n) p from used r q
 
 -- the bytes of a step are there
-pub step_room : (s : List ℕ) (used : ℕ) (b : StepArgs) → Step b ≡ addressed_of (drop used s) → used + 26 ≤ length s
+pub step_room : (s : List ℕ) (used : ℕ) (b : StepArgs) → Ok (Step b) ≡ addressed_of (drop used s) → used + 26 ≤ length s
 step_room s used b e = omega (arith, step_there (drop used s) (ap is_step_of (sym e)), length-drop used s)
 
 module _ (a : Asked) (p : State) (s : List ℕ) (from used : ℕ) (r : Reply) (q : State) (b : StepArgs) (end : ℕ) (z : Reply) (n : State)
     (here : ltb a.antenna antennas ≡ true) (steps : is_step_of a.command ≡ true) (sound : Sound p.0) (so : StepsHeard a p s from used r q)
-    (inside : used < length s) (is_b : Step b ≡ addressed_of (drop used s)) (is_i : a.antenna ≡ antenna_of (drop used s)) (is_end : end ≡ used + 26)
-    (gives : (answer_of z n.0, n.1, n.2) ≡ core_step q.0 b q.1 q.2) (is_ook : length n.1 ≡ length q.1) (is_fsk : length n.2 ≡ length q.2) where
+    (inside : used < length s) (is_b : Ok (Step b) ≡ addressed_of (drop used s)) (is_i : a.antenna ≡ antenna_of (drop used s)) (is_end : end ≡ used + 26) (step : Stepped q b z n) where
   abbrev asked : Asked
-  asked = record { lane = q.0; others = a.others; antenna = a.antenna; command = Step b }
+  asked = record { others = a.others; antenna = a.antenna; command = Ok (Step b) }
 
-  lone : called q (Step b) ≡ one_of asked q
+  lone : called q (Ok (Step b)) ≡ one_of asked q
   unfolding one_of called_among
   lone = simp here
 
-  one : Heard asked q s used (past_of n.0 end z) n
-  one = heard_one asked q s used (past_of n.0 end z) n 26 (omega arith) (steps_sound sound so) is_b is_i refl refl is_end (gave b end z n sound so gives is_ook is_fsk ∙ lone) is_ook is_fsk
+  one : Heard asked q s used (past_of end z) n
+  one = heard_one asked q s used (past_of end z) n 26 (omega arith) (steps_sound sound so) is_b is_i refl refl is_end (step.gave ∙ lone) step.ook step.fsk
 
   sees : (t : List ℕ) → Seen machine s used t
   sees t = whole_settled (drop used s) t (step_whole (addressed_of (drop used s)) (ap is_step_of (sym is_b)))
 
   -- its lines are those of the first command, which is a step too
-  same_lines : (c : Called) → spoken_text a.antenna (Step b) c ≡ spoken_text a.antenna a.command c
+  same_lines : (c : Called) → spoken_text a.antenna (Ok (Step b)) c ≡ spoken_text a.antenna a.command c
   same_lines c = sym (step_text a.antenna a.command c steps)
 
   -- one step more
-  pub step_on : Heard a p s from (past_of n.0 end z) n
+  step_on : Heard a p s from (past_of end z) n
   step_on = go so
     where
       c : Called
       c = (answer_of z n.0, n.1, n.2)
 
-      first : used ≡ from → q ≡ p → Heard a p s from (past_of n.0 end z) n
+      first : used ≡ from → q ≡ p → Heard a p s from (past_of end z) n
       first e d =
-          let f : Heard asked p s from (past_of n.0 end z) n = subst (λ (o : State). Heard asked o s from (past_of n.0 end z) n) d (subst (λ (m : ℕ). Heard asked q s m (past_of n.0 end z) n) e one) in
+          let f : Heard asked p s from (past_of end z) n = subst (λ (o : State). Heard asked o s from (past_of end z) n) d (subst (λ (m : ℕ). Heard asked q s m (past_of end z) n) e one) in
           record {
             onward = f.onward;
             inside = f.inside;
@@ -262,7 +252,7 @@ module _ (a : Asked) (p : State) (s : List ℕ) (from used : ℕ) (r : Reply) (q
             passes = λ all A. subst (λ (w : List ℕ). Passed machine all s from end w (put_at all (row_of a.antenna) n)) (same_lines c) (f.passes all A);
           }
 
-      further : from < used → Quiet r q → Kept p q → Heard a p s from (past_of q.0 used r) q → Heard a p s from (past_of n.0 end z) n
+      further : from < used → Quiet r q → Kept p q → Heard a p s from (past_of used r) q → Heard a p s from (past_of end z) n
       further up quiet keeps h =
           record {
             onward = omega (arith, is_end);
@@ -277,9 +267,37 @@ module _ (a : Asked) (p : State) (s : List ℕ) (from used : ℕ) (r : Reply) (q
                 (one.passes (put_at all (row_of a.antenna) q) (among_after all a.antenna a.others p q A))));
           }
 
-      go : StepsHeard a p s from used r q → Heard a p s from (past_of n.0 end z) n
+      go : StepsHeard a p s from used r q → Heard a p s from (past_of end z) n
       go (none e d) = first e d
       go (some up quiet keeps still h) = further up quiet keeps h
+
+-- what stands at a place for the antenna i
+abbrev pub For : ℕ → List ℕ → Option StepArgs
+For i u = cond (eqb (antenna_of u) i) (step_of (addressed_of u)) None
+
+-- a step of it
+pub step_here : (u : List ℕ) (i : ℕ) (b : StepArgs) → Some b ≡ For i u → (Ok (Step b) ≡ addressed_of u) × (i ≡ antenna_of u)
+step_here u i b h = go (eqb (antenna_of u) i) refl h
+  where
+    go : (e : Bool) → eqb (antenna_of u) i ≡ e → Some b ≡ cond e (step_of (addressed_of u)) None → (Ok (Step b) ≡ addressed_of u) × (i ≡ antenna_of u)
+    go true q g = (step_given (addressed_of u) b (sym g), sym (eqb-true (antenna_of u) i q))
+    go false q g = absurd (let z : ◌≡◌ {A = Option StepArgs} (Some b) None = g in cc)
+
+-- or none of it, where a step stands
+pub other_there : (u : List ℕ) (i : ℕ) → None ≡ For i u → is_step_of (addressed_of u) ≡ true → i ≡ antenna_of u → ⊥
+other_there u i h e own =
+    let b = a_step (addressed_of u) e in
+    let z : ◌≡◌ {A = Option StepArgs} None (Some b.args) = h ∙ simp (eq-eqb (antenna_of u) i (sym own)) (ap step_of b.is) in
+    absurd (cc)
+
+-- steps wherever one of the antenna stands
+pub steps_heard : {At : ℕ → StepArgs → Type 0} (a : Asked) (p : State) (s : List ℕ) (from used : ℕ) (r : Reply) (q : State) → ltb a.antenna antennas ≡ true → is_step_of a.command ≡ true → Sound p.0
+    → ((at : ℕ) (b : StepArgs) → At at b → Some b ≡ For a.antenna (drop at s)) → Went At 26 p from used r q → Heard a p s from (past_of used r) q
+steps_heard a p s from used r q here steps sound is went =
+    went_all (λ (u : ℕ) (z : Reply) (n : State). Heard a p s from (past_of u z) n) sound (omega arith)
+    (λ used r q b z n so at step.
+    let there = step_here (drop used s) a.antenna b (is used b at) in
+    step_on a p s from used r q b (used + 26) z n here steps sound so (omega (arith, step_room s used b there.0)) there.0 there.1 refl step) went
 
 -- ---- commands with their lines
 
@@ -301,14 +319,14 @@ heard_put i r z l ook fsk fs os x y is_z is_f is_o puts =
     (subst (λ (v : List ℕ). Puts (tagged_text i (by_number r) (record_line l.burst.out_fsk v) (record_line l.burst.out_ook os) l.last) (train_room (length v) + train_room (length os) + 48 + 63) x y) is_f
     (subst (λ (v : Result Next ℕ). Puts (tagged_text i v (record_line l.burst.out_fsk fs) (record_line l.burst.out_ook os) l.last) (train_room (length fs) + train_room (length os) + 48 + 63) x y) is_z puts)))
 
-pub none_spoken : (i : ℕ) (k : Command) (c : Called) → is_heard_of k ≡ false → none_text k ≡ spoken_text i k c
-none_spoken i k c h = simp h
+pub none_spoken : (i : ℕ) (k : Found) (m : Missing) (c : Called) → k ≡ Err m → none_text m ≡ spoken_text i k c
+none_spoken i k m c h = ap (λ (d : Found). spoken_text i d c) (sym h)
 
-pub heard_spoken : (i : ℕ) (k : Command) (c : Called) → is_heard_of k ≡ true → heard_text i c ≡ spoken_text i k c
-heard_spoken i k c h = simp h
+pub heard_spoken : (i : ℕ) (k : Found) (j : Command) (c : Called) → k ≡ Ok j → heard_text i c ≡ spoken_text i k c
+heard_spoken i k j c h = ap (λ (d : Found). spoken_text i d c) (sym h)
 
-pub quiet_spoken : (i : ℕ) (k : Command) (r : Reply) (l : Lane) (ook fsk : List ℕ) → is_heard_of k ≡ true → quiet_of r l.burst.out_fsk.state l.burst.out_ook.state ≡ true → [] ≡ spoken_text i k (answer_of r l, ook, fsk)
-quiet_spoken i k r l ook fsk h q = sym (silent i r l ook fsk q) ∙ heard_spoken i k (answer_of r l, ook, fsk) h
+pub quiet_spoken : (i : ℕ) (k : Found) (j : Command) (r : Reply) (l : Lane) (ook fsk : List ℕ) → k ≡ Ok j → quiet_of r l.burst.out_fsk.state l.burst.out_ook.state ≡ true → [] ≡ spoken_text i k (answer_of r l, ook, fsk)
+quiet_spoken i k j r l ook fsk h q = sym (silent i r l ook fsk q) ∙ heard_spoken i k j (answer_of r l, ook, fsk) h
 
 -- the room that a turn has is room for the lines of its call
 pub room_spoken : (n len at : ℕ) (r : Reply) (l : Lane) (ook fsk : List ℕ) → has_tagged_room n len at ≡ true → Shown (answer_of r l, ook, fsk) n → at + spoken_room r l ook fsk ≤ len

@@ -1,84 +1,149 @@
--- A turn of a block: the lane of the row is the one that is asked, and what is put back in its row is what the stream's command leads to.
-use Prim.Native.Nat.{ℕ, ◌+◌, ◌-◌, ◌<◌, ◌≤◌}
+-- A turn: the channel of the row holds the lane that is asked, and what is left in it is what the stream's command leads to.
+use Prim.Native.Nat.{ℕ, ◌+◌, ◌-◌, ◌<◌, ◌≤◌, ◌^◌}
 use mathlib.Core.Bool.{Bool, true, false}
 use mathlib.Core.Path.{◌≡◌, refl, sym, ◌∙◌, ap, subst}
-use mathlib.Core.List.{List, []}
+use mathlib.Core.List.{List, [], ◌∷◌}
 use native.Mathlib.Omega.{arith}
-use lib.ListN.{length, drop, set, get_or}
-use lib.Seq.{set-get_or}
+use lib.ListN.{length, drop, set, get_or, length-set}
+use Rattle.std.proofs.lemmas.List.{map-set, get_or-map, length-map}
+use Rattle.std.proofs.Common.{map}
+use Rattle.std.specs.List.{fold}
 use Rattle.lane.specs.declared.Lane.{Lane}
 use Rattle.lane.specs.Step.{new_lane}
+use Rattle.reached.specs.Reached.{Sound}
 use Rattle.calls.specs.Turn.{State, waits, most_of}
 use Rattle.addressed.specs.Addressed.{addressed_of, antenna_of}
 use Rattle.tagged.specs.Tagged.{tagged_room}
-use Rattle.among.specs.Among.{Lanes, lane_at, put_at, out_of, outs, others_out, Sized}
-use Rattle.among.proofs.Laws.{any_default}
-use Rattle.stream.specs.declared.Ran.{Ran}
-use Rattle.stream.specs.Blocks.{Passed, Streamed}
-use Rattle.stream.proofs.Running.{Running, full_there, goes_on, ends_there}
+use Rattle.among.specs.Among.{antennas, Lanes, lane_at, put_at, out_of, outs, others_out, Sized}
+use Rattle.among.proofs.Laws.{outs_take, outs_fit, outs_put, outs_most}
+use Rattle.stream.specs.declared.Stop.TheVariants.{Waiting, NoRoom}
+use Rattle.stream.specs.declared.Turned.{Turned}
+use Rattle.stream.specs.Blocks.{waiting, no_room, Passed, Turn, Stays}
 use Rattle.sixteen.specs.declared.Asked.{Asked}
-use Rattle.calls.specs.declared.Turned.{Turned}
+use Rattle.sixteen.specs.declared.Channel.{Channel}
+use Rattle.sixteen.specs.declared.Antennas.{Antennas}
 use Rattle.sixteen.specs.Sixteen.{row_of, machine}
-use Rattle.sixteen.specs.Spoken.{Among, Told, InRow, has_tagged_room, AllSound}
-use Rattle.sixteen.proofs.Rows.{row_in, sized_put, sound_set}
+use Rattle.sixteen.specs.Spoken.{Among, Told, has_tagged_room, AllSound, held, lanes_of, state_of, IsSound}
+use Rattle.sixteen.proofs.Rows.{row_in, sound_at, sound_set}
 use Rattle.sixteen.proofs.Taken.{no_room_left}
-use Rattle.sixteen.proofs.Orderly.{orderly}
 
--- the lane of the row, as the code has it, and the count kept beside the lanes
-pub asked_among : (all : Lanes) (i j : ℕ) (d : Lane) (w out : ℕ) → Sized all → j ≡ row_of i → w ≡ out_of (get_or all.0 j d) → out ≡ outs all.0
-    → Among all i (out - w) (get_or all.0 j d, get_or all.1 j [], get_or all.2 j [])
-asked_among all i j d w out s is_j is_w is_out =
-    let there : j < length all.0 = omega (arith, row_in i, is_j, s.lanes) in
-    let same : get_or all.0 j new_lane ≡ get_or all.0 j d = any_default all.0 j new_lane d there in
+-- ---- the channel of a row
+
+abbrev lane_in : Channel → Lane
+lane_in c = c.lane
+
+held_at : (cs : List Channel) (j : ℕ) (d : Channel) → j < length cs → lane_at (lanes_of cs) j ≡ held (get_or cs j d)
+held_at cs j d h =
+    simp (
+      get_or-map (λ (c : Channel). c.lane) cs j d new_lane h,
+      get_or-map (λ (c : Channel). c.ook) cs j d [] h,
+      get_or-map (λ (c : Channel). c.fsk) cs j d [] h,
+    )
+
+pub held_put : (cs : List Channel) (j : ℕ) (c : Channel) → lanes_of (set cs j c) ≡ put_at (lanes_of cs) j (held c)
+held_put cs j c =
+    simp (
+      map-set (λ (c : Channel). c.lane) cs j c,
+      map-set (λ (c : Channel). c.ook) cs j c,
+      map-set (λ (c : Channel). c.fsk) cs j c,
+    )
+
+pub sized_lanes : (cs : List Channel) → length cs ≡ antennas → Sized (lanes_of cs)
+sized_lanes cs h =
     record {
-      sized = s;
-      own = ap (lane_at all) (sym is_j) ∙ ap (λ (l : Lane). (l, get_or all.1 j [], get_or all.2 j [])) same;
-      count = ap (others_out all.0) (sym is_j) ∙ ap (λ (l : Lane). outs all.0 - out_of l) same ∙ ap (λ (n : ℕ). outs all.0 - n) (sym is_w) ∙ ap (λ (n : ℕ). n - w) (sym is_out);
+      lanes = length-map cs (λ (c : Channel). c.lane) ∙ h;
+      ooks = length-map cs (λ (c : Channel). c.ook) ∙ h;
+      fsks = length-map cs (λ (c : Channel). c.fsk) ∙ h;
     }
 
--- what a turn with room leaves: the block goes on, or it ends
-pub record Moved (p₀ : Lanes) (s : List ℕ) (last : Bool) (from : ℕ) (z : Turned) (q : Lanes) (y : List ℕ) : Type 0 where
-  pub on : (z.used ≡ from → ⊥) → Running machine p₀ s last z.used z.at q y
-  pub over : z.used ≡ from → {full : Bool} → full ≡ false → Streamed machine p₀ s last (record { used = from; at = z.at; ended = true; full = full }) q y
-  pub sized : Sized q
-  pub sound : AllSound q.0
+module _ (a : Antennas) (sound : IsSound a) (i j : ℕ) (is_j : j ≡ row_of i) (d : Channel) where
+  abbrev c : Channel
+  c = get_or a.channels j d
 
-module _ {a : Asked} {j : ℕ} (ls : List Lane) {ook fsk : List (List ℕ)} {s : List ℕ} {from at : ℕ} {x : List ℕ} {z : Turned} {ook' fsk' : List (List ℕ)} {y : List ℕ}
-    (row : InRow a j ook fsk s from at x z ook' fsk' y) (is_j : j ≡ row_of a.antenna) (among : Among (ls, ook, fsk) a.antenna a.others (a.lane, get_or ook j [], get_or fsk j []))
-    {p₀ : Lanes} {last : Bool} (h : Running machine p₀ s last from at (ls, ook, fsk) x) (ready : waits last (addressed_of (drop from s)) ≡ false) where
-  sized_after : Sized (set ls j z.lane, ook', fsk')
-  sized_after =
-      let n = sized_put (ls, ook, fsk) j (z.lane, row.ook_row, row.fsk_row) among.sized in
-      record { lanes = n.lanes; ooks = ap length row.ook_set ∙ n.ooks; fsks = ap length row.fsk_set ∙ n.fsks }
+  pub there : j < length a.channels
+  there = omega (arith, row_in i, is_j, sound.sized)
 
-  pub moved : length y ≡ length x → AllSound ls → Moved p₀ s last from z (set ls j z.lane, ook', fsk') y
-  moved same sound =
+  own_lane : get_or (state_of a).0 j new_lane ≡ c.lane
+  own_lane = get_or-map (λ (c : Channel). c.lane) a.channels j d new_lane there
+
+  pub sound_there : Sound c.lane
+  sound_there = subst Sound own_lane (sound_at (state_of a).0 j new_lane sound.lanes (omega (arith, there, length-map a.channels lane_in)))
+
+  -- and the count kept beside the lanes
+  module _ (w : ℕ) (is_w : w ≡ out_of c.lane) where
+    own_out : w ≡ out_of (get_or (state_of a).0 j new_lane)
+    own_out = is_w ∙ ap out_of (sym own_lane)
+
+    inside : j < length (state_of a).0
+    inside = omega (arith, there, length-map a.channels lane_in)
+
+    pub others_left : w ≤ a.out
+    others_left = outs_take (state_of a).0 j new_lane w a.out own_out sound.count inside
+
+    pub asked_among : Among (state_of a) i (a.out - w) (held c)
+    asked_among =
+        record {
+          sized = sized_lanes a.channels sound.sized;
+          own = ap (lane_at (state_of a)) (sym is_j) ∙ held_at a.channels j d there;
+          count = ap (others_out (state_of a).0) (sym is_j) ∙ ap (λ (n : ℕ). outs (state_of a).0 - n) (sym own_out) ∙ ap (λ (n : ℕ). n - w) (sym sound.count);
+        }
+
+    pub out_fits : (m : Lane) (o : ℕ) → o ≡ out_of m → a.out - w + o < 2 ^ 32
+    out_fits m o is_o = outs_fit (state_of a).0 m w a.out o is_o sound.count (length-map a.channels lane_in ∙ sound.sized)
+
+    pub sound_after : (n : Channel) (o : ℕ) → o ≡ out_of n.lane → Sound n.lane → IsSound (record { channels = set a.channels j n; out = a.out - w + o })
+    sound_after n o is_o h =
+        let e : map lane_in (set a.channels j n) ≡ set (state_of a).0 j n.lane = map-set lane_in a.channels j n in
+        record {
+          sized = length-set a.channels j n ∙ sound.sized;
+          lanes = subst AllSound (sym e) (sound_set (state_of a).0 j n.lane sound.lanes h);
+          count = outs_put (state_of a).0 j new_lane n.lane w a.out o own_out sound.count is_o inside ∙ ap outs (sym e);
+        }
+
+-- the lanes out of idle, counted from channel to channel
+abbrev pub out_in : Channel → ℕ
+out_in c = out_of c.lane
+
+pub outs_channels : (cs : List Channel) (n : ℕ) → fold (λ a c. a + out_in c) n cs ≡ n + outs (lanes_of cs).0
+unfolding outs
+outs_channels [] n = omega arith
+outs_channels (c ∷ cs) n = omega (arith, outs_channels cs (n + out_of c.lane))
+
+pub outs_few : (cs : List Channel) → outs (lanes_of cs).0 ≤ length cs
+outs_few cs = omega (arith, outs_most (lanes_of cs).0, length-map cs lane_in)
+
+-- ---- a turn, or none
+
+-- the lane is put back in its row
+pub turn_put : (q : Asked) (cs : List Channel) (p : State) (n : Channel) (j : ℕ) (s : List ℕ) (last : Bool) (from at : ℕ) (x y : List ℕ) (z : Turned)
+    → Among (lanes_of cs) q.antenna q.others p → j ≡ row_of q.antenna → waits last (addressed_of (drop from s)) ≡ false → Told q p s from at x z (held n) y
+    → Turn machine (lanes_of cs) s last from at x z (lanes_of (set cs j n)) y
+turn_put q cs p n j s last from at x y z among is_j ready told =
+    record {
+      ready = ready;
+      near = told.near;
+      text = told.text;
+      puts = told.puts;
+      passes =
+          subst (Passed machine (lanes_of cs) s from z.used told.text)
+          (ap (λ (i : ℕ). put_at (lanes_of cs) i (held n)) (sym is_j) ∙ sym (held_put cs j n)) (told.passes (lanes_of cs) among);
+    }
+
+module _ (all : Lanes) (s : List ℕ) (last : Bool) (from at : ℕ) (x : List ℕ) where
+  -- the command waits for bytes
+  pub turn_waits : waits last (addressed_of (drop from s)) ≡ true → Stays machine all s last from at x Waiting all x
+  turn_waits w = record { stopped = waiting refl w; on = refl; same = refl; kept = refl }
+
+  -- the text has no room
+  pub turn_full : (i : ℕ) (p : State) → lane_at all (row_of i) ≡ p → waits last (addressed_of (drop from s)) ≡ false → i ≡ antenna_of (drop from s) → has_tagged_room (most_of p) (length x) at ≡ false
+      → Stays machine all s last from at x NoRoom all x
+  turn_full i p own ready is_i few =
       record {
-        on = goes_on machine orderly h ready (passed) z.at y near told.puts;
-        over = λ e. ends_there machine orderly h ready (passed) z.at y near told.puts e;
-        sized = sized_after;
-        sound = sound_set ls j z.lane sound told.sound;
+        stopped =
+            no_room refl ready
+            (subst (λ (n : ℕ). length x < at + tagged_room (most_of (lane_at all (row_of n)))) is_i
+            (subst (λ (q : State). length x < at + tagged_room (most_of q)) (sym own) (no_room_left p (length x) at few)));
+        on = refl;
+        same = refl;
+        kept = refl;
       }
-    where
-      told : Told a (a.lane, get_or ook j [], get_or fsk j []) s from at x z (z.lane, row.ook_row, row.fsk_row) y
-      told = row.told
-
-      near : z.at ≤ length y
-      near = omega (arith, told.near, same)
-
-      back : ◌≡◌ {A = Lanes} (put_at (ls, ook, fsk) (row_of a.antenna) (z.lane, row.ook_row, row.fsk_row)) (set ls j z.lane, ook', fsk')
-      back =
-          ap (λ (n : ℕ). put_at (ls, ook, fsk) n (z.lane, row.ook_row, row.fsk_row)) (sym is_j)
-          ∙ ap (λ (o : List (List ℕ)). (set ls j z.lane, o, set fsk j row.fsk_row)) (sym row.ook_set) ∙ ap (λ (o : List (List ℕ)). (set ls j z.lane, ook', o)) (sym row.fsk_set)
-
-      passed : Passed machine (ls, ook, fsk) s from z.used told.text (set ls j z.lane, ook', fsk')
-      passed = subst (Passed machine (ls, ook, fsk) s from z.used told.text) back (told.passes (ls, ook, fsk) among)
-
--- where the text has no room nothing is changed
-pub filled : {p₀ : Lanes} {s x : List ℕ} {last : Bool} {from at i others : ℕ} {all : Lanes} {p : State} → Among all i others p → Running machine p₀ s last from at all x
-    → waits last (addressed_of (drop from s)) ≡ false → i ≡ antenna_of (drop from s) → has_tagged_room (most_of p) (length x) at ≡ false → {ended : Bool} → ended ≡ false
-    → Streamed machine p₀ s last (record { used = from; at = at; ended = ended; full = true }) all x
-filled {s = s} {x = x} {from = from} {at = at} {i = i} {all = all} {p = p} among h ready is_i none on =
-    full_there machine h on refl ready
-    (subst (λ (n : ℕ). length x < at + tagged_room (most_of (lane_at all (row_of n)))) is_i
-    (subst (λ (q : State). length x < at + tagged_room (most_of q)) (sym among.own) (no_room_left p (length x) at none)))

@@ -1,10 +1,11 @@
 -- What the program `antennas` prints (document 02, R-4): the lines of `listing`, each after the antenna's number and a blank. Refusals 1 and 2
 -- have no antenna, and end the stream.
-use Rattle.std.specs.Prelude.{ℕ, Bool, true, false, cond, List, [], replicate, ltb}
+use Rattle.std.specs.Prelude.{ℕ, cond, List, [], replicate, ltb, Ok, Err}
 use Rattle.lane.specs.declared.Lane.{Lane}
 use Rattle.lane.specs.Step.{new_lane}
-use Rattle.commands.specs.declared.Command.{Command}
-use Rattle.commands.specs.declared.Command.TheVariants.{End, Open, Begin, Step, Unknown, Short, Close}
+use Rattle.commands.specs.Command.{Found}
+use Rattle.commands.specs.declared.Missing.{Missing}
+use Rattle.commands.specs.declared.Missing.TheVariants as missing
 use Rattle.lines.specs.Line.{refused_line}
 use Rattle.calls.specs.Turn.{Called, record_text, by_number, waits, most_of}
 use Rattle.addressed.specs.Addressed.{addressed_of, antenna_of, addressed_size}
@@ -18,29 +19,16 @@ heard_text i c =
     let l : Lane = c.0.lane in
     tagged_text i (by_number c.0.reply) (record_text l l.burst.out_fsk c.1 c.2) (record_text l l.burst.out_ook c.1 c.2) l.last
 
--- refusals 1 and 2 have no antenna
-abbrev pub is_heard_of : Command → Bool
-is_heard_of End = false
-is_heard_of (Open s carries) = true
-is_heard_of (Begin b) = true
-is_heard_of (Step s) = true
-is_heard_of Unknown = false
-is_heard_of Short = false
-is_heard_of Close = true
-
--- the lines of what is no command: nothing where nothing is left
-abbrev pub none_text : Command → List ℕ
-none_text End = []
-none_text (Open s carries) = []
-none_text (Begin b) = []
-none_text (Step s) = []
-none_text Unknown = refused_line 1
-none_text Short = refused_line 2
-none_text Close = []
+-- the lines of what is no command: refusals 1 and 2 have no antenna, and nothing is printed where nothing is left
+abbrev pub none_text : Missing → List ℕ
+none_text missing.End = []
+none_text missing.Unknown = refused_line 1
+none_text missing.Short = refused_line 2
 
 -- what a command prints
-abbrev pub spoken_text : ℕ → Command → Called → List ℕ
-spoken_text i k c = cond (is_heard_of k) (heard_text i c) (none_text k)
+abbrev pub spoken_text : ℕ → Found → Called → List ℕ
+spoken_text i (Ok k) c = heard_text i c
+spoken_text i (Err m) c = none_text m
 
 -- the lane that a command reads: where there is no such antenna the first, which stays as it is
 abbrev pub row_of : ℕ → ℕ

@@ -1,18 +1,20 @@
 -- What the functions over a block say of one antenna's lane, whatever the other lanes are: commands of a stream, taken one after another, up to
 -- the first that prints or is another antenna's.
-use Rattle.std.specs.Prelude.{ℕ, ◌+◌, ◌-◌, ◌<◌, ◌≤◌, Bool, true, false, cond, ◌≡◌, List, [], ◌∷◌, ◌++◌, length, take, set, get_or, ltb}
+use Rattle.std.specs.Prelude.{ℕ, ◌+◌, ◌-◌, ◌<◌, ◌≤◌, Bool, false, cond, ◌≡◌, List, [], ◌∷◌, ◌++◌, length, take, drop, map, ltb}
 use Rattle.lane.specs.declared.Lane.{Lane}
 use Rattle.lane.specs.Answers.{Reply, answer_of}
 use Rattle.reached.specs.Reached.{Sound}
 use Rattle.lines.specs.Line.{train_room, has_room}
 use Rattle.calls.specs.declared.Past.{Past}
-use Rattle.calls.specs.declared.Turned.{Turned}
+use Rattle.stream.specs.declared.Turned.{Turned}
 use Rattle.calls.specs.Turn.{State, Called, unchanged, shown_of, most_of}
 use Rattle.calls.specs.Turn.{Shown}
-use Rattle.tagged.specs.Tagged.{tagged_room}
-use Rattle.among.specs.Among.{antennas, called_among, Lanes, lane_at, put_at, others_out, no_antenna, Sized}
+use Rattle.among.specs.Among.{antennas, called_among, Lanes, lane_at, put_at, outs, others_out, no_antenna, Sized}
 use Rattle.stream.specs.Blocks.{Passed}
+use Rattle.addressed.specs.Addressed.{addressed_of, antenna_of}
 use Rattle.sixteen.specs.declared.Asked.{Asked}
+use Rattle.sixteen.specs.declared.Channel.{Channel}
+use Rattle.sixteen.specs.declared.Antennas.{Antennas}
 use Rattle.sixteen.specs.Sixteen.{spoken_text, row_of, machine}
 
 -- sixteen lanes among which antenna i is asked: this is its lane, with its buffers, and so many others are out of idle
@@ -20,6 +22,12 @@ pub record Among (all : Lanes) (i others : ℕ) (p : State) : Type 0 where
   pub sized : Sized all
   pub own : lane_at all (row_of i) ≡ p
   pub count : others_out all.0 (row_of i) ≡ others
+
+-- what is asked is the command at a place of s
+pub record Stands (a : Asked) (s : List ℕ) (from : ℕ) : Type 0 where
+  pub inside : from < length s
+  pub command_is : a.command ≡ addressed_of (drop from s)
+  pub antenna_is : a.antenna ≡ antenna_of (drop from s)
 
 -- the answer to a command, where it is no step or there is no such antenna
 unfoldable pub one_of : Asked → State → Called
@@ -53,19 +61,26 @@ pub record Told (a : Asked) (p : State) (s : List ℕ) (from at : ℕ) (x : List
   pub puts : take z.at y ≡ take at x ++ text
   pub passes : (all : Lanes) → Among all a.antenna a.others p → Passed machine all s from z.used text (put_at all (row_of a.antenna) q)
 
--- a lane with its buffers in their rows
-abbrev pub in_row : Lane → ℕ → List (List ℕ) → List (List ℕ) → State
-in_row l j ook fsk = (l, get_or ook j [], get_or fsk j [])
+-- ---- the channels
 
--- the same with the buffers in their rows
-pub record InRow (a : Asked) (j : ℕ) (ook fsk : List (List ℕ)) (s : List ℕ) (from at : ℕ) (x : List ℕ) (z : Turned) (ook' fsk' : List (List ℕ)) (y : List ℕ) : Type 0 where
-  pub ook_row : List ℕ
-  pub fsk_row : List ℕ
-  pub ook_set : ook' ≡ set ook j ook_row
-  pub fsk_set : fsk' ≡ set fsk j fsk_row
-  pub told : Told a (in_row a.lane j ook fsk) s from at x z (z.lane, ook_row, fsk_row) y
+-- a lane with its own buffers
+abbrev pub held : Channel → State
+held c = (c.lane, c.ook, c.fsk)
+
+-- the lanes, their OOK buffers and their FSK buffers
+abbrev pub lanes_of : List Channel → Lanes
+lanes_of cs = (map (λ (c : Channel). c.lane) cs, map (λ (c : Channel). c.ook) cs, map (λ (c : Channel). c.fsk) cs)
+
+abbrev pub state_of : Antennas → Lanes
+state_of a = lanes_of a.channels
 
 -- every lane is sound
 unfoldable pub AllSound : List Lane → Type 0
 AllSound [] = Unit {0}
 AllSound (l ∷ ls) = Sound l × AllSound ls
+
+-- what the sixteen keep from turn to turn: the count beside the channels is that of the lanes out of idle
+pub record IsSound (a : Antennas) : Type 0 where
+  pub sized : length a.channels ≡ antennas
+  pub lanes : AllSound (state_of a).0
+  pub count : a.out ≡ outs (state_of a).0

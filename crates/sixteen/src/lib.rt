@@ -2,149 +2,92 @@
 // with that lane's own pair of buffers, and its lines written after the antenna's number.
 #![tactic(auto)]
 
-ghost use Rattle.std.specs.Prelude.{◌≡◌, true, false, ◌&&◌, ltb, ◌+◌, ◌≤◌, ◌<◌, length, drop};
+ghost use Rattle.std.specs.Prelude.{◌≡◌, true, false, ◌&&◌, ltb, ◌+◌, ◌≤◌, length};
 ghost use Rattle.commands.specs.Command.{is_step_of};
 ghost use Rattle.lines.specs.Line.{Put};
 ghost use Rattle.lines.specs.Text.{RoomFor, Puts};
 ghost use Rattle.reached.specs.Reached.{Sound};
 ghost use Rattle.calls.specs.Turn.{Called, most_of};
 ghost use Rattle.lane.specs.Answers.{answer_of};
-ghost use Rattle.addressed.specs.Addressed.{addressed_of, antenna_of};
-ghost use Rattle.among.specs.Among.{antennas, Sized};
-ghost use Rattle.stream.specs.Blocks.{Streamed};
-ghost use Rattle.sixteen.specs.Sixteen.{heard_text, is_heard_of, none_text, spoken_text, row_of, machine};
-ghost use Rattle.sixteen.specs.Spoken.{one_of, Heard, spoken_room, has_tagged_room, Told, in_row, InRow, AllSound};
+ghost use Rattle.among.specs.Among.{antennas, outs};
+ghost use Rattle.sixteen.specs.Sixteen.{heard_text, none_text, spoken_text, row_of, at_first};
+ghost use Rattle.sixteen.specs.Spoken.{Stands, one_of, Heard, spoken_room, has_tagged_room, Told, held, lanes_of, state_of, AllSound, IsSound};
 
-use calls::{Past, Turned};
-use commands::Command;
+use calls::Past;
+use commands::{Found, Missing};
 use lane::{Answer, Lane, Reply};
 use lines::Text;
-use shared::Next;
-use stream::Ran;
+use refusals::Refusal;
+use stream::{Station, Stop, Turned};
 
-// A command for an antenna, with the antenna's lane and how many other lanes are out of idle.
+// A command for an antenna, and how many of the other antennas' lanes are out of idle. The bytes and the
+// place stay beside it: `Stands` says in one word what an invariant would, and this has no lifetime.
 #[derive(Clone, Copy)]
 pub struct Asked {
-    pub lane: Lane,
     pub others: u32,
     pub antenna: usize,
-    pub command: Command,
+    pub command: Found,
 }
 
 // ---- one antenna
 
-// The step at a place of the bytes and those of the same antenna that follow it, up to the first that
-// prints: core and arrays are changed in place (as `calls::steps` does). One loop for both would need a
-// trait that says where a step stands and what either machine makes of it: longer than the loop.
-fn steps(q: Asked, s: &[u8], from: usize, ook: &mut [u32], fsk: &mut [u32]) -> Past
-    requires { (from < length s.now) × (q.command ≡ addressed_of (drop from s.now)) × (q.antenna ≡ antenna_of (drop from s.now)) × (is_step_of q.command ≡ true) × (q.antenna < antennas) × Sound q.lane }
-    ensures { Heard q (q.lane, ook.old, fsk.old) s.now from result (result.lane, ook.new, fsk.new) }
-{
-    let lane = q.lane;
-    let i = q.antenna;
-    let mut c = step::core_of(lane);
-    let mut es = step::envelopes(lane);
-    let mut re = step::reals(lane);
-    let mut im = step::imaginaries(lane);
-    let mut ring = lane.ring;
-    let mut cs = lane.burst.frame.cand.cand_f;
-    let mut used = from;
-    let mut reply = Ok(Next::Stay);
-    while used < s.len() {
-        let is = addressed::is_step_for(s, used, i);
-        if !is {
-            break;
-        }
-        let b = addressed::step_at(s, used);
-        let a = step::step_core(
-            c, b, &mut es, &mut re, &mut im, &mut ring, &mut cs, ook, fsk,
-        );
-        reply = a.reply;
-        c = a.core;
-        used += 26;
-        let quiet = calls::is_quiet(reply, c.burst.out_fsk.state, c.burst.out_ook.state);
-        if !quiet {
-            break;
-        }
-    }
-    let l = step::joined(c, es, re, im, ring, cs);
-    Past {
-        lane: l,
-        used,
-        reply,
-    }
-}
-
 // The answer to a command that is no step, and to any of an antenna that is not there.
-fn call_one(q: Asked, ook: &mut [u32], fsk: &[u32]) -> Answer
-    ensures { (is_step_of q.command && ltb q.antenna antennas) ≡ false → ◌≡◌ {A = Called} (result, ook.new, fsk.now) (one_of q (q.lane, ook.old, fsk.now)) }
+fn call_one(q: Asked, l: Lane, ook: &mut [u32], fsk: &[u32]) -> Answer
+    ensures { (is_step_of q.command && ltb q.antenna antennas) ≡ false → ◌≡◌ {A = Called} (result, ook.new, fsk.now) (one_of q (l, ook.old, fsk.now)) }
 {
-    let l = q.lane;
-    let k = q.command;
-    let there = q.antenna < 16;
-    if there {
-        let a = calls::call_other(l, k, ook, fsk);
-        return among::settle(l, a, k, q.others);
+    if q.antenna < 16 {
+        let a = calls::call_other(l, q.command, ook, fsk);
+        return among::settle(l, a, q.command, q.others);
     }
-    let reply = among::no_antenna(k);
-    Answer { reply, lane: l }
+    Answer {
+        reply: among::no_antenna(q.command),
+        lane: l,
+    }
 }
 
 // The command at a place of the bytes, and where it is a step those of its antenna that follow, up to
 // the first that prints.
-fn pass(q: Asked, s: &[u8], from: usize, ook: &mut [u32], fsk: &mut [u32]) -> Past
-    requires { (from < length s.now) × (q.command ≡ addressed_of (drop from s.now)) × (q.antenna ≡ antenna_of (drop from s.now)) × Sound q.lane }
-    ensures { Heard q (q.lane, ook.old, fsk.old) s.now from result (result.lane, ook.new, fsk.new) }
+fn pass(q: Asked, lane: &mut Lane, s: &[u8], from: usize, ook: &mut [u32], fsk: &mut [u32]) -> Past
+    requires { Stands q s.now from × Sound lane.old }
+    ensures { Heard q (lane.old, ook.old, fsk.old) s.now from result (lane.new, ook.new, fsk.new) }
 {
-    let k = q.command;
-    let is = calls::is_step(k);
-    let fast = is & (q.antenna < 16);
+    let fast = calls::is_step(q.command) & (q.antenna < 16);
     if fast {
-        return steps(q, s, from, ook, fsk);
+        let i = q.antenna;
+        return calls::steps(|at| addressed::step_for(s, at, i), 26, lane, from, ook, fsk);
     }
-    let a = call_one(q, ook, fsk);
-    let lane = a.lane;
-    let reply = a.reply;
-    let size = addressed::size_of(k);
+    let a = call_one(q, *lane, ook, fsk);
+    *lane = a.lane;
     Past {
-        lane,
-        used: from + size,
-        reply,
+        used: match q.command {
+            Ok(k) => from + addressed::size_of(k),
+            Err(_) => from,
+        },
+        reply: a.reply,
     }
 }
 
 // Writes the lines of an antenna's call.
-fn put_heard<'a>(i: usize, r: Reply, l: Lane, ook: &'a [u32], fsk: &'a [u32], text: &mut Text)
-    requires { RoomFor (spoken_room r l ook.now fsk.now) text.old }
-    ensures { Puts (heard_text i (answer_of r l, ook.now, fsk.now)) (spoken_room r l ook.now fsk.now) text.old text.new }
+fn put_heard<'a>(i: usize, r: Reply, l: &Lane, ook: &'a [u32], fsk: &'a [u32], text: &mut Text)
+    requires { RoomFor (spoken_room r l.now ook.now fsk.now) text.old }
+    ensures { Puts (heard_text i (answer_of r l.now, ook.now, fsk.now)) (spoken_room r l.now ook.now fsk.now) text.old text.new }
 {
     let f = l.burst.out_fsk;
     let o = l.burst.out_ook;
-    let fs = calls::shown(r, l, f, ook, fsk);
-    let os = calls::shown(r, l, o, ook, fsk);
+    let fs = calls::shown(r, *l, f, ook, fsk);
+    let os = calls::shown(r, *l, o, ook, fsk);
     tagged::put_call(i, r.map_err(u32::from), f, fs, o, os, l.last, text);
 }
 
-// Whether the lines of a command have its antenna's number: refusals 1 and 2 have none.
-fn is_heard(k: Command) -> bool
-    ensures { result ≡ is_heard_of k }
-{
-    !matches!(k, Command::End | Command::Unknown | Command::Short)
-}
-
-// Writes the lines of what is no command.
-fn put_none(k: Command, text: &mut Text)
+// Writes the lines of what is no command: they have no antenna's number.
+fn put_none(m: Missing, text: &mut Text)
     requires { RoomFor 48 text.old }
-    ensures { Puts (none_text k) 48 text.old text.new }
+    ensures { Puts (none_text m) 48 text.old text.new }
 {
-    match k {
-        Command::End => {}
-        Command::Open(_, _) => {}
-        Command::Begin(_) => {}
-        Command::Step(_) => {}
-        Command::Unknown => text.put_refused(1),
-        Command::Short => text.put_refused(2),
-        Command::Close => {}
+    match m {
+        Missing::End => {}
+        Missing::Unknown => text.put_refused(Refusal::Unknown.into()),
+        Missing::Short => text.put_refused(Refusal::Short.into()),
     }
 }
 
@@ -159,23 +102,13 @@ fn has_room(n: usize, len: usize, at: usize) -> bool
     lines::has_room(n, len - 63, at)
 }
 
-// Whether it has room for any call of a lane with these buffers.
-fn has_room_for(l: Lane, ook: &[u32], fsk: &[u32], len: usize, at: usize) -> bool
-    ensures { result ≡ has_tagged_room (most_of (l, ook.now, fsk.now)) len at }
-{
-    let most = calls::most_of(l.settings.max_pulses, ook.len(), fsk.len());
-    has_room(most, len, at)
-}
-
 // Writes the lines of a command that was answered so. Most steps print nothing.
-fn put_spoken<'a>(q: Asked, r: Reply, l: Lane, ook: &'a [u32], fsk: &'a [u32], text: &mut Text)
-    requires { RoomFor (spoken_room r l ook.now fsk.now) text.old }
-    ensures { Puts (spoken_text q.antenna q.command (answer_of r l, ook.now, fsk.now)) (spoken_room r l ook.now fsk.now) text.old text.new }
+fn put_spoken<'a>(q: Asked, r: Reply, l: &Lane, ook: &'a [u32], fsk: &'a [u32], text: &mut Text)
+    requires { RoomFor (spoken_room r l.now ook.now fsk.now) text.old }
+    ensures { Puts (spoken_text q.antenna q.command (answer_of r l.now, ook.now, fsk.now)) (spoken_room r l.now ook.now fsk.now) text.old text.new }
 {
-    let k = q.command;
-    let heard = is_heard(k);
-    if !heard {
-        return put_none(k, text);
+    if let Err(m) = q.command {
+        return put_none(m, text);
     }
     let quiet = calls::is_quiet(r, l.burst.out_fsk.state, l.burst.out_ook.state);
     if quiet {
@@ -188,133 +121,152 @@ fn put_spoken<'a>(q: Asked, r: Reply, l: Lane, ook: &'a [u32], fsk: &'a [u32], t
 fn put_answer<'a>(
     q: Asked,
     r: Reply,
-    l: Lane,
+    l: &Lane,
     ook: &'a [u32],
     fsk: &'a [u32],
     text: &mut [u8],
     at: usize,
 ) -> usize
-    requires { at + spoken_room r l ook.now fsk.now ≤ length text.old }
-    ensures { Put (spoken_text q.antenna q.command (answer_of r l, ook.now, fsk.now)) (spoken_room r l ook.now fsk.now) at text.old result text.new }
+    requires { at + spoken_room r l.now ook.now fsk.now ≤ length text.old }
+    ensures { Put (spoken_text q.antenna q.command (answer_of r l.now, ook.now, fsk.now)) (spoken_room r l.now ook.now fsk.now) at text.old result text.new }
 {
     let mut t = Text::new(text, at);
     put_spoken(q, r, l, ook, fsk, &mut t);
     t.at
 }
 
-// The commands from one at a place of the bytes up to the first that prints, and its lines.
-fn turn(
-    q: Asked,
-    s: &[u8],
-    from: usize,
-    ook: &mut [u32],
-    fsk: &mut [u32],
-    text: &mut [u8],
-    at: usize,
-) -> Turned
-    requires { (from < length s.now) × (q.command ≡ addressed_of (drop from s.now)) × (q.antenna ≡ antenna_of (drop from s.now)) × Sound q.lane × (has_tagged_room (most_of (q.lane, ook.old, fsk.old)) (length text.old) at ≡ true) }
-    ensures { Told q (q.lane, ook.old, fsk.old) s.now from at text.old result (result.lane, ook.new, fsk.new) text.new }
-{
-    let g = pass(q, s, from, ook, fsk);
-    let n = g.lane;
-    let r = g.reply;
-    let e = put_answer(q, r, n, ook, fsk, text, at);
-    Turned {
-        lane: n,
-        used: g.used,
-        at: e,
+// A lane with its own pair of buffers, for 2,048 pairs each.
+#[derive(Clone, Copy)]
+pub struct Channel {
+    pub lane: Lane,
+    pub ook: [u32; 4096],
+    pub fsk: [u32; 4096],
+}
+
+impl Channel {
+    // Whether a text of `len` bytes has room at a place for any call of the lane.
+    fn has_room(&self, len: usize, at: usize) -> bool
+        ensures { result ≡ has_tagged_room (most_of (held self.now)) len at }
+    {
+        let most = calls::most_of(
+            self.lane.settings.max_pulses,
+            self.ook.len(),
+            self.fsk.len(),
+        );
+        has_room(most, len, at)
+    }
+
+    // The commands from one at a place of the bytes up to the first that prints, and its lines.
+    fn turn(&mut self, q: Asked, s: &[u8], from: usize, text: &mut [u8], at: usize) -> Turned
+        requires { Stands q s.now from × Sound self.old.lane × (has_tagged_room (most_of (held self.old)) (length text.old) at ≡ true) }
+        ensures { Told q (held self.old) s.now from at text.old result (held self.new) text.new }
+    {
+        let g = pass(q, &mut self.lane, s, from, &mut self.ook, &mut self.fsk);
+        let at = put_answer(q, g.reply, &self.lane, &self.ook, &self.fsk, text, at);
+        Turned { used: g.used, at }
     }
 }
 
-// The same with the lane's buffers in row j.
-fn turn_in_row(
-    q: Asked,
-    j: usize,
-    s: &[u8],
-    from: usize,
-    ook: &mut [[u32; 4096]; 16],
-    fsk: &mut [[u32; 4096]; 16],
-    text: &mut [u8],
-    at: usize,
-) -> Turned
-    requires { (from < length s.now) × (q.command ≡ addressed_of (drop from s.now)) × (q.antenna ≡ antenna_of (drop from s.now)) × Sound q.lane × (has_tagged_room (most_of (in_row q.lane j ook.old fsk.old)) (length text.old) at ≡ true) × (j < antennas) }
-    ensures { InRow q j ook.old fsk.old s.now from at text.old result ook.new fsk.new text.new }
-{
-    turn(q, s, from, &mut ook[j], &mut fsk[j], text, at)
-}
+// ---- sixteen
 
-// ---- a block of bytes
-
-// The row of an antenna's lane; the first where there is no such antenna.
+// The row of an antenna's lane; the first where there is no such antenna. By `channels.get_mut(i)` the case
+// without a channel would name the first all the same: the machine's `most` asks a lane for a refusal's room too.
 fn row_of(i: usize) -> usize
     ensures { result ≡ row_of i }
 {
-    if i < 16 {
-        return i;
-    }
-    0
+    if i < 16 { i } else { 0 }
 }
 
-// The turns of a block of bytes: each command's as soon as its own last byte is there, until the
-// next waits for more, the text has no room, or the stream ends. `last` says that no byte will come
-// after the block. As in `calls::block`, a turn goes on by as many bytes as its commands take: no index is
-// counted.
-pub fn block(
-    first: [Lane; 16],
-    s: &[u8],
-    last: bool,
-    ook: &mut [[u32; 4096]; 16],
-    fsk: &mut [[u32; 4096]; 16],
-    text: &mut [u8],
-) -> ([Lane; 16], Ran)
-    requires { AllSound first × Sized (first, ook.old, fsk.old) }
-    ensures streamed { Streamed machine (first, ook.old, fsk.old) s.now last result.1 (result.0, ook.new, fsk.new) text.new }
-    ensures sound { AllSound result.0 × Sized (result.0, ook.new, fsk.new) }
+// How many of the lanes are out of idle.
+fn count_out(channels: &[Channel; 16]) -> u32
+    ensures counted { result ≡ outs (lanes_of channels.now).0 }
+    ensures sized { length channels.now ≡ antennas }
 {
-    let mut lanes = first;
-    let mut out = among::count_out(&lanes);
-    let mut used = 0;
-    let mut at = 0;
-    let mut ended = false;
-    let mut full = false;
-    while used < s.len() {
-        let command = addressed::command_at(s, used);
-        let waiting = calls::waits(last, command);
-        if waiting {
-            break;
+    channels
+        .iter()
+        .map(|c| u32::from(among::is_out(&c.lane)))
+        .sum()
+}
+
+// Sixteen lanes, each with its own pair of buffers, and how many of them are out of idle.
+#[derive(Clone, Copy)]
+pub struct Antennas {
+    channels: [Channel; 16],
+    out: u32,
+}
+
+impl Antennas {
+    // The lanes never had settings.
+    pub fn new() -> Antennas
+        ensures new { state_of result ≡ at_first }
+        ensures sound { IsSound result }
+    {
+        let channel = Channel {
+            lane: lane::new_lane(),
+            ook: [0; 4096],
+            fsk: [0; 4096],
+        };
+        Antennas {
+            channels: [channel; 16],
+            out: 0,
         }
-        let antenna = addressed::antenna_at(s, used);
+    }
+
+    // Any sixteen sound lanes, as they are.
+    pub fn of(channels: [Channel; 16]) -> Antennas
+        requires { AllSound (lanes_of channels).0 }
+        ensures state { state_of result ≡ lanes_of channels }
+        ensures sound { IsSound result }
+    {
+        Antennas {
+            channels,
+            out: count_out(&channels),
+        }
+    }
+}
+
+impl Station for Antennas {
+    ghost use Rattle.std.specs.Prelude.{[]};
+    ghost use Rattle.sixteen.specs.Sixteen.{machine as program};
+    ghost use Rattle.sixteen.specs.Spoken.{IsSound, state_of};
+    ghost use Rattle.sixteen.specs.Orderly.{orderly as keeps_order};
+
+    ghost machine = { program };
+
+    ghost state = { state_of };
+
+    ghost is_sound = { IsSound };
+
+    ghost lent = { λ _. [] };
+
+    fn turn(
+        &mut self,
+        s: &[u8],
+        from: usize,
+        last: bool,
+        text: &mut [u8],
+        at: usize,
+    ) -> Result<Turned, Stop> {
+        let command = addressed::command_at(s, from);
+        if calls::waits(last, command) {
+            return Err(Stop::Waiting);
+        }
+        let antenna = addressed::antenna_at(s, from);
         let j = row_of(antenna);
-        let lane = lanes[j];
-        let len = text.len();
-        let room = has_room_for(lane, &ook[j], &fsk[j], len, at);
-        if !room {
-            full = true;
-            break;
+        if !self.channels[j].has_room(text.len(), at) {
+            return Err(Stop::NoRoom);
         }
-        let others = out - u32::from(among::is_out(&lane));
+        let others = self.out - u32::from(among::is_out(&self.channels[j].lane));
         let q = Asked {
-            lane,
             others,
             antenna,
             command,
         };
-        let t = turn_in_row(q, j, s, used, ook, fsk, text, at);
-        let m = t.lane;
-        out = others + u32::from(among::is_out(&m));
-        lanes[j] = m;
-        at = t.at;
-        if t.used == used {
-            ended = true;
-            break;
-        }
-        used = t.used;
+        let channel = &mut self.channels[j];
+        let t = channel.turn(q, s, from, text, at);
+        self.out = others + u32::from(among::is_out(&channel.lane));
+        Ok(t)
     }
-    let ran = Ran {
-        used,
-        at,
-        ended,
-        full,
-    };
-    (lanes, ran)
+
+    ghost orderly = { keeps_order };
 }

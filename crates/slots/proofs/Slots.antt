@@ -3,7 +3,7 @@ use mathlib.Core.Path.{◌≡◌, refl, sym, ap, ◌∙◌}
 use mathlib.Core.List.{List, [], ◌∷◌, ◌++◌, append_assoc}
 use Prim.Native.Nat.{ℕ, suc, ◌<◌}
 use native.Mathlib.Omega.{arith}
-use lib.ListN.{length, length-append, set, take}
+use lib.ListN.{length, length-append, set}
 use lib.Ieee.{Float}
 use Rattle.arith.specs.declared.Carried.{Carried}
 use Rattle.arith.specs.Carry.{width_by}
@@ -72,10 +72,3 @@ heads_more xs ook v l H = go H.rest H.split
 
 pub heads_less : (xs ys ook : List ℕ) → Heads (xs ++ ys) ook → Heads xs ook
 heads_less xs ys ook H = record { rest = ys ++ H.rest; split = H.split ∙ append_assoc xs ys H.rest }
-
-take_head : (xs ys : List ℕ) → take (length xs) (xs ++ ys) ≡ xs
-take_head [] ys = refl
-take_head (x ∷ xs) ys = ap {B = List ℕ} (λ l. x ∷ l) (take_head xs ys)
-
-pub heads_take : (xs ook : List ℕ) → Heads xs ook → take (length xs) ook ≡ xs
-heads_take xs ook H = ap (take (length xs)) H.split ∙ take_head xs H.rest

@@ -10,8 +10,7 @@ use lib.ListN.{get_or, length}
 use lib.Dec.{ltb, eqb}
 use lib.IntN.{pos}
 use lib.Ieee.{Float, nan, binary64, of_int}
-use Rattle.std.specs.Prelude.{⊤, Result, Ok, Err, is_ok}
-use Rattle.std.specs.Result.{result_and}
+use Rattle.std.specs.Prelude.{⊤, Result, Ok}
 use Rattle.arith.specs.Leaves.{lead_len_of}
 use Rattle.refusals.specs.declared.Refusal.{Refusal}
 use Rattle.shared.specs.declared.Next.TheVariants as next
@@ -78,11 +77,6 @@ module _ (l : Lane) (s : StepArgs) (k : Result ⊤ Refusal) (ook fsk : List ℕ)
     step_replays b w ook' fsk' full begins gives = simp (ok, leads, ← put, ← adds, full, ← begins, ← gives)
 
 -- ---- a step of core and arrays
-
--- a step that answers is not refused
-pub asked_ok : (k : Result ⊤ Refusal) → is_ok (result_and k (Ok next.Stay)) ≡ true → k ≡ Ok tt
-asked_ok (Ok u) h = refl
-asked_ok (Err r) h = cc
 
 -- a core with what a step changes
 abbrev pub core_of : Core → ℕ → ℕ → C32 → ℕ → BurstCore → ℕ → Core

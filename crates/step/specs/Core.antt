@@ -2,6 +2,8 @@
 use Rattle.std.specs.Prelude.{ℕ, List, [], ◌∷◌, map, Float}
 use Rattle.arith.specs.declared.C32.{C32}
 use Rattle.envelope.specs.declared.At.{At}
+use Rattle.fsk.specs.declared.FrameOf.{FrameOf}
+use Rattle.burst.specs.declared.BurstOf.{BurstOf}
 use Rattle.burst.specs.Core.{whole_burst}
 use Rattle.burst.specs.Makers.{with_serials}
 use Rattle.burst.specs.declared.Lead.{Lead}
@@ -39,6 +41,26 @@ joined_of c es re im ring cs =
       ring = ring;
       burst = with_serials c.serial c.serial (whole_burst cs c.burst);
       serial = c.serial;
+    }
+
+-- a frame with other candidates
+abbrev pub with_cand : {C D : Type 0} → D → FrameOf C → FrameOf D
+with_cand cand f = record { tone = f.tone; fsk_phase = f.fsk_phase; mean = f.mean; cand = cand; early = f.early; levels = f.levels; runs = f.runs; done = f.done }
+
+-- a burst with another frame and other records
+abbrev pub with_frame : {C D O P : Type 0} → FrameOf D → P → P → BurstOf C O → BurstOf D P
+with_frame frame out_ook out_fsk b =
+    record {
+      high = b.high;
+      e_prev = b.e_prev;
+      env = b.env;
+      pac = b.pac;
+      train = b.train;
+      out_ook = out_ook;
+      frames = b.frames;
+      pres = b.pres;
+      frame = frame;
+      out_fsk = out_fsk;
     }
 
 -- what a sample of the call reads

@@ -2,17 +2,16 @@
 // with the arrays lent: `step_core` for a program that keeps both, `step` for a caller that hands over the lane by value.
 #![tactic(auto)]
 
-ghost use Rattle.std.specs.Prelude.{◌≡◌, true, ℕ, ◌≤◌, List, Float, pos, length, get_or, eqb};
+ghost use Rattle.std.specs.Prelude.{◌≡◌, true, ℕ, ◌≤◌, ◌<◌, List, Float, pos, length, get_or, eqb};
 ghost use Rattle.lane.specs.Answers.{phase_of, answer_of};
-ghost use Rattle.lane.specs.Refusals.{step_refusal_by};
+ghost use Rattle.lane.specs.Refusals.{step_refusal_by, step_refusal};
 ghost use Rattle.lane.specs.Begin.{cleared_of};
-ghost use Rattle.step.specs.Core.{zip_of, reals_of, imaginaries_of, lead_in, joined_of, at_call};
-ghost use Rattle.fsk.specs.Core.{whole_frame};
+ghost use Rattle.step.specs.Core.{zip_of, reals_of, imaginaries_of, lead_in, joined_of, at_call, with_cand, with_frame};
 ghost use Rattle.shared.specs.Core.{whole_out};
 ghost use Rattle.std.specs.Float.{binary64, nan};
 ghost use Rattle.std.specs.Float.Ieee.{of_int};
 ghost use Rattle.arith.specs.Leaves.{lead_len_of};
-ghost use Rattle.burst.specs.Core.{whole_burst};
+ghost use Rattle.burst.specs.Core.{whole_burst, at_in_of};
 ghost use Rattle.burst.specs.Makers.{with_serials};
 ghost use Rattle.burst.specs.Lead.{lead_add_of, largest_of, begin_burst_of};
 ghost use Rattle.lane.specs.Step.{opened, stepped_by, stepped};
@@ -20,18 +19,18 @@ ghost use Rattle.lane.specs.Serial.{stamp_of};
 ghost use Rattle.domain.specs.Limits.{max_serial};
 
 use arith::C32;
-use burst::{Burst, BurstCore, Lead};
+use burst::{Burst, BurstCore, BurstOf, Lead};
 use envelope::At;
-use fsk::{Cand, CandCore, Frame, FrameCore};
+use fsk::{Cand, CandCore, FrameOf};
 use lane::{Answer, Lane, Reply, StepArgs, ring_put};
 use refusals::Refusal;
 use shared::{Next, OutCore, Settings};
 
 // ---- refusals
 
+// Why a step of a sound lane is refused. Settings, phase and last index come one by one: both the core and the lane have them.
 #[tactic(auto, unfolding(refusals::specs::Order::first_failed))]
-fn step_refusal(
-    lane: bool,
+fn core_refusal(
     p: Settings,
     phase: u32,
     last: u64,
@@ -39,9 +38,8 @@ fn step_refusal(
     ook: usize,
     fsk: usize,
 ) -> Result<(), Refusal>
-    ensures { result ≡ step_refusal_by lane p phase last s ook fsk }
+    ensures { result ≡ step_refusal_by true p phase last s ook fsk }
 {
-    refusals::check(lane, Refusal::Lane)?;
     refusals::check(phase != 0, Refusal::Phase)?;
     refusals::check(
         refusals::index_ok(s.index) & lane::follows(last, s.index),
@@ -49,6 +47,15 @@ fn step_refusal(
     )?;
     refusals::check(lane::step_floats_ok(s), Refusal::Float)?;
     refusals::check(refusals::room_ok(p, ook, fsk), Refusal::Room)
+}
+
+// The same of any lane, which is checked first.
+#[tactic(auto, unfolding(lane::specs::Refusals::step_refusal, refusals::specs::Order::first_failed))]
+fn step_refusal(l: Lane, s: StepArgs, ook: usize, fsk: usize) -> Result<(), Refusal>
+    ensures { result ≡ step_refusal l s ook fsk }
+{
+    refusals::check(lane::lane_ok(l), Refusal::Lane)?;
+    core_refusal(l.settings, l.phase, l.last, s, ook, fsk)
 }
 
 // ---- answers
@@ -66,8 +73,9 @@ fn phase_of(n: Next) -> u32
 // ---- the core: the lane but for its arrays, which are lent
 
 // The lead-in's envelopes and samples, the ring and the candidates stand beside it: es, re and im, ring, cs. The serial is
-// that of both records too. The samples are two arrays of numbers: as one of C32 an OOK stream takes 5 % more instructions a call,
-// with all the arrays in one struct that is lent 4 %.
+// that of both records too. Its numbers are a lane's, as in shared::Settings. The samples are two arrays of numbers, and the arrays are
+// lent one by one, as the laws of the core (proofs/Ways), calls and sixteen have them: neither other form is slower where a call takes
+// 411 to 641 instructions (one array of C32 takes 1 to 2 % fewer, one struct of all the arrays 0.4 %), but neither is proved.
 #[derive(Clone, Copy)]
 pub struct Core {
     pub opened: u32,
@@ -87,196 +95,138 @@ pub struct CoreAnswer {
     pub core: Core,
 }
 
-fn core_frame(f: Frame) -> FrameCore
-    ensures { whole_frame f.cand.cand_f result ≡ f }
+// The same frame with other candidates, and the same burst with another frame and other records: a caller's made the core's, and back.
+// Field by field, since a struct update keeps the type.
+fn with_cand<C: Copy, D>(f: FrameOf<C>, cand: D) -> FrameOf<D>
+    ensures { result ≡ with_cand cand f }
 {
-    let tone = f.tone;
-    let mean = f.mean;
-    let early = f.early;
-    let levels = f.levels;
-    let runs = f.runs;
-    let done = f.done;
-    FrameCore {
-        tone,
+    FrameOf {
+        tone: f.tone,
         fsk_phase: f.fsk_phase,
-        mean,
-        cand: CandCore {
-            cand_before: f.cand.cand_before,
-            fsk_cand: f.cand.fsk_cand,
-        },
-        early,
-        levels,
-        runs,
-        done,
+        mean: f.mean,
+        cand,
+        early: f.early,
+        levels: f.levels,
+        runs: f.runs,
+        done: f.done,
+    }
+}
+
+fn with_frame<C: Copy, D, O: Copy, P>(
+    b: BurstOf<C, O>,
+    frame: FrameOf<D>,
+    out_ook: P,
+    out_fsk: P,
+) -> BurstOf<D, P>
+    ensures { result ≡ with_frame frame out_ook out_fsk b }
+{
+    BurstOf {
+        high: b.high,
+        e_prev: b.e_prev,
+        env: b.env,
+        pac: b.pac,
+        train: b.train,
+        out_ook,
+        frames: b.frames,
+        pres: b.pres,
+        frame,
+        out_fsk,
     }
 }
 
 fn core_burst(b: Burst) -> BurstCore
     ensures { with_serials b.out_ook.serial b.out_fsk.serial (whole_burst b.frame.cand.cand_f result) ≡ b }
 {
-    let env = b.env;
-    let pac = b.pac;
-    let train = b.train;
-    let pres = b.pres;
-    let f = b.frame;
-    let o = b.out_ook;
-    let g = b.out_fsk;
-    let frame = core_frame(f);
-    let out_ook = shared::core_out(o);
-    let out_fsk = shared::core_out(g);
-    BurstCore {
-        high: b.high,
-        e_prev: b.e_prev,
-        env,
-        pac,
-        train,
-        out_ook,
-        frames: b.frames,
-        pres,
-        frame,
-        out_fsk,
-    }
+    let cand = CandCore {
+        cand_before: b.frame.cand.cand_before,
+        fsk_cand: b.frame.cand.fsk_cand,
+    };
+    with_frame(
+        b,
+        with_cand(b.frame, cand),
+        shared::core_out(b.out_ook),
+        shared::core_out(b.out_fsk),
+    )
 }
 
 // The core of a lane: with the lane's arrays it joins to that lane, whose records then have the lane's serial.
 pub fn core_of(l: Lane) -> Core
     ensures { (re im : List Float) → zip_of re im ≡ l.lead.lead_x → joined_of result l.lead.lead_e re im l.ring l.burst.frame.cand.cand_f ≡ stamp_of l.serial l }
 {
-    let settings = l.settings;
-    let x_prev = l.x_prev;
-    let b = l.burst;
-    let burst = core_burst(b);
     Core {
         opened: l.opened,
-        settings,
+        settings: l.settings,
         phase: l.phase,
         last: l.last,
-        x_prev,
+        x_prev: l.x_prev,
         lead_at: l.lead.lead_at,
         lead_n: l.lead.lead_n,
-        burst,
+        burst: core_burst(l.burst),
         serial: l.serial,
     }
 }
 
-fn envelopes_of(d: Lead) -> [f32; 16]
-    ensures { (result ≡ d.lead_e) × (length result ≡ 16) }
-{
-    d.lead_e
-}
-
-// The arrays of the lead-in: its envelopes, and the real and the imaginary parts of its samples.
+// The envelopes of the lead-in.
 pub fn envelopes(l: Lane) -> [f32; 16]
     ensures { (result ≡ l.lead.lead_e) × (length result ≡ 16) }
 {
-    let d = l.lead;
-    envelopes_of(d)
+    l.lead.lead_e
 }
 
-fn reals_of(xs: [C32; 17]) -> [f32; 17]
-    ensures { (result ≡ reals_of xs) × (length result ≡ 17) }
+// The real and the imaginary parts of its samples, in one pass over them. By `map` twice, here and below, a call of an
+// OOK stream takes 410 instructions in place of 400, and one of an FSK stream 640 in place of 632.
+pub fn parts(l: Lane) -> ([f32; 17], [f32; 17])
+    ensures { (result.0 ≡ reals_of l.lead.lead_x) × (result.1 ≡ imaginaries_of l.lead.lead_x) × (length result.0 ≡ 17) × (length result.1 ≡ 17) }
 {
-    let mut r = [0.0f32; 17];
-    let mut i: usize = 0;
-    while i < 17 {
-        r[i] = xs[i].re;
-        i = i + 1;
+    let mut re = [0.0; 17];
+    let mut im = [0.0; 17];
+    for (i, x) in l.lead.lead_x.iter().enumerate() {
+        re[i] = x.re;
+        im[i] = x.im;
     }
-    r
+    (re, im)
 }
 
-fn imaginaries_of(xs: [C32; 17]) -> [f32; 17]
-    ensures { (result ≡ imaginaries_of xs) × (length result ≡ 17) }
-{
-    let mut r = [0.0f32; 17];
-    let mut i: usize = 0;
-    while i < 17 {
-        r[i] = xs[i].im;
-        i = i + 1;
-    }
-    r
-}
-
+// The real parts alone.
 pub fn reals(l: Lane) -> [f32; 17]
     ensures { (result ≡ reals_of l.lead.lead_x) × (length result ≡ 17) }
 {
-    let xs = l.lead.lead_x;
-    reals_of(xs)
+    parts(l).0
 }
 
+// The imaginary parts alone.
 pub fn imaginaries(l: Lane) -> [f32; 17]
     ensures { (result ≡ imaginaries_of l.lead.lead_x) × (length result ≡ 17) }
 {
-    let xs = l.lead.lead_x;
-    imaginaries_of(xs)
+    parts(l).1
 }
 
+// Not by `std::array::from_fn`: tried, its contract tells each element by a call of the closure in some state, and that this state has
+// the two arrays was not proved.
 fn pairs_of(re: [f32; 17], im: [f32; 17]) -> [C32; 17]
     ensures { result ≡ zip_of re im }
 {
-    let mut r = [C32 { re: 0.0, im: 0.0 }; 17];
-    let mut i: usize = 0;
-    while i < 17 {
-        let x = C32 {
-            re: re[i],
-            im: im[i],
-        };
-        r[i] = x;
-        i = i + 1;
+    let mut xs = [C32::default(); 17];
+    for (i, x) in re.iter().enumerate() {
+        xs[i] = C32 { re: *x, im: im[i] };
     }
-    r
-}
-
-fn whole_frame(f: FrameCore, cs: [f32; 8]) -> Frame
-    ensures { result ≡ whole_frame cs f }
-{
-    let tone = f.tone;
-    let mean = f.mean;
-    let early = f.early;
-    let levels = f.levels;
-    let runs = f.runs;
-    let done = f.done;
-    Frame {
-        tone,
-        fsk_phase: f.fsk_phase,
-        mean,
-        cand: Cand {
-            cand_f: cs,
-            cand_before: f.cand.cand_before,
-            fsk_cand: f.cand.fsk_cand,
-        },
-        early,
-        levels,
-        runs,
-        done,
-    }
+    xs
 }
 
 fn whole_burst(b: BurstCore, cs: [f32; 8], serial: u64) -> Burst
     ensures { result ≡ with_serials serial serial (whole_burst cs b) }
 {
-    let env = b.env;
-    let pac = b.pac;
-    let train = b.train;
-    let pres = b.pres;
-    let f = b.frame;
-    let o = b.out_ook;
-    let g = b.out_fsk;
-    let frame = whole_frame(f, cs);
-    let out_ook = shared::whole_out(o, serial);
-    let out_fsk = shared::whole_out(g, serial);
-    Burst {
-        high: b.high,
-        e_prev: b.e_prev,
-        env,
-        pac,
-        train,
-        out_ook,
-        frames: b.frames,
-        pres,
-        frame,
-        out_fsk,
-    }
+    let cand = Cand {
+        cand_f: cs,
+        cand_before: b.frame.cand.cand_before,
+        fsk_cand: b.frame.cand.fsk_cand,
+    };
+    with_frame(
+        b,
+        with_cand(b.frame, cand),
+        shared::whole_out(b.out_ook, serial),
+        shared::whole_out(b.out_fsk, serial),
+    )
 }
 
 // The lane that a core and its arrays stand for.
@@ -290,25 +240,20 @@ pub fn joined(
 ) -> Lane
     ensures { result ≡ joined_of c es re im ring cs }
 {
-    let settings = c.settings;
-    let x_prev = c.x_prev;
-    let b = c.burst;
-    let burst = whole_burst(b, cs, c.serial);
-    let lead_x = pairs_of(re, im);
     Lane {
         opened: c.opened,
-        settings,
+        settings: c.settings,
         phase: c.phase,
         last: c.last,
-        x_prev,
+        x_prev: c.x_prev,
         lead: Lead {
             lead_at: c.lead_at,
             lead_n: c.lead_n,
             lead_e: es,
-            lead_x,
+            lead_x: pairs_of(re, im),
         },
         ring,
-        burst,
+        burst: whole_burst(c.burst, cs, c.serial),
         serial: c.serial,
     }
 }
@@ -317,11 +262,7 @@ pub fn joined(
 fn clear_core(b: BurstCore) -> BurstCore
     ensures { (cs : List Float) → whole_burst cs result ≡ cleared_of (whole_burst cs b) }
 {
-    let o = lane::no_core_out();
-    let mut n = b;
-    n.out_ook = o;
-    n.out_fsk = o;
-    n
+    lane::with_records(b, lane::no_core_out())
 }
 
 // The sample joins the lead-in.
@@ -341,7 +282,6 @@ fn lead_add(
         es[i] = e;
         re[i + 1] = x.re;
         im[i + 1] = x.im;
-        return n.wrapping_add(1);
     }
     n.wrapping_add(1)
 }
@@ -350,15 +290,37 @@ fn lead_add(
 fn at_of(c: Core, s: StepArgs) -> At
     ensures { result ≡ at_call c.lead_at c.x_prev s }
 {
-    let x = s.x;
-    let xp = c.x_prev;
     At {
         idx: s.index,
         lead_at: c.lead_at,
         noise: s.noise,
         e: s.envelope,
-        x,
-        xp,
+        x: s.x,
+        xp: c.x_prev,
+    }
+}
+
+// What the i-th sample of a call reads: of the lead-in where it is replayed, and else the one of the call.
+#[tactic(auto, unfolding(burst::specs::Core::at_in_of))]
+fn at_in(replays: bool, q: At, i: usize, es: &[f32; 16], re: &[f32; 17], im: &[f32; 17]) -> At
+    requires { i < 16 }
+    ensures { result ≡ at_in_of replays q es.now re.now im.now i }
+{
+    if !replays {
+        return q;
+    }
+    At {
+        idx: q.lead_at.wrapping_add(i as u64),
+        e: es[i],
+        x: C32 {
+            re: re[i + 1],
+            im: im[i + 1],
+        },
+        xp: C32 {
+            re: re[i],
+            im: im[i],
+        },
+        ..q
     }
 }
 
@@ -367,13 +329,15 @@ fn first_burst(lead_at: u64, es: &[f32; 16], n: usize, b: BurstCore) -> BurstCor
     requires { n ≤ 16 }
     ensures { (cs : List Float) → whole_burst cs result ≡ begin_burst_of (largest_of es.now n) (of_int binary64 (pos lead_at)) (get_or es.now 0 nan) (whole_burst cs b) }
 {
-    let high = burst::largest(es, n);
-    let t = arith::u64_to_f64(lead_at);
-    burst::begin_burst(high, t, es[0], b)
+    burst::begin_burst(
+        burst::largest(&es[..n]),
+        std::num::nearest_u64_to_f64(lead_at),
+        es[0],
+        b,
+    )
 }
 
-// A step of the core, where refusal 4 does not apply. Its ways meet again, so that `samples` is called in one place and the
-// core returned in one: with a return on each way a step takes half as long again, with two calls twice as long.
+// A step of the core, where refusal 4 does not apply.
 pub fn step_core(
     c: Core,
     s: StepArgs,
@@ -389,68 +353,72 @@ pub fn step_core(
     ensures { ((answer_of result.reply (joined_of result.core es.new re.new im.new ring.new cs.new), ook.new, fsk.new) ≡ stepped_by (step_refusal_by true c.settings c.phase c.last s (length ook.old) (length fsk.old)) (joined_of c es.old re.old im.old ring.old cs.old) s ook.old fsk.old) × (length es.new ≡ length es.old) × (length re.new ≡ length re.old) × (length im.new ≡ length im.old) }
 {
     let p = c.settings;
-    let asked = step_refusal(true, p, c.phase, c.last, s, ook.len(), fsk.len());
-    let mut reply = asked.and(Ok(Next::Stay));
-    let mut m = c;
-    if reply.is_ok() {
-        ring_put(ring, s.index, s.envelope);
-        let q = at_of(c, s);
-        let x = s.x;
-        let old = c.burst;
-        let clear = clear_core(old);
-        m.last = s.index;
-        m.x_prev = x;
-        m.burst = clear;
-        m.serial = c.serial + 1;
-        let leads = c.phase == 1;
-        let mut n: usize = 1;
-        if leads {
-            let have = lead_add(c.lead_n, s.envelope, x, es, re, im);
-            m.lead_n = have;
-            let len = arith::lead_len(p.min_steps);
-            let fills = have < len;
-            n = 0;
-            if !fills {
-                n = len as usize;
-                let first = first_burst(c.lead_at, es, n, clear);
-                m.burst = first;
-            }
-        }
-        let due = n != 0;
-        if due {
-            let b = m.burst;
-            let w = burst::samples(p, leads, q, n, es, re, im, ring, b, cs, ook, fsk);
-            let next = w.next;
-            let wb = w.burst;
-            m.burst = wb;
-            m.phase = phase_of(next);
-            reply = Ok(next);
-        }
+    if let Err(k) = core_refusal(p, c.phase, c.last, s, ook.len(), fsk.len()) {
+        return CoreAnswer {
+            reply: Err(k),
+            core: c,
+        };
     }
-    CoreAnswer { reply, core: m }
+    ring_put(ring, s.index, s.envelope);
+    let mut m = Core {
+        last: s.index,
+        x_prev: s.x,
+        burst: clear_core(c.burst),
+        serial: c.serial + 1,
+        ..c
+    };
+    let leads = c.phase == 1;
+    let mut n = 1;
+    if leads {
+        m.lead_n = lead_add(c.lead_n, s.envelope, s.x, es, re, im);
+        let len = arith::lead_len(p.min_steps);
+        if m.lead_n < len {
+            return CoreAnswer {
+                reply: Ok(Next::Stay),
+                core: m,
+            };
+        }
+        n = len as usize;
+        m.burst = first_burst(c.lead_at, es, n, m.burst);
+    }
+    let q = at_of(c, s);
+    let read = |i: usize| at_in(leads, q, i, es, re, im);
+    let w = burst::samples(p, read, n, ring, m.burst, cs, ook, fsk);
+    CoreAnswer {
+        reply: Ok(w.next),
+        core: Core {
+            phase: phase_of(w.next),
+            burst: w.burst,
+            ..m
+        },
+    }
 }
 
 // Step: one sample of the lead or of the burst.
-#[tactic(auto, unfolding(lane::specs::Step::stepped, lane::specs::Refusals::step_refusal))]
+#[tactic(auto, unfolding(lane::specs::Step::stepped))]
 pub fn step(l: Lane, s: StepArgs, ook: &mut [u32], fsk: &mut [u32]) -> Answer
     ensures { (result, ook.new, fsk.new) ≡ stepped l s ook.old fsk.old }
 {
-    let p = l.settings;
-    let sound = lane::lane_ok(l);
-    if let Err(k) = step_refusal(sound, p, l.phase, l.last, s, ook.len(), fsk.len()) {
+    if let Err(k) = step_refusal(l, s, ook.len(), fsk.len()) {
         return lane::refused(l, k);
     }
-    let c = core_of(l);
     let mut es = envelopes(l);
-    let mut re = reals(l);
-    let mut im = imaginaries(l);
+    let (mut re, mut im) = parts(l);
     let mut ring = l.ring;
     let mut cs = l.burst.frame.cand.cand_f;
     let a = step_core(
-        c, s, &mut es, &mut re, &mut im, &mut ring, &mut cs, ook, fsk,
+        core_of(l),
+        s,
+        &mut es,
+        &mut re,
+        &mut im,
+        &mut ring,
+        &mut cs,
+        ook,
+        fsk,
     );
-    let reply = a.reply;
-    let core = a.core;
-    let lane = joined(core, es, re, im, ring, cs);
-    Answer { reply, lane }
+    Answer {
+        reply: a.reply,
+        lane: joined(a.core, es, re, im, ring, cs),
+    }
 }

@@ -11,7 +11,7 @@ use lib.ListN.{length, take, drop, length-drop}
 use lib.Dec.{eqb}
 use borrow.Author.Tests.{eqb-false, eq-eqb}
 use Rattle.stream.specs.Machine.{Machine, May, Orderly, listed, printed_of}
-use Rattle.stream.specs.Blocks.{Blocks, none, more, Over}
+use Rattle.stream.specs.Blocks.{is_over, Blocks, none, more, Over}
 
 onward : (b : Bool) (x y : List ℕ) → (b ≡ false → x ≡ y) → cond b [] x ≡ cond b [] y
 onward true x y h = refl
@@ -51,8 +51,8 @@ module _ (M : Machine) (O : Orderly M) where
       → w ++ cond ended [] (printed_of M q (v ++ t)) ≡ printed_of M p (u ++ t)
   blocks_print none t may = refl
   blocks_print {p = p} (more {q = q} {o = o} {u = u} {w = w} {v = v} {c = c} {x = x} {y = y} {last = last} {end = end} {r = r} before came on block left) t may =
-      append_assoc w (take r.at y) (cond r.ended [] (printed_of M o (x ++ t)))
-      ∙ ap (λ (z : List ℕ). w ++ (take r.at y ++ cond r.ended [] (printed_of M o (z ++ t)))) left
+      append_assoc w (take r.at y) (cond (is_over r.stop) [] (printed_of M o (x ++ t)))
+      ∙ ap (λ (z : List ℕ). w ++ (take r.at y ++ cond (is_over r.stop) [] (printed_of M o (z ++ t)))) left
       ∙ ap (λ (z : List ℕ). w ++ z) (block.printed t may ∙ ap (printed_of M q) (append_assoc v c t))
       ∙ blocks_print before (c ++ t) (may_both last end c t came on may)
       ∙ ap (printed_of M p) (sym (append_assoc u c t))

@@ -1,4 +1,3 @@
-pub mod Others
 pub mod Lifted
 pub mod Examples
 pub mod Laws

@@ -1,5 +1,5 @@
 -- The rule of the table (document 02, R-7): "for i from 256 to 1,023, each the largest whole number whose square is at most 64 × i". Definitions only.
-use Rattle.std.specs.Prelude.{ℕ, zero, suc, ◌+◌, ◌*◌, ◌/◌, ◌%◌, ◌≤◌, ◌<◌, Bool, true, false, ◌&&◌, cond, T, leb, ltb, eqb}
+use Rattle.std.specs.Prelude.{ℕ, zero, suc, ◌+◌, ◌*◌, ◌≤◌, ◌<◌, Bool, true, false, ◌&&◌, cond, List, [], ◌∷◌, leb, ltb}
 
 -- r is the largest whole number whose square is at most n
 abbrev pub IsLargest : ℕ → ℕ → Type 0
@@ -29,21 +29,10 @@ unfoldable pub entry_of : ℕ → ℕ
 unfolding largest
 entry_of i = cond (has_entry i) (rule_of i) 0
 
--- ---- the table as the code has it, eight entries to a word
+-- ---- the rule as a test, at one number and at each of a list, the first of them the entry of i
+abbrev pub is_ruled : ℕ → ℕ → Bool
+is_ruled i r = leb (r * r) (64 * i) && ltb (64 * i) ((r + 1) * (r + 1))
 
--- the rule as a test
-abbrev pub entry_ruled : ℕ → ℕ → Bool
-entry_ruled i r = leb (r * r) (64 * i) && ltb (64 * i) ((r + 1) * (r + 1))
-
--- the test at the lowest k bytes of w, the first of them the entry of i
-unfoldable pub bytes_ruled : ℕ → ℕ → ℕ → Bool
-bytes_ruled zero i w = true
-bytes_ruled (suc k) i w = entry_ruled i (w % 256) && bytes_ruled k (suc i) (w / 256)
-
--- and at the eight bytes of the word j, which is 0 where there are no entries
-abbrev pub word_ruled : ℕ → ℕ → Bool
-word_ruled j w = cond (leb 32 j && ltb j 128) (bytes_ruled 8 (8 * j) w) (eqb w 0)
-
--- w is the word j
-pub record Word (j w : ℕ) : Type 0 where
-  pub ruled : T (word_ruled j w)
+unfoldable pub all_ruled : ℕ → List ℕ → Bool
+all_ruled i [] = true
+all_ruled i (r ∷ rs) = is_ruled i r && all_ruled (suc i) rs

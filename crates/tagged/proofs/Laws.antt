@@ -7,7 +7,7 @@ use Rattle.shared.specs.declared.Next.{Next}
 use Rattle.lines.specs.Line.{decimal, after_tag, tagged_call}
 use Rattle.tagged.specs.Tagged.{tag_of, tagged, tagged_text}
 
-line_is : (i : ℕ) (l : List ℕ) → after_tag (tag_of i) l ≡ tagged i l
+pub line_is : (i : ℕ) (l : List ℕ) → after_tag (tag_of i) l ≡ tagged i l
 unfolding after_tag tagged
 line_is i [] = refl
 line_is i (b ∷ l) = append_assoc (decimal i) (32 ∷ []) (b ∷ l)

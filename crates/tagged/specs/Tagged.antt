@@ -7,13 +7,13 @@ use Rattle.lines.specs.Line.{decimal, call_text, call_room}
 abbrev pub tag_of : ℕ → List ℕ
 tag_of i = decimal i ++ (32 ∷ [])
 
--- a line after the number i and a blank; where there is no line, nothing
+-- a line after the number i and a blank; where there is no line, nothing: `after_tag (tag_of i)`, as `line_is` of proofs/Laws proves
 unfoldable pub tagged : ℕ → List ℕ → List ℕ
 tagged i [] = []
 tagged i (b ∷ l) = decimal i ++ (32 ∷ b ∷ l)
 
 -- The lines of a call by its reply, the lines of its two records and the index of its phase line: `fsk`, `ook`, phase. A refused call has its number
--- alone. Without records `call_text` is the phase line, or that of the refusal.
+-- alone. Without records `call_text` is the phase line, or that of the refusal. It is `tagged_call (tag_of i)`, as `text_is` there proves.
 unfoldable pub tagged_text : ℕ → Result Next ℕ → List ℕ → List ℕ → ℕ → List ℕ
 tagged_text i r f o index = cond (is_err r) [] (tagged i f ++ tagged i o) ++ tagged i (call_text r [] index)
 

@@ -10,15 +10,16 @@ ghost use Rattle.tagged.specs.Tagged.{tag_of, tagged_text};
 use lines::Text;
 use shared::{Next, Out};
 
-// Puts the antenna's number and a blank at the start of out, and answers how long they are.
-fn put_tag(i: usize, out: &mut [u8]) -> usize
-    requires { 21 ≤ length out.old }
-    ensures { (result ≤ 21) × (result ≤ length out.new) × (take result out.new ≡ tag_of i) }
+// The antenna's number and a blank, put at the start of `room`.
+fn tag(i: usize, room: &mut [u8]) -> &[u8]
+    requires { 21 ≤ length room.old }
+    ensures { (length result.now ≤ 21) × (result.now ≡ tag_of i) }
 {
-    let mut t = Text::new(out, 0);
+    let mut t = Text::new(room, 0);
     t.put_decimal(i as u64);
     t.put_byte(b' ');
-    t.at
+    let end = t.at;
+    &room[..end]
 }
 
 // Writes the lines of a call: the records and then the phase line; a refused call has its number
@@ -36,7 +37,5 @@ pub fn put_call(
     requires { RoomFor (train_room (length fs.now) + train_room (length os.now) + 48 + 63) text.old }
     ensures { Puts (tagged_text i r (record_line f fs.now) (record_line o os.now) index) (train_room (length fs.now) + train_room (length os.now) + 48 + 63) text.old text.new }
 {
-    let mut tag = [0u8; 21];
-    let n = put_tag(i, &mut tag);
-    text.put_call(&tag[..n], r, f, fs, o, os, index);
+    text.put_call(tag(i, &mut [0u8; 21]), r, f, fs, o, os, index);
 }

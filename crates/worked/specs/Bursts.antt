@@ -9,8 +9,8 @@ use Rattle.arith.specs.Leaves.{abs_of, midpoint_of, flush_of, cross_of, nearest_
 use Rattle.arith.specs.Carry.{width_by, carried_at, bound_of}
 use Rattle.shared.specs.Counts.{sat_add_of, inc}
 use Rattle.ook.specs.Refine.{refine_level_of, refine_lo_of, excess_of, split_from, refine_in_of, refine_of}
-use Rattle.run.specs.Run.{begins_of, lengthen_of, rejoin_of, begin_run_of, moved_of, due_of, start_run_of}
-use Rattle.ook.specs.Run.{advance_of as advance_run_of, zero_if, pac_run_of, begin_env_of}
+use Rattle.run.specs.Run.{lengthen_of, rejoin_of, begin_run_of, due_of, start_run_of}
+use Rattle.ook.specs.Run.{advance_of as advance_run_of, zero_if, begin_env_of}
 use Rattle.ook.specs.Train.{push_pulse_of, close_gap_of, empty_train_of, finish_of, end_train_of, pulse_done_of, gap_ratio_exceeded_of}
 use Rattle.envelope.specs.Act.{confirm_if, rise_of, fall_of, confirm_of, act_of}
 use Rattle.envelope.specs.See.{threshold_of, on_of, refine_due_of, high_of, pac_of, see_of}
@@ -92,5 +92,5 @@ burst_with e es = burst_by 1000 4 e es
 
 -- what is printed of commands, with the program's buffers
 unfoldable pub printed : List ℕ → List ℕ
-unfolding listed printed_of called answer_text decoded settings_of carry_settings_of begin_args_of step_args_of history_bytes u32_at u64_at encode call_text record_line train_line widths idle_line carrier_line refused_line decimal leading hex8 snap_of near_start_of round_of narrow_of whole_root round_exact exact_of sqrt_of abs_of midpoint_of flush_of cross_of nearest_in width_by carried_at bound_of sat_add_of inc refine_level_of refine_lo_of excess_of split_from refine_in_of refine_of lengthen_of rejoin_of begin_run_of moved_of start_run_of begins_of advance_run_of zero_if pac_run_of begin_env_of push_pulse_of close_gap_of empty_train_of finish_of end_train_of pulse_done_of gap_ratio_exceeded_of due_of confirm_if rise_of fall_of confirm_of act_of threshold_of on_of refine_due_of high_of pac_of see_of carrier_of gone_of has_pulses_of gap_over_of wait_of tail_of lead_add_of largest_from begin_burst_of lead_at_of replay_from replay_of lead_full_of snap_if_of last_of rest_of sample_of settings_ok unset_ok first_failed frame_ok burst_ok lead_ok cand_ok settle_of fill_of replay_step lead_step burst_step advance_of phase_of history_of begin_lead_of cleared_of lead_lane no_burst idle_lane front named_of part_of opened_ok lane_ok history_ok begin_floats_ok step_floats_ok follows_of open_refusal begin_refusal step_refusal close_refusal stamp_of idle_with end_burst_of close_of new_lane opened begun stepped closed add sub mul div neg lt le eq of_bits to_bits of_int to_unsigned is_nan
+unfolding listed printed_of called answer_text decoded settings_of carry_settings_of begin_args_of step_args_of history_bytes u32_at u64_at encode call_text record_line train_line widths idle_line carrier_line refused_line decimal leading hex8 snap_of near_start_of round_of narrow_of whole_root round_exact exact_of sqrt_of abs_of midpoint_of flush_of cross_of nearest_in width_by carried_at bound_of sat_add_of inc refine_level_of refine_lo_of excess_of split_from refine_in_of refine_of lengthen_of rejoin_of begin_run_of start_run_of advance_run_of zero_if begin_env_of push_pulse_of close_gap_of empty_train_of finish_of end_train_of pulse_done_of gap_ratio_exceeded_of due_of confirm_if rise_of fall_of confirm_of act_of threshold_of on_of refine_due_of high_of pac_of see_of carrier_of gone_of has_pulses_of gap_over_of wait_of tail_of lead_add_of largest_from begin_burst_of lead_at_of replay_from replay_of lead_full_of snap_if_of last_of rest_of sample_of settings_ok unset_ok first_failed frame_ok burst_ok lead_ok cand_ok settle_of fill_of replay_step lead_step burst_step advance_of phase_of history_of begin_lead_of cleared_of lead_lane no_burst idle_lane front named_of part_of opened_ok lane_ok history_ok begin_floats_ok step_floats_ok follows_of open_refusal begin_refusal step_refusal close_refusal stamp_of idle_with end_burst_of close_of new_lane opened begun stepped closed add sub mul div neg lt le eq of_bits to_bits of_int to_unsigned is_nan
 printed commands = listing (new_lane, replicate 4096 0, replicate 4096 0) commands

@@ -1,9 +1,10 @@
 use Prim.Native.Nat.{ℕ, ◌<◌, ◌≤◌}
-use mathlib.Core.Path.{◌≡◌, ap, ◌∙◌}
+use mathlib.Core.Path.{◌≡◌, refl, ap, ◌∙◌}
 use mathlib.Core.List.{List, ◌∷◌}
 use lib.ListN.{length, get_or, drop}
 use borrow.Author.Tests.{lt-ltb, le-ltb}
 use Rattle.commands.specs.Command.{decoded}
+use Rattle.commands.proofs.Rest.{rest_all, got_or}
 use Rattle.addressed.specs.Addressed.{without_antenna, addressed_of}
 use Rattle.addressed.proofs.command_at.Goals as goal
 
@@ -18,8 +19,8 @@ enough u o v e q h = simp (← e, q, le-ltb (length u) 2 h)
 pub returns-then-u-lt2 : goal.returns-then-u-lt2
 returns-then-u-lt2 c =
     c.without_antenna.ensures ∙ ap without_antenna c.decode_at.ensures
-    ∙ few _ _ c.after-u.ensures c.if-u-lt2.true
+    ∙ few _ _ (got_or c.args.s.now c.args.at _ _ _ c.get.ensures.lookup c.unwrap_or-u.ensures refl) c.if-u-lt2.true
 
 pub returns : goal.returns
 returns c =
-    c.decode_by.ensures ∙ enough _ _ _ c.after-u.ensures c.after.ensures c.if-u-lt2.false
+    c.decode_by.ensures ∙ enough _ _ _ (got_or c.args.s.now c.args.at _ _ _ c.get.ensures.lookup c.unwrap_or-u.ensures refl) (rest_all _ 2) c.if-u-lt2.false

@@ -1,6 +1,5 @@
 use Rattle.std.proofs.Common.{ℕ, Bool, true, false, cond, not, ◌≡◌, refl}
 use lib.Dec.{eqb}
-use Rattle.lane.specs.declared.Lane.{Lane}
 use Rattle.among.specs.Among.{out_of}
 use Rattle.among.proofs.is_out.Goals as goal
 

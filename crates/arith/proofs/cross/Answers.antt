@@ -9,7 +9,3 @@ use Rattle.arith.proofs.cross.Goals as goal
 pub returns-then-abs : goal.returns-then-abs
 unfolding cross_of
 returns-then-abs c = simp (← c.abs.ensures, c.if-abs.true, ← c.widen.ensures ∙ widen_keeps _ (div-fits binary32 _ _)) c.clamp.ensures.value
-
-pub returns-else-abs : goal.returns-else-abs
-unfolding cross_of
-returns-else-abs c = simp (← c.abs.ensures, c.if-abs.false)

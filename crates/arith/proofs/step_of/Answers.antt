@@ -3,4 +3,4 @@ use Rattle.arith.proofs.Cast.{cast_of_round}
 use Rattle.arith.proofs.step_of.Goals as goal
 
 pub returns : goal.returns
-returns c = cast_of_round 64 c.args.t c.well_formed.0.1 c.round.ensures c.to_u64.ensures
+returns c = cast_of_round 64 c.args.t c.well_formed.0.1 c.round.ensures c.saturating_f64_to_u64.ensures

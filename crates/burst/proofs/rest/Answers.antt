@@ -1,7 +1,8 @@
 -- The code takes presence first, in OOK mode none, and then the end of the burst in one place; the
 -- definition has the end twice, in OOK mode and after presence: `rest_beside`, by the mode.
-use Rattle.std.proofs.Common.{◌≡◌, ℕ, Bool, true, false, cond, eqb, List, refl, arith}
+use Rattle.std.proofs.Common.{◌≡◌, ℕ, Bool, true, false, cond, eqb, List, refl}
 use lib.Ieee.{Float}
+use borrow.Author.Tests.{not-true, not-false}
 use Rattle.shared.specs.Answers.{is_stay_of}
 use Rattle.shared.specs.declared.Settings.{Settings}
 use Rattle.ook.specs.Types.{Done}
@@ -39,14 +40,8 @@ module _ (p : Settings) (a : At) (ep : Float) (s : Seen) (b : Burst) (ook fsk : 
   rest_ends : (w, ook₁, fsk₁) ≡ beside_of p a ep s b ook fsk → stay ≡ is_stay_of w.next → stay ≡ false → (w, ook₁, fsk₁) ≡ rest_of p a ep s b ook fsk
   rest_ends e₁ e₂ e₃ = simp (rest_beside p a ep s b ook fsk, ← e₁, ← e₂, e₃)
 
-pub returns-then-stay : goal.returns-then-stay
-returns-then-stay c = rest_stays _ _ _ _ _ _ _ _ _ _ _ _ _ _ c.present-w.ensures c.is_stay-stay.ensures c.if-stay.true c.tail-d.ensures (c.with_done.ensures _)
-
-pub shape_of-ook-then-stay : goal.shape_of-ook-then-stay
-shape_of-ook-then-stay c = omega (arith, c.tail-d.auto.ook, c.present-w.auto.ook)
-
-pub shape_of-fsk-then-stay : goal.shape_of-fsk-then-stay
-shape_of-fsk-then-stay c = omega (arith, c.present-w.auto.fsk)
+pub returns-then-not-is_stay : goal.returns-then-not-is_stay
+returns-then-not-is_stay c = rest_ends _ _ _ _ _ _ _ _ _ _ _ c.present-w.ensures c.is_stay.ensures (not-true _ c.if-not-is_stay.true-raw)
 
 pub returns : goal.returns
-returns c = rest_ends _ _ _ _ _ _ _ _ _ _ _ c.present-w.ensures c.is_stay-stay.ensures c.if-stay.false
+returns c = rest_stays _ _ _ _ _ _ _ _ _ _ _ _ _ _ c.present-w.ensures c.is_stay.ensures (not-false _ c.if-not-is_stay.false-raw) c.tail-d.ensures (c.with_done.ensures _)

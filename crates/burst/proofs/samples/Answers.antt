@@ -1,7 +1,6 @@
 -- By its loop's law, what is left from here gives the whole. An end stays the end (`samples_stop`), so that
 -- the loop may stop there.
 use Rattle.std.proofs.Common.{◌≡◌, ℕ, zero, suc, ◌+◌, ◌-◌, ◌<◌, ◌≤◌, true, false, List, sym, refl, ap, ◌∙◌, arith, rules}
-use native.Mathlib.Nat.{sub-zero}
 use lib.Ieee.{Float}
 use borrow.Author.Tests.{not-true, not-false}
 use Rattle.shared.specs.Answers.{is_stay_of}
@@ -12,6 +11,7 @@ use Rattle.burst.specs.Lead.{onward}
 use Rattle.burst.specs.Core.{samples_from}
 use Rattle.burst.specs.Types.{Sampled}
 use Rattle.burst.proofs.samples.Goals as goal
+use Rattle.burst.proofs.samples.Goals.{else-loop-i-test, then-loop-i-test+then-not-is_stay}
 
 module _ (p : Settings) (at : ℕ → At) (ring : List Float) where
   -- an end stays the end
@@ -34,13 +34,20 @@ module _ (p : Settings) (at : ℕ → At) (ring : List Float) where
       ap (samples_from p at ring (n - (i + 1)) (i + 1)) (er ∙ ap (λ (x : At). sample_of p x ring s.0.burst s.1 s.2) ea ∙ sym one) ∙ rw e
 
 pub loop-i-preserved : goal.loop-i-preserved
-loop-i-preserved c = (samples_turn _ _ _ _ _ _ _ _ c.loop-i-test.true c.loop-i.invariant.1 c.at_in-a.ensures c.sample-r.ensures ∙ c.loop-i.invariant.0, sym c.is_stay-stay.ensures ∙ not-false _ c.if-not-stay.false-raw, search rules, search rules, search rules)
+loop-i-preserved g c = (
+  λ at reads. samples_turn _ _ _ _ _ _ _ _ c.loop-i-test.true c.loop-i.invariant.1 (reads _ _ c.loop-i-test.true c.read.ensures) c.sample-w.ensures ∙ c.loop-i.invariant.0 at reads,
+  sym c.is_stay.ensures ∙ not-false _ c.if-not-is_stay.false-raw,
+  search rules,
+  search rules,
+  search rules,
+)
 
-pub returns-then-not-stay : goal.returns-then-not-stay
-returns-then-not-stay c = sym (samples_stop _ _ _ _ _ _ (sym c.is_stay-stay.ensures ∙ not-true _ c.if-not-stay.true-raw)) ∙ samples_turn _ _ _ _ _ _ _ _ c.loop-i-test.true c.loop-i.invariant.1 c.at_in-a.ensures c.sample-r.ensures ∙ c.loop-i.invariant.0
-
-pub loop-i-init : goal.loop-i-init
-loop-i-init c = (simp sub-zero, refl, search rules, refl, refl)
-
-pub returns-after-loop-i : goal.returns-after-loop-i
-returns-after-loop-i c = sym (samples_end _ _ _ _ _ _ c.loop-i-test.false) ∙ c.loop-i.invariant.0
+pub returns : goal.returns
+returns g c = λ at reads. elim c.loop-i-test.branch [
+  | else-loop-i-test w ↦ rw (w.cs-is, w.ook-is, w.fsk-is, w.w-is) (sym (samples_end _ _ _ _ _ _ w.loop-i-test.false) ∙ c.loop-i.invariant.0 at reads)
+  | then-loop-i-test+then-not-is_stay w ↦
+      rw (w.cs-is, w.ook-is, w.fsk-is, w.w-is)
+      (sym (samples_stop _ _ _ _ _ _ (sym w.is_stay.ensures ∙ not-true _ w.if-not-is_stay.true-raw))
+      ∙ samples_turn _ _ _ _ _ _ _ _ w.loop-i-test.true c.loop-i.invariant.1 (reads _ _ w.loop-i-test.true w.read.ensures) w.sample-w.ensures
+      ∙ c.loop-i.invariant.0 at reads)
+]

@@ -6,7 +6,7 @@ use Rattle.exports.proofs.lane_buffers.Goals as goal
 
 pub returns : goal.returns
 returns c =
-    left_within _ _ _ _ _ _ _ _ _ c.new_lane-l.ensures c.block.ensures.streamed
+    left_within _ _ _ _ _ _ _ _ _ c.new_lane.ensures c.block.ensures.streamed
 
 pub block-requires : goal.block-requires
-block-requires c = subst Sound (sym c.new_lane-l.ensures) unopened
+block-requires c = subst Sound (sym c.new_lane.ensures) unopened

@@ -15,7 +15,3 @@ returns-then-eq c =
     let mean : option_map (of_bits binary64) c.map-2.result ≡ symbol_of c.args.mean.line = search rules in
     let alike : c.map.result ≡ c.map-2.result = search rules in
     c.requires ∙ same_second _ _ _ (sym mean ∙ sym (ap (option_map (of_bits binary64)) alike) ∙ first) ∙ ap (second_of _) c.fit_with-first.ensures
-
-pub returns : goal.returns
-unfolding grid_fit_of
-returns c = simp (← c.fit_with-first.ensures, ← c.second_fit.ensures)

@@ -1,19 +1,14 @@
--- From the end, the last rise below the index is the list's.
-use Rattle.std.proofs.Common.{rules}
-use Rattle.fit.proofs.Passes.{last_here, last_lower, last_none}
-use mathlib.Core.Path.{refl, ◌∙◌}
-use Rattle.fit.specs.Slots.{last_rise}
+use Prim.Native.Nat.{◌-◌}
+use lib.ListN.{get_or}
+use Rattle.std.proofs.Common.{rules, ◌<◌}
+use Rattle.fit.proofs.Backward.{Flat, last_from, found_last}
 use Rattle.fit.proofs.last_rise.Goals as goal
 
-pub loop-i-init : goal.loop-i-init
-unfolding last_rise
-loop-i-init c = refl
-
-pub returns-then-slots-i : goal.returns-then-slots-i
-returns-then-slots-i c = (last_here _ _ _ _ refl refl c.loop-i-test.true c.if-slots-i.true ∙ c.loop-i.invariant, search rules)
-
-pub loop-i-preserved : goal.loop-i-preserved
-loop-i-preserved c = last_lower _ _ _ _ refl refl c.loop-i-test.true c.if-slots-i.false ∙ c.loop-i.invariant
-
 pub returns : goal.returns
-returns c = (last_none _ _ c.loop-i-test.false ∙ c.loop-i.invariant, search rules)
+returns c =
+    let slots = c.args.slots.now in
+    let h = c.find.ensures.ran in
+    let z = last_from (Flat slots) h.0 c.rev.result _ _ _ c.find.result h.2 h.3 (λ x q k. search rules) in
+    let v = c.unwrap_or.result in
+    let rise : 0 < v → get_or slots (v - 1) 0 < get_or slots v 0 = search rules in
+    (found_last slots c.find.result v c.unwrap_or.ensures (rw c.rev.ensures.source at z) rise, search rules)

@@ -1,22 +1,13 @@
--- What is left of the fold at a slot is the whole fold: a slot that rises takes one call.
-use mathlib.Core.Path.{refl}
-use Rattle.fit.proofs.Passes.{left_start, left_call, left_rise, left_flat, left_end}
+-- A step that always gives a state is tried to the end.
+use Rattle.std.proofs.Common.{rules}
+use Rattle.fit.proofs.Passes.{always_callable, always_folded, always_some}
 use Rattle.fit.proofs.transitions.Goals as goal
-use Rattle.fit.proofs.transitions.Goals.{then-before-v, else-before-v}
 
-pub loop-v-init : goal.loop-v-init
-loop-v-init g c = left_start _ _ _ _ c.requires
+pub try_transitions-requires : goal.try_transitions-requires
+try_transitions-requires g c = always_callable (λ s x r h. search rules) (λ s x h. search rules) _ _ c.requires
 
-pub step-s-requires : goal.step-s-requires
-step-s-requires g c = left_call c.loop-v.invariant c.loop-v-test.true c.if-before-v.true c.time_of.ensures
-
-pub loop-v-preserved : goal.loop-v-preserved
-loop-v-preserved g c =
-    elim c.if-before-v.branch [
-      | then-before-v w ↦
-          rw (w.s-is, w.before-is) (left_rise c.loop-v.invariant c.loop-v-test.true w.if-before-v.true w.time_of.ensures w.step-s.ensures)
-      | else-before-v w ↦ rw (w.s-is, w.before-is) (left_flat c.loop-v.invariant c.loop-v-test.true w.if-before-v.false)
-    ]
+pub unwrap-requires : goal.unwrap-requires
+unwrap-requires g c = always_some (λ s x o h. search rules) _ _ _ c.try_transitions.ensures
 
 pub returns : goal.returns
-returns g c = left_end c.loop-v.invariant _ c.loop-v-test.false refl
+returns g c = always_folded (λ s x o h. search rules) _ _ _ c.try_transitions.ensures _ (search rules)

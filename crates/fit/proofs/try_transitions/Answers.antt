@@ -1,4 +1,4 @@
--- As in `transitions`; a call that gives none ends the walk.
+-- A slot that rises takes one call, and a call that gives none ends the walk.
 use Rattle.std.proofs.Common.{◌≡◌, None, rules}
 use mathlib.Core.Path.{refl}
 use Rattle.fit.proofs.Passes.{left_start, left_call, left_try, left_stop, left_flat, left_end}

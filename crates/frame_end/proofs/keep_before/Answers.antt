@@ -13,7 +13,7 @@ pub returns-then-s-limit : goal.returns-then-s-limit
 returns-then-s-limit c = sym (kept_over _ _ _ _ _ _ c.loop-k-test.true c.if-s-limit.true) ∙ c.loop-k.invariant
 
 pub loop-k-preserved : goal.loop-k-preserved
-loop-k-preserved c = sym (kept_next _ _ _ _ _ _ _ _ _ c.loop-k-test.true c.if-s-limit.false c.get-pulse.ensures c.gap_at-gap.ensures c.keep_next-s.ensures) ∙ c.loop-k.invariant
+loop-k-preserved c = sym (kept_next _ _ _ _ _ _ _ _ _ c.loop-k-test.true c.if-s-limit.false c.get.ensures c.gap_at.ensures c.keep_next-s.ensures) ∙ c.loop-k.invariant
 
 pub returns-after-loop-k : goal.returns-after-loop-k
 returns-after-loop-k c = sym (kept_end _ _ _ _ _ _ c.loop-k-test.false) ∙ c.loop-k.invariant

@@ -12,7 +12,7 @@ pub loop-v-preserved : goal.loop-v-preserved
 unfolding on_grid_of
 loop-v-preserved c =
     write_turn c.loop-v.invariant (place_of _) (λ (p q : Place). (width_of p.before q.before).0) (λ v vs. refl)
-    c.loop-v-test.true c.place_at-p.ensures (ap (λ (s : Steps). s.0) c.width.ensures)
+    c.loop-v-test.true c.place_after-p.ensures (ap (λ (s : Steps). s.0) c.width.ensures)
 
 pub returns : goal.returns
 unfolding on_grid_of

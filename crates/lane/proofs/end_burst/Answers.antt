@@ -26,4 +26,4 @@ end_is b n serial none e out ook ook' is_none ends is-out is-n =
     ∙ ap (λ (q : Ended × List ℕ). (with_serials serial serial (ended_by b q).0, (ended_by b q).1)) (ends ∙ ap (λ (o : Out). end_train_of b.train b.high o ook) is_none)
 
 pub returns : goal.returns
-returns c = end_is _ _ _ _ c.end_train-e.result _ _ _ c.no_core_out-none.ensures c.end_train-e.ensures c.whole_out-out.ensures c.clear_records-n.ensures
+returns c = end_is _ _ _ _ c.end_train-e.result _ _ _ c.no_core_out.ensures c.end_train-e.ensures c.whole_out.ensures c.clear_records.ensures

@@ -1,8 +1,6 @@
-use Rattle.lane.proofs.Refusals.{follows_back, follows_none}
+use mathlib.Core.Path.{◌∙◌}
+use Rattle.lane.proofs.Refusals.{follows_by}
 use Rattle.lane.proofs.follows.Goals as goal
 
-pub returns-then-index-eq0 : goal.returns-then-index-eq0
-returns-then-index-eq0 c = follows_none _ _ c.if-index-eq0.true
-
 pub returns : goal.returns
-returns c = follows_back _ _ c.if-index-eq0.false
+returns c = c.eq.ensures ∙ follows_by _ _ c.checked_sub.result c.checked_sub.ensures

@@ -1,17 +1,22 @@
--- The invariant: the turns that are left from step `below` give the whole split; a turn and the end are laws of RefineLaws.
-use Rattle.std.proofs.Common.{◌≡◌, ◌+◌, ◌-◌, ◌∙◌, sym, arith}
+-- The invariant: the turns that are left from step j give the whole split; a turn and the end are laws of RefineLaws.
+use Rattle.std.proofs.Common.{◌-◌, ◌∙◌, sym, arith}
 use Rattle.ook.proofs.RefineLaws.{split_better, split_worse, split_end}
+use Rattle.ook.proofs.best_split.Goals.{then-sum-best, else-sum-best}
 use Rattle.ook.proofs.best_split.Goals as goal
 
-pub loop-below-preserved-then-sum-best : goal.loop-below-preserved-then-sum-best
-loop-below-preserved-then-sum-best c =
-    let e : c.loop-below.below - 1 + 1 ≡ c.loop-below.below = omega arith in
-    rw e (split_better _ _ _ _ _ _ _ _ c.loop-below-test.true _ (rw e at c.excess-sum.ensures) c.if-sum-best.true ∙ c.loop-below.invariant)
-
-pub loop-below-preserved : goal.loop-below-preserved
-loop-below-preserved c =
-    let e : c.loop-below.below - 1 + 1 ≡ c.loop-below.below = omega arith in
-    split_worse _ _ _ _ _ _ _ _ c.loop-below-test.true _ (rw e at c.excess-sum.ensures) c.if-sum-best.false ∙ c.loop-below.invariant
+pub loop-j-preserved : goal.loop-j-preserved
+loop-j-preserved c =
+    elim c.if-sum-best.branch [
+      | then-sum-best w ↦ rw (w.best-is, w.split-is) (split_better _ _ _ _ _ _ _ _ (omega arith) _ c.excess-sum.ensures w.if-sum-best.true ∙ c.loop-j.invariant)
+      | else-sum-best w ↦ rw (w.best-is, w.split-is) (split_worse _ _ _ _ _ _ _ _ (omega arith) _ c.excess-sum.ensures w.if-sum-best.false ∙ c.loop-j.invariant)
+    ]
 
 pub returns : goal.returns
-returns c = sym (split_end _ _ _ _ _ _ _ _ c.loop-below-test.false) ∙ c.loop-below.invariant
+returns c = sym (split_end _ _ _ _ _ _ _ _ (omega arith)) ∙ c.loop-j.invariant
+
+pub returns-after-sum-best : goal.returns-after-sum-best
+returns-after-sum-best c =
+    elim c.if-sum-best.branch [
+      | then-sum-best w ↦ rw w.split-is (sym (split_end _ _ _ _ (c.loop-j.j - 1) _ _ _ (omega arith)) ∙ (split_better _ _ _ _ _ _ _ _ (omega arith) _ c.excess-sum.ensures w.if-sum-best.true ∙ c.loop-j.invariant))
+      | else-sum-best w ↦ rw w.split-is (sym (split_end _ _ _ _ (c.loop-j.j - 1) _ _ _ (omega arith)) ∙ (split_worse _ _ _ _ _ _ _ _ (omega arith) _ c.excess-sum.ensures w.if-sum-best.false ∙ c.loop-j.invariant))
+    ]

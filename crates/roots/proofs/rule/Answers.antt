@@ -1,15 +1,11 @@
-use Rattle.std.proofs.Common.{◌≡◌, ◌-◌, ◌*◌, ℕ, ◌∙◌, sym, ap, arith}
-use Rattle.table.specs.Rule.{largest}
-use Rattle.roots.proofs.Search.{largest_over, largest_found}
+use Rattle.std.proofs.Common.{ℕ, ◌+◌, ◌*◌, ◌<◌, ◌≤◌, ◌∙◌, arith, rules}
+use Rattle.std.proofs.lemmas.Iterator.{first_from_Range}
+use Rattle.table.proofs.Laws.{root_unique, rule_is}
+use Rattle.roots.proofs.Search.{first_over}
 use Rattle.roots.proofs.rule.Goals as goal
-
-pub returns-then-r-i : goal.returns-then-r-i
-returns-then-r-i c = sym (largest_found (c.loop-r.r - 1) _ c.if-r-i.true) ∙ c.loop-r.invariant
-
-pub loop-r-preserved : goal.loop-r-preserved
-loop-r-preserved c = sym (largest_over (c.loop-r.r - 1) _ c.if-r-i.false) ∙ c.loop-r.invariant
 
 pub returns : goal.returns
 returns c =
-    let e : c.loop-r.r - 1 ≡ 0 = omega arith in
-    sym (ap (λ (k : ℕ). largest k (64 * c.args.i)) e ∙ largest_found 0 _ (omega arith)) ∙ c.loop-r.invariant
+    let n = 64 * c.args.i in
+    let d = first_from_Range _ _ _ _ (λ r. n < (r + 1) * (r + 1)) (λ r. (r + 1) * (r + 1) ≤ n) c.find.ensures.ran (λ x q k. search rules) (λ x q k. search rules) in
+    c.unwrap_or.ensures ∙ root_unique n _ _ (first_over n c.find.result (omega (arith, c.requires)) d) (rule_is c.args.i c.requires)

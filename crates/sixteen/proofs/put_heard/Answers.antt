@@ -12,4 +12,4 @@ put_call-requires c =
 pub returns : goal.returns
 returns c =
     let a = c.args in
-    heard_put a.i a.r _ a.l a.ook.now a.fsk.now _ _ _ _ (in_number a.r _ c.map_err.ensures.cases) c.shown-fs.ensures c.shown-os.ensures c.put_call.ensures
+    heard_put a.i a.r _ a.l.now a.ook.now a.fsk.now _ _ _ _ (in_number a.r _ c.map_err.ensures.cases) c.shown-fs.ensures c.shown-os.ensures c.put_call.ensures

@@ -1,4 +1,4 @@
-use mathlib.Core.Path.{◌≡◌, ap, ◌∙◌}
+use mathlib.Core.Path.{◌≡◌, refl, ap, ◌∙◌}
 use Rattle.shared.specs.Core.{whole_out, numbered}
 use Rattle.shared.specs.declared.Out.{Out}
 use Rattle.shared.specs.declared.OutCore.{OutCore}
@@ -18,4 +18,4 @@ burst_back b f o g e₁ e₂ e₃ =
     ∙ ap (λ (x : Out). burst_of b.high b.e_prev b.env b.pac b.train b.out_ook b.frames b.pres b.frame x) e₃
 
 pub returns : goal.returns
-returns c = burst_back _ _ _ _ c.core_frame-frame.ensures c.core_out-out_ook.ensures c.core_out-out_fsk.ensures
+returns c = simp (c.with_frame.ensures, c.with_cand.ensures) (burst_back _ _ _ _ refl c.core_out.ensures c.core_out-2.ensures)

@@ -33,4 +33,4 @@ lane_back l re im b e₁ e₂ =
     ∙ ap (λ (x : Burst). parts_of l l.lead.lead_x (with_serials l.serial l.serial x)) e₂
 
 pub returns : goal.returns
-returns c = let l = c.args.l in λ re im e. lane_back l re im (whole_burst l.burst.frame.cand.cand_f c.core_burst-burst.result) e c.core_burst-burst.ensures
+returns c = let l = c.args.l in λ re im e. lane_back l re im (whole_burst l.burst.frame.cand.cand_f c.core_burst.result) e c.core_burst.ensures

@@ -12,6 +12,7 @@ use lib.ListN.{set, length, length-set}
 use Rattle.step.specs.Core.{zip_of, lead_in}
 use Rattle.step.proofs.Zips.{zip_set, zip_length}
 use Rattle.step.proofs.lead_add.Goals as goal
+use Rattle.step.proofs.lead_add.Goals.{then-i-lt16, else-i-lt16}
 
 -- a sample joins the lead-in, unless that has no place left
 lead_adds : (at n r : ℕ) (es re im : List Float) (e : Float) (x : C32) → r ≡ inc n
@@ -24,10 +25,20 @@ lead_full : (at n r : ℕ) (es re im : List Float) (e : Float) (x : C32) → 16 
 unfolding lead_add_of
 lead_full at n r es re im e x h a b d q = simp (q, set_out es n e (omega (arith, h, a)), set_out (zip_of re im) (n + 1) x (omega (arith, h, b, zip_length re im (b ∙ sym d))))
 
-pub returns-then-i-lt16 : goal.returns-then-i-lt16
-unfolding inc
-returns-then-i-lt16 c = (λ at. lead_adds at _ _ _ _ _ _ _ refl, simp length-set, simp length-set, simp length-set)
-
 pub returns : goal.returns
 unfolding inc
-returns c = (λ at. lead_full at _ _ _ _ _ _ _ c.if-i-lt16.false c.requires.0 c.requires.1 c.requires.2 refl, refl, refl, refl)
+returns c =
+    elim c.if-i-lt16.branch [
+      | then-i-lt16 w ↦ (
+        λ at. simp (w.es-is, w.re-is, w.im-is) (lead_adds at _ _ _ _ _ _ _ refl),
+        simp (w.es-is, length-set),
+        simp (w.re-is, length-set),
+        simp (w.im-is, length-set),
+      )
+      | else-i-lt16 w ↦ (
+        λ at. simp (w.es-is, w.re-is, w.im-is) (lead_full at _ _ _ _ _ _ _ w.if-i-lt16.false c.requires.0 c.requires.1 c.requires.2 refl),
+        simp w.es-is,
+        simp w.re-is,
+        simp w.im-is,
+      )
+    ]

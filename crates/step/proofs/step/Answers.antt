@@ -64,53 +64,48 @@ reads_none : (l : Lane) (s : StepArgs) (ook fsk : List ℕ) → stepped_by (Ok t
 unfolding stamp_of advance_of lead_step fill_of replay_step burst_step settle_of cleared_of
 reads_none l s ook fsk = refl
 
-module _ (l : Lane) (s : StepArgs) (ook fsk : List ℕ) (sound : Bool) (k : Result ⊤ Refusal) (asked : sound ≡ lane_ok l)
-    (num : k ≡ step_refusal_by sound l.settings l.phase l.last s (length ook) (length fsk)) where
-  refusal_is : k ≡ step_refusal l s (length ook) (length fsk)
+module _ (l : Lane) (s : StepArgs) (ook fsk : List ℕ) (k : Result ⊤ Refusal) (num : k ≡ step_refusal l s (length ook) (length fsk)) (ok : k ≡ Ok tt) where
+  none_of : step_refusal_by (lane_ok l) l.settings l.phase l.last s (length ook) (length fsk) ≡ Ok tt
   unfolding step_refusal
-  refusal_is = num ∙ ap (λ (b : Bool). step_refusal_by b l.settings l.phase l.last s (length ook) (length fsk)) asked
+  none_of = sym num ∙ ok
 
-  module _ (ok : k ≡ Ok tt) where
-    passes : sound ≡ true
-    passes = (none_failed true sound (not (eqb l.phase 0)) true (index_ok s.index && follows_of l.last s.index) (step_floats_ok s) (room_ok l.settings (length ook) (length fsk)) (sym num ∙ ok)).lane_ok
+  holds : lane_ok l ≡ true
+  holds = (none_failed true (lane_ok l) (not (eqb l.phase 0)) true (index_ok s.index && follows_of l.last s.index) (step_floats_ok s) (room_ok l.settings (length ook) (length fsk)) none_of).lane_ok
 
-    holds : lane_ok l ≡ true
-    holds = sym asked ∙ passes
+  none : step_refusal_by true l.settings l.phase l.last s (length ook) (length fsk) ≡ Ok tt
+  none = ap (λ (b : Bool). step_refusal_by b l.settings l.phase l.last s (length ook) (length fsk)) (sym holds) ∙ none_of
 
-    none : step_refusal_by true l.settings l.phase l.last s (length ook) (length fsk) ≡ Ok tt
-    none = ap (λ (b : Bool). step_refusal_by b l.settings l.phase l.last s (length ook) (length fsk)) (sym passes) ∙ sym num ∙ ok
-
-    step_by_core : (c : Core) (es re im : List Float) (r : Reply) (lane whole : Lane) (ook' fsk' : List ℕ) → Joins l c
-        → es ≡ l.lead.lead_e → re ≡ reals_of l.lead.lead_x → im ≡ imaginaries_of l.lead.lead_x → lane ≡ whole
-        → (answer_of r whole, ook', fsk') ≡ stepped_by (step_refusal_by true c.settings c.phase c.last s (length ook) (length fsk)) (joined_of c es re im l.ring l.burst.frame.cand.cand_f) s ook fsk
-        → (answer_of r lane, ook', fsk') ≡ stepped l s ook fsk
-    unfolding stepped stamp_of
-    step_by_core c es re im r lane whole ook' fsk' parts is-es is-re is-im is_lane gives =
-        let zips : zip_of re im ≡ l.lead.lead_x =
-        ap (λ (x : List Float). zip_of x im) is-re ∙ ap (zip_of (reals_of l.lead.lead_x)) is-im ∙ zip_parts l.lead.lead_x in
-        ap (λ (x : Lane). (answer_of r x, ook', fsk')) is_lane
-        ∙ gives
-        ∙ ap (λ (x : List Float). stepped_by (step_refusal_by true c.settings c.phase c.last s (length ook) (length fsk)) (joined_of c x re im l.ring l.burst.frame.cand.cand_f) s ook fsk) is-es
-        ∙ ap (λ (x : Lane). stepped_by (step_refusal_by true x.settings x.phase x.last s (length ook) (length fsk)) x s ook fsk) (parts re im zips)
-        ∙ ap (λ (j : Result ⊤ Refusal). stepped_by j (stamp_of l.serial l) s ook fsk) none
-        ∙ reads_none l s ook fsk
-        ∙ ap (λ (j : Result ⊤ Refusal). stepped_by j l s ook fsk) (sym ok ∙ refusal_is)
+  step_by_core : (c : Core) (es re im : List Float) (r : Reply) (lane whole : Lane) (ook' fsk' : List ℕ) → Joins l c
+      → es ≡ l.lead.lead_e → re ≡ reals_of l.lead.lead_x → im ≡ imaginaries_of l.lead.lead_x → lane ≡ whole
+      → (answer_of r whole, ook', fsk') ≡ stepped_by (step_refusal_by true c.settings c.phase c.last s (length ook) (length fsk)) (joined_of c es re im l.ring l.burst.frame.cand.cand_f) s ook fsk
+      → (answer_of r lane, ook', fsk') ≡ stepped l s ook fsk
+  unfolding stepped stamp_of
+  step_by_core c es re im r lane whole ook' fsk' parts is-es is-re is-im is_lane gives =
+      let zips : zip_of re im ≡ l.lead.lead_x =
+      ap (λ (x : List Float). zip_of x im) is-re ∙ ap (zip_of (reals_of l.lead.lead_x)) is-im ∙ zip_parts l.lead.lead_x in
+      ap (λ (x : Lane). (answer_of r x, ook', fsk')) is_lane
+      ∙ gives
+      ∙ ap (λ (x : List Float). stepped_by (step_refusal_by true c.settings c.phase c.last s (length ook) (length fsk)) (joined_of c x re im l.ring l.burst.frame.cand.cand_f) s ook fsk) is-es
+      ∙ ap (λ (x : Lane). stepped_by (step_refusal_by true x.settings x.phase x.last s (length ook) (length fsk)) x s ook fsk) (parts re im zips)
+      ∙ ap (λ (j : Result ⊤ Refusal). stepped_by j (stamp_of l.serial l) s ook fsk) none
+      ∙ reads_none l s ook fsk
+      ∙ ap (λ (j : Result ⊤ Refusal). stepped_by j l s ook fsk) (sym ok ∙ num)
 
 pub step_core-a-requires : goal.step_core-a-requires
 step_core-a-requires c =
     let args = c.args in
-    let fine = holds args.l args.s args.ook.now args.fsk.now _ _ c.lane_ok-sound.ensures c.step_refusal.ensures c.in_default.is in (
+    let fine = holds args.l args.s args.ook.now args.fsk.now _ c.step_refusal.ensures c.in_default.is in (
       c.envelopes-es.ensures.1,
-      c.reals-re.ensures.1,
-      c.imaginaries-im.ensures.1,
-      lead_core args.l c.core_of-c.result fine c.core_of-c.ensures,
-      serial_core args.l c.core_of-c.result fine c.core_of-c.ensures,
+      c.parts.ensures.2,
+      c.parts.ensures.3,
+      lead_core args.l c.core_of.result fine c.core_of.ensures,
+      serial_core args.l c.core_of.result fine c.core_of.ensures,
     )
 
 pub returns : goal.returns
 returns c =
     let args = c.args in
-    step_by_core args.l args.s args.ook.now args.fsk.now c.lane_ok-sound.result _ c.lane_ok-sound.ensures c.step_refusal.ensures c.in_default.is
-    c.core_of-c.result c.envelopes-es.result c.reals-re.result c.imaginaries-im.result _ _ _ _ _
-    c.core_of-c.ensures c.envelopes-es.ensures.0 c.reals-re.ensures.0 c.imaginaries-im.ensures.0
-    c.joined-lane.ensures c.step_core-a.ensures.0
+    step_by_core args.l args.s args.ook.now args.fsk.now _ c.step_refusal.ensures c.in_default.is
+    c.core_of.result c.envelopes-es.result c.parts.result.0 c.parts.result.1 _ _ _ _ _
+    c.core_of.ensures c.envelopes-es.ensures.0 c.parts.ensures.0 c.parts.ensures.1
+    c.joined.ensures c.step_core-a.ensures.0

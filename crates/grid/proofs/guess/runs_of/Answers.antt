@@ -7,8 +7,11 @@ use Rattle.grid.proofs.guess.runs_of.Goals as goal
 pub transitions-requires : goal.transitions-requires
 transitions-requires c =
     let few : length c.args.ends.now < 2 ^ 63 = search rules in
-    countable _ _ (λ s x h. search rules) (λ s x r h. search rules) _ _ few
+    let none = c.default.ensures in
+    rw (none.0, none.1.1) (countable _ _ (λ s x h. search rules) (λ s x r h. search rules) _ _ few)
 
 pub returns : goal.returns
 unfolding runs_of
-returns c = folded _ runs_step (λ s x r h. search rules) _ _ _ c.transitions.ensures
+returns c =
+    let f = folded _ runs_step (λ s x r h. search rules) _ _ _ c.transitions.ensures in
+    search rules

@@ -1,0 +1,2 @@
+-- The laws that proofs cite, here and in the crates above.
+pub mod Sample

@@ -1,4 +1,0 @@
-use Rattle.lane.proofs.no_runs.Goals as goal
-
-pub returns : goal.returns
-returns c = simp (← c.no_run-run.ensures)

@@ -1,0 +1,1 @@
+-- The laws that proofs cite, here and in the crates above: none.
