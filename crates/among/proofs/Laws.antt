@@ -14,11 +14,12 @@ use Rattle.std.specs.Prelude.{Ok, Err}
 use Rattle.std.specs.List.{fold}
 use Rattle.refusals.specs.Domain.{index_ok, room_ok}
 use Rattle.refusals.specs.Serial.{serial_left}
-use Rattle.refusals.specs.Order.{check, first_failed}
+use Rattle.refusals.specs.Order.{number_of, check, first_failed}
 use Rattle.refusals.specs.declared.Refusal.TheVariants as refusal
 use Rattle.lane.specs.declared.Lane.{Lane}
 use Rattle.lane.specs.declared.BeginArgs.{BeginArgs}
 use Rattle.lane.specs.declared.Answer.{Answer}
+use Rattle.lane.specs.Answers.{Reply, answer_of}
 use Rattle.lane.specs.Refusals.{lane_ok, begin_floats_ok, begin_refusal}
 use Rattle.lane.specs.Idle.{idle_lane}
 use Rattle.lane.specs.Step.{new_lane, refuse, begun, begun_by}
@@ -28,7 +29,7 @@ use Rattle.commands.specs.declared.Command.TheVariants.{Open, OpenCarry, Begin, 
 use Rattle.calls.specs.Turn.{State, Called, called}
 use Rattle.calls.proofs.Silent.{call_sound}
 use Rattle.among.specs.Among.{places, begin_refusal_among, begun_among, called_among, out_of, outs}
-use Rattle.among.specs.Settled.{is_begin_of, late_of, settled_of}
+use Rattle.among.specs.Settled.{is_begin_of, late_of, settled_of, settled_by}
 
 -- ---- refusal 12 in the order of checks
 
@@ -69,6 +70,15 @@ settled n p (Ok (Begin b)) = ap (λ (a : Answer). (a, p.1, p.2)) (begin_settled 
 settled n p (Ok (Step s)) = refl
 settled n p (Ok Close) = refl
 settled n p (Err m) = refl
+
+-- an answer is a reply with its lane
+pub settled_answer : (n : ℕ) (k : Found) (l : Lane) (a : Answer) (r : Reply × Lane) → r ≡ settled_by number_of refusal.Places n k l (a.reply, a.lane) → answer_of r.0 r.1 ≡ settled_of n k l a
+unfolding settled_by settled_of
+settled_answer n k l a r e = ap (λ (p : Reply × Lane). answer_of p.0 p.1) e ∙ go (is_begin_of k && (leb places n && late_of a.reply))
+  where
+    go : (b : Bool) → (let p : Reply × Lane = cond b (Err refusal.Places, l) (a.reply, a.lane) in answer_of p.0 p.1) ≡ cond b (refuse refusal.Places l) a
+    go true = refl
+    go false = refl
 
 -- as the code has it: the lane's own call, and then 12
 pub settled_call : (n : ℕ) (p : State) (k : Found) (a r : Answer) (ook fsk : List ℕ) → ◌≡◌ {A = Called} (a, ook, fsk) (called p k) → r ≡ settled_of n k p.0 a → ◌≡◌ {A = Called} (r, ook, fsk) (called_among n p k)

@@ -2,10 +2,9 @@
 // `boundaries` the widths that add up. The crates above see these contracts only.
 #![tactic(auto)]
 
-ghost use Rattle.std.specs.Prelude.{◌≡◌};
+ghost use Rattle.std.specs.Prelude.{◌≡◌, refl, is_nan, Float as Ieee754};
+ghost use Rattle.std.specs.Ordering.{float_partial_cmp};
 ghost use Rattle.arith.specs.Leaves.{abs_of, midpoint_of, flush_of, max_of, min_of, plus_of, cmul_conj_of, cross_of, edge_of, step_of, whole_of, width_of, fsk_width_of, run_fix_of, gain_of, lead_len_of};
-
-use num_traits::Float;
 
 mod angle;
 mod boundaries;
@@ -68,6 +67,38 @@ pub fn flush_denormal(x: f32) -> f32
     ensures { result ≡ flush_of x }
 {
     if abs(x) < f32::MIN_POSITIVE { 0.0 } else { x }
+}
+
+// A float of either width: `max` and `min` are the same at both.
+pub trait Float: Copy + PartialOrd {
+    // The value, as clauses name it.
+    ghost float: { Self → Ieee754 };
+
+    fn is_nan(self) -> bool
+        ensures { result ≡ is_nan (float self) };
+
+    // Two are compared as IEEE 754 has it (5.11).
+    ghost float_order_law: { (a b : Self) → Self.partial_cmp a b ≡ float_partial_cmp (float a) (float b) };
+}
+
+impl Float for f32 {
+    ghost float = { λ x. x };
+
+    fn is_nan(self) -> bool {
+        f32::is_nan(self)
+    }
+
+    ghost float_order_law = { λ a b. refl };
+}
+
+impl Float for f64 {
+    ghost float = { λ x. x };
+
+    fn is_nan(self) -> bool {
+        f64::is_nan(self)
+    }
+
+    ghost float_order_law = { λ a b. refl };
 }
 
 // The larger, and the other where one is a NaN. It is not std's `max`, since of two zeros that may answer either, and this the first.

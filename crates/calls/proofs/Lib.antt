@@ -1,4 +1,5 @@
 pub mod Laws
+pub mod Orderly
 pub mod Silent
 pub mod Taken
 pub mod Cores

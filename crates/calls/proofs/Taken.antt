@@ -27,7 +27,8 @@ use Rattle.calls.specs.Turn.{State, Called, called, next, answer_text, called_te
 use Rattle.calls.specs.Steps.{quiet_of, Stepped, Went, Took}
 use Rattle.calls.specs.Stream.{machine}
 use Rattle.calls.proofs.Laws.{there, shown_most, called_short, too_few_left}
-use Rattle.calls.specs.Orderly.{orderly, step_settled}
+use Rattle.calls.specs.Orderly.{step_settled}
+use Rattle.calls.proofs.Orderly.{orderly}
 use Rattle.calls.proofs.Silent.{call_sound, kept_room, Steps, none, some, steps_sound, went_all}
 
 -- ---- a step among the commands

@@ -1,10 +1,11 @@
 -- The listing program is one over a stream: a command that is not waited for is decoded from a part as from the whole.
--- The lemmas stand here too: the impl of `Station` names `orderly`, and what a contract names may not use the proofs of its own crate.
-use Prim.Native.Nat.{ℕ, ◌<◌}
+-- The lemmas stand here too: the impl of `Station` names `orderly_if`, and what a contract names may not use the proofs of its own crate. That the
+-- beginning of a command is waited for is a premise here, which the impl shows: a definition of `waits` that did not wait for it fails there, and
+-- these lemmas stand. The laws without the premise are in proofs/Orderly.
+use Prim.Native.Nat.{ℕ}
 use mathlib.Core.Bool.{true, false}
 use mathlib.Core.Path.{◌≡◌, refl, sym, ◌∙◌, ap}
 use mathlib.Core.List.{List, [], ◌∷◌, ◌++◌}
-use lib.ListN.{length, drop}
 use Rattle.shared.proofs.Tests.{clash}
 use Rattle.std.specs.Prelude.{Ok, Err}
 use Rattle.commands.specs.declared.Missing.TheVariants as missing
@@ -12,17 +13,21 @@ use Rattle.commands.specs.Command.{Found, decoded, size_of, is_step_of}
 use Rattle.commands.specs.Stream.{whole}
 use Rattle.commands.proofs.Stream.{taken, size_fits, decoded_more, none_there, some_there, is_end, a_step}
 use Rattle.stream.specs.Machine.{Settled, Orderly}
-use Rattle.stream.proofs.Taken.{settles, some_left}
+use Rattle.stream.proofs.Taken.{settles}
 use Rattle.calls.specs.Turn.{State, called, next, text_of, waits}
 use Rattle.calls.specs.Stream.{machine}
 
 -- ---- when a command is made
 
-pub waits_whole : (k : Found) → waits false k ≡ false → whole k ≡ true
-waits_whole (Ok k) w = refl
-waits_whole (Err missing.End) w = clash w
-waits_whole (Err missing.Unknown) w = refl
-waits_whole (Err missing.Short) w = clash w
+-- where more may come, the beginning of a command is waited for
+abbrev pub ShortWaits : Type 0
+ShortWaits = waits false (Err missing.Short) ≡ true
+
+pub waits_whole_if : ShortWaits → (k : Found) → waits false k ≡ false → whole k ≡ true
+waits_whole_if h (Ok k) w = refl
+waits_whole_if h (Err missing.End) w = clash w
+waits_whole_if h (Err missing.Unknown) w = refl
+waits_whole_if h (Err missing.Short) w = clash (sym h ∙ w)
 
 -- where no byte will come, only nothing is waited for
 last_waits : (k : Found) → waits true k ≡ is_end k
@@ -56,17 +61,13 @@ unfolding called
 no_command p (Ok k) h = absurd (taken k h)
 no_command p (Err m) h = refl
 
-pub orderly : Orderly machine
-orderly =
+pub orderly_if : ShortWaits → Orderly machine
+orderly_if h =
     record {
       fits = size_fits;
       none_waits = λ last. ap (waits last) none_there;
       none_printed = λ p. ap (λ (k : Found). text_of k (called p k)) none_there;
       all_used = used_all;
       stays = λ p s h. no_command p (decoded s) h;
-      settled = settles machine (λ s t w. settled_by s t (decoded_more s t (waits_whole (decoded s) w)));
+      settled = settles machine (λ s t w. settled_by s t (decoded_more s t (waits_whole_if h (decoded s) w)));
     }
-
--- where a byte is, a command is there
-pub bytes_there : (s : List ℕ) (from : ℕ) (k : Found) → from < length s → k ≡ decoded (drop from s) → waits true k ≡ false
-bytes_there s from k inside is_k = ap (waits true) is_k ∙ some_left machine orderly s from inside

@@ -253,7 +253,8 @@ impl<'a, 'b> Station for Lent<'a, 'b> {
     ghost use Rattle.reached.specs.Reached.{Sound};
     ghost use Rattle.calls.specs.Stream.{machine as program};
     ghost use Rattle.calls.specs.Steps.{state_of, buffers_of};
-    ghost use Rattle.calls.specs.Orderly.{orderly as keeps_order};
+    ghost use Rattle.calls.specs.Orderly.{orderly_if};
+    ghost use Rattle.std.specs.Prelude.{refl};
 
     ghost machine = { program };
 
@@ -275,7 +276,8 @@ impl<'a, 'b> Station for Lent<'a, 'b> {
         turn(lane, s, from, last, ook, fsk, text, at)
     }
 
-    ghost orderly = { keeps_order };
+    // `refl`: where more may come, the beginning of a command is waited for.
+    ghost orderly = { orderly_if refl };
 }
 
 // The turns of a block of bytes by a lane with its buffers, up to where they stop. `last` says that no

@@ -42,6 +42,21 @@ impl Display for Why {
     }
 }
 
+// Which program failed, and at what: in one write, so that a writer which takes no more has no half of it.
+#[derive(Drop)]
+struct What<'a>(&'a str, &'a str);
+
+impl<'a> Display for What<'a> {
+    fn fmt<W: fmt::Write>(&self, f: &mut Formatter<W>) -> fmt::Result {
+        let What(program, what) = self;
+        let mut said = Cursor::new([0u8; 128]);
+        match write!(said, "{program}: {what}") {
+            Ok(()) => f.write_str(words(&said.into_inner())),
+            Err(_) => write!(f, "{program}: {what}"),
+        }
+    }
+}
+
 // The text up to its first zero, and without the number that std puts after the system's words.
 fn words(text: &[u8]) -> &str {
     let end = text.iter().position(|b| *b == 0).unwrap_or(text.len());
@@ -62,10 +77,10 @@ pub fn status<E: Write>(program: &str, done: Result<(), Failed>, err: &mut E) ->
     let (what, why) = match done {
         Ok(()) => return ExitCode::SUCCESS,
         Err(Failed::Endless) => return ExitCode::FAILURE,
-        Err(Failed::Read(why)) => ("read", Why(why)),
-        Err(Failed::Write(why)) => ("write", Why(why)),
+        Err(Failed::Read(why)) => (What(program, "read"), Why(why)),
+        Err(Failed::Write(why)) => (What(program, "write"), Why(why)),
     };
-    let _ = writeln!(err, "{program}: {what}: {why}");
+    let _ = writeln!(err, "{what}: {why}");
     ExitCode::FAILURE
 }
 
@@ -175,6 +190,40 @@ mod tests {
                 })
             )
         );
+        Ok(())
+    }
+
+    // A writer that takes all, and keeps how many bytes each of its first writes had.
+    #[derive(Drop)]
+    struct Pieces {
+        lengths: [usize; 8],
+        count: usize,
+    }
+
+    impl Write for Pieces {
+        fn write(&mut self, buf: &[u8]) -> io::Result<usize> {
+            if self.count < 8 {
+                self.lengths[self.count] = buf.len();
+                self.count += 1;
+            }
+            Ok(buf.len())
+        }
+
+        fn flush(&mut self) -> io::Result<()> {
+            Ok(())
+        }
+    }
+
+    #[test]
+    fn a_failure_is_said_in_four_writes(rt: HostRuntime) -> Result<(), Fail> {
+        let mut err = Pieces {
+            lengths: [0; 8],
+            count: 0,
+        };
+        let written = put(&mut Failing(28), b"lines");
+        let _ = status("t", written, &mut err);
+        // "t: write", ": ", "No space left on device" and the line feed.
+        assert_eq!(rt; err.lengths, [8, 2, 23, 1, 0, 0, 0, 0]);
         Ok(())
     }
 

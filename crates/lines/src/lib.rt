@@ -173,7 +173,7 @@ impl<'a> Text<'a> {
     }
 
     // A record's line after a tag, if it decides a train.
-    fn put_record(&mut self, tag: &[u8], o: Out, part: &[u32])
+    pub fn put_record(&mut self, tag: &[u8], o: Out, part: &[u32])
         requires { RoomFor (length tag.now + train_room (length part.now)) self.old }
         ensures { Puts (after_tag tag.now (record_line o part.now)) (length tag.now + train_room (length part.now)) self.old self.new }
     {
@@ -185,7 +185,7 @@ impl<'a> Text<'a> {
 
     // ---- the lines of a call
 
-    fn put_idle(&mut self, index: u64)
+    pub fn put_idle(&mut self, index: u64)
         requires { RoomFor 48 self.old }
         ensures { Puts (idle_line index) 48 self.old self.new }
     {
@@ -194,7 +194,7 @@ impl<'a> Text<'a> {
         self.put_byte(b'\n');
     }
 
-    fn put_idle_at(&mut self, index: u64, e: f32)
+    pub fn put_idle_at(&mut self, index: u64, e: f32)
         requires { RoomFor 48 self.old }
         ensures { Puts (carrier_line index e) 48 self.old self.new }
     {

@@ -6,7 +6,7 @@ use Prim.Native.Nat.{ℕ}
 use Rattle.stream.specs.Machine.{May}
 use Rattle.stream.proofs.Printed.{program_prints}
 use Rattle.calls.specs.Stream.{machine, listing_of}
-use Rattle.calls.specs.Orderly.{orderly}
+use Rattle.calls.proofs.Orderly.{orderly}
 use Rattle.listing.specs.Ends.{Ends}
 
 -- from a new lane with buffers of zeros, a run that is over has printed the listing of what it read, whatever comes after its end

@@ -16,12 +16,12 @@ use std::process::ExitCode;
 // 768 lines of at most 21 bytes.
 const ROOM: usize = 768 * 21;
 
-// The number of i: the first whose next one has a square above 64 * i.
+// The number of i.
 fn rule(i: u64) -> u64
     requires { i < 1024 }
     ensures { result ≡ rule_of i }
 {
-    (0..255).find(|r| (r + 1) * (r + 1) > 64 * i).unwrap_or(255)
+    (64 * i).isqrt()
 }
 
 fn put_line(n: u64, text: &mut Text)

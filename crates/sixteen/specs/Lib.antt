@@ -2,3 +2,4 @@
 pub mod Sixteen
 pub mod Spoken
 pub mod Orderly
+pub mod Lent

@@ -16,7 +16,8 @@ use Rattle.commands.specs.Command.{Found, size_of}
 use Rattle.commands.proofs.Stream.{taken}
 use Rattle.commands.specs.Stream.{whole}
 use Rattle.calls.specs.Turn.{Called, unchanged, missed, called, waits}
-use Rattle.calls.specs.Orderly.{waits_whole, only_end}
+use Rattle.calls.specs.Orderly.{only_end}
+use Rattle.calls.proofs.Orderly.{waits_whole}
 use Rattle.addressed.specs.Addressed.{addressed_of, antenna_of, addressed_size}
 use Rattle.addressed.proofs.Laws.{size_fits, addressed_more, antenna_more, some_there, none_there}
 use Rattle.among.specs.Among.{antennas, called_among, Lanes, put_at, lane_at, answer_to, after_call}

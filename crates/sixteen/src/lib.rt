@@ -2,15 +2,16 @@
 // with that lane's own pair of buffers, and its lines written after the antenna's number.
 #![tactic(auto)]
 
-ghost use Rattle.std.specs.Prelude.{◌≡◌, true, false, ◌&&◌, ltb, ◌+◌, ◌≤◌, length};
+ghost use Rattle.std.specs.Prelude.{◌≡◌, true, false, ◌&&◌, ltb, ◌+◌, ◌<◌, ◌≤◌, length};
 ghost use Rattle.commands.specs.Command.{is_step_of};
 ghost use Rattle.lines.specs.Line.{Put};
 ghost use Rattle.lines.specs.Text.{RoomFor, Puts};
 ghost use Rattle.reached.specs.Reached.{Sound};
 ghost use Rattle.calls.specs.Turn.{Called, most_of};
 ghost use Rattle.lane.specs.Answers.{answer_of};
-ghost use Rattle.among.specs.Among.{antennas, outs};
-ghost use Rattle.sixteen.specs.Sixteen.{heard_text, none_text, spoken_text, row_of, at_first};
+ghost use Rattle.among.specs.Among.{antennas, outs, lane_at, Sized};
+ghost use Rattle.stream.specs.Blocks.{Streamed};
+ghost use Rattle.sixteen.specs.Sixteen.{heard_text, none_text, spoken_text, row_of, machine, at_first};
 ghost use Rattle.sixteen.specs.Spoken.{Stands, one_of, Heard, spoken_room, has_tagged_room, Told, held, lanes_of, state_of, AllSound, IsSound};
 
 use calls::Past;
@@ -18,7 +19,7 @@ use commands::{Found, Missing};
 use lane::{Answer, Lane, Reply};
 use lines::Text;
 use refusals::Refusal;
-use stream::{Station, Stop, Turned};
+use stream::{Ran, Station, Stop, Turned};
 
 // A command for an antenna, and how many of the other antennas' lanes are out of idle. The bytes and the
 // place stay beside it: `Stands` says in one word what an invariant would, and this has no lifetime.
@@ -37,7 +38,8 @@ fn call_one(q: Asked, l: Lane, ook: &mut [u32], fsk: &[u32]) -> Answer
 {
     if q.antenna < 16 {
         let a = calls::call_other(l, q.command, ook, fsk);
-        return among::settle(l, a, q.command, q.others);
+        let (reply, lane) = among::settle(l, (a.reply, a.lane), q.command, q.others);
+        return Answer { reply, lane };
     }
     Answer {
         reply: among::no_antenna(q.command),
@@ -135,6 +137,33 @@ fn put_answer<'a>(
     t.at
 }
 
+// Whether a text of `len` bytes has room at a place for any call of a lane with these buffers.
+fn has_room_for(l: &Lane, ook: &[u32], fsk: &[u32], len: usize, at: usize) -> bool
+    ensures { result ≡ has_tagged_room (most_of (l.now, ook.now, fsk.now)) len at }
+{
+    let most = calls::most_of(l.settings.max_pulses, ook.len(), fsk.len());
+    has_room(most, len, at)
+}
+
+// The commands from one at a place of the bytes up to the first that prints, and its lines.
+fn turn(
+    q: Asked,
+    lane: &mut Lane,
+    s: &[u8],
+    from: usize,
+    ook: &mut [u32],
+    fsk: &mut [u32],
+    text: &mut [u8],
+    at: usize,
+) -> Turned
+    requires { Stands q s.now from × Sound lane.old × (has_tagged_room (most_of (lane.old, ook.old, fsk.old)) (length text.old) at ≡ true) }
+    ensures { Told q (lane.old, ook.old, fsk.old) s.now from at text.old result (lane.new, ook.new, fsk.new) text.new }
+{
+    let g = pass(q, lane, s, from, ook, fsk);
+    let at = put_answer(q, g.reply, lane, ook, fsk, text, at);
+    Turned { used: g.used, at }
+}
+
 // A lane with its own pair of buffers, for 2,048 pairs each.
 #[derive(Clone, Copy)]
 pub struct Channel {
@@ -148,22 +177,23 @@ impl Channel {
     fn has_room(&self, len: usize, at: usize) -> bool
         ensures { result ≡ has_tagged_room (most_of (held self.now)) len at }
     {
-        let most = calls::most_of(
-            self.lane.settings.max_pulses,
-            self.ook.len(),
-            self.fsk.len(),
-        );
-        has_room(most, len, at)
+        has_room_for(&self.lane, &self.ook, &self.fsk, len, at)
     }
 
-    // The commands from one at a place of the bytes up to the first that prints, and its lines.
     fn turn(&mut self, q: Asked, s: &[u8], from: usize, text: &mut [u8], at: usize) -> Turned
         requires { Stands q s.now from × Sound self.old.lane × (has_tagged_room (most_of (held self.old)) (length text.old) at ≡ true) }
         ensures { Told q (held self.old) s.now from at text.old result (held self.new) text.new }
     {
-        let g = pass(q, &mut self.lane, s, from, &mut self.ook, &mut self.fsk);
-        let at = put_answer(q, g.reply, &self.lane, &self.ook, &self.fsk, text, at);
-        Turned { used: g.used, at }
+        turn(
+            q,
+            &mut self.lane,
+            s,
+            from,
+            &mut self.ook,
+            &mut self.fsk,
+            text,
+            at,
+        )
     }
 }
 
@@ -182,10 +212,11 @@ fn count_out(channels: &[Channel; 16]) -> u32
     ensures counted { result ≡ outs (lanes_of channels.now).0 }
     ensures sized { length channels.now ≡ antennas }
 {
-    channels
-        .iter()
-        .map(|c| u32::from(among::is_out(&c.lane)))
-        .sum()
+    let mut lanes = [channels[0].lane; 16];
+    for (i, c) in channels.iter().enumerate() {
+        lanes[i] = c.lane;
+    }
+    among::count_out(&lanes)
 }
 
 // Sixteen lanes, each with its own pair of buffers, and how many of them are out of idle.
@@ -201,14 +232,15 @@ impl Antennas {
         ensures new { state_of result ≡ at_first }
         ensures sound { IsSound result }
     {
+        let lane = lane::new_lane();
         let channel = Channel {
-            lane: lane::new_lane(),
+            lane,
             ook: [0; 4096],
             fsk: [0; 4096],
         };
         Antennas {
             channels: [channel; 16],
-            out: 0,
+            out: among::count_out(&[lane; 16]),
         }
     }
 
@@ -222,6 +254,14 @@ impl Antennas {
             channels,
             out: count_out(&channels),
         }
+    }
+
+    // An antenna's lane with its buffers, as they stand.
+    pub fn channel(&self, i: usize) -> &Channel
+        requires { i < antennas }
+        ensures { held result.now ≡ lane_at (state_of self.now) i }
+    {
+        &self.channels[i]
     }
 }
 
@@ -269,4 +309,92 @@ impl Station for Antennas {
     }
 
     ghost orderly = { keeps_order };
+}
+
+// ---- sixteen whose buffers are lent
+
+// Sixteen lanes, a row of each of two lent arrays for each, and how many of the lanes are out of idle.
+#[derive(Drop)]
+struct LentRows<'a, 'b> {
+    lanes: [Lane; 16],
+    out: u32,
+    ook: &'a mut [[u32; 4096]; 16],
+    fsk: &'b mut [[u32; 4096]; 16],
+}
+
+impl<'a, 'b> Station for LentRows<'a, 'b> {
+    ghost use Rattle.sixteen.specs.Sixteen.{machine as program};
+    ghost use Rattle.sixteen.specs.Lent.{RowsSound, rows_of, buffers_of};
+    ghost use Rattle.sixteen.specs.Orderly.{orderly as keeps_order};
+
+    ghost machine = { program };
+
+    ghost state = { rows_of };
+
+    ghost is_sound = { RowsSound };
+
+    ghost lent = { buffers_of };
+
+    fn turn(
+        &mut self,
+        s: &[u8],
+        from: usize,
+        last: bool,
+        text: &mut [u8],
+        at: usize,
+    ) -> Result<Turned, Stop> {
+        let LentRows {
+            lanes,
+            out,
+            ook,
+            fsk,
+        } = self;
+        let command = addressed::command_at(s, from);
+        if calls::waits(last, command) {
+            return Err(Stop::Waiting);
+        }
+        let antenna = addressed::antenna_at(s, from);
+        let j = row_of(antenna);
+        if !has_room_for(&lanes[j], &ook[j], &fsk[j], text.len(), at) {
+            return Err(Stop::NoRoom);
+        }
+        let others = *out - u32::from(among::is_out(&lanes[j]));
+        let q = Asked {
+            others,
+            antenna,
+            command,
+        };
+        let lane = &mut lanes[j];
+        let t = turn(q, lane, s, from, &mut ook[j], &mut fsk[j], text, at);
+        *out = others + u32::from(among::is_out(lane));
+        Ok(t)
+    }
+
+    ghost orderly = { keeps_order };
+}
+
+// The turns of a block of bytes by sixteen lanes, whose buffers are lent, up to where they stop. `last`
+// says that no byte will come after the block.
+pub fn block(
+    lanes: [Lane; 16],
+    s: &[u8],
+    last: bool,
+    ook: &mut [[u32; 4096]; 16],
+    fsk: &mut [[u32; 4096]; 16],
+    text: &mut [u8],
+) -> ([Lane; 16], Ran)
+    requires { AllSound lanes }
+    ensures streamed { Streamed machine (lanes, ook.old, fsk.old) s.now last result.1 (result.0, ook.new, fsk.new) text.new }
+    ensures sound { AllSound result.0 }
+    ensures sized { Sized (result.0, ook.new, fsk.new) }
+{
+    let out = among::count_out(&lanes);
+    let mut station = LentRows {
+        lanes,
+        out,
+        ook,
+        fsk,
+    };
+    let ran = stream::block(&mut station, s, last, text);
+    (station.lanes, ran)
 }

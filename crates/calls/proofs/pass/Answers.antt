@@ -9,7 +9,7 @@ use Rattle.std.proofs.Common.{rules}
 use Rattle.lane.specs.declared.StepArgs.{StepArgs}
 use Rattle.commands.specs.Command.{Found, decoded, size_of, step_of, is_step_of}
 use Rattle.commands.proofs.Stream.{size_fits, step_given, a_step}
-use Rattle.calls.specs.Orderly.{bytes_there}
+use Rattle.calls.proofs.Orderly.{bytes_there}
 use Rattle.calls.proofs.Taken.{took_one, step_room, steps_taken}
 use Rattle.calls.proofs.pass.Goals as goal
 

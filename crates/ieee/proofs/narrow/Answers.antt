@@ -1,6 +1,6 @@
 -- The pattern's fields (`Fields.antt`), narrowed below the sign.
 use Rattle.ieee.proofs.Fields.{by_fields, top_plain, narrow_of_nan}
-use Rattle.ieee.proofs.Nan.{told, is_nan_lem, nan_read}
+use Rattle.ieee.proofs.Nan.{told, told_nan, nan_read}
 use Rattle.ieee.proofs.Values.{plain_bits_plus, plain_bits_minus}
 use Rattle.ieee.specs.Rounding.{narrow_of}
 use lib.Ieee.{binary32, binary64, of_bits, to_bits}
@@ -11,7 +11,7 @@ use Rattle.ieee.proofs.narrow.Goals as goal
 
 pub returns-then-is_nan : goal.returns-then-is_nan
 returns-then-is_nan c =
-    let e = is_nan_lem c.args.x (sym c.is_nan.ensures.value ∙ c.if-is_nan.true) in
+    let e = told_nan c.args.x (sym c.is_nan.ensures.value ∙ c.if-is_nan.true) in
     nan_read binary32 0x7fc0_0000 (omega arith) ∙ sym (ap narrow_of e ∙ narrow_of_nan)
 
 pub narrow_fields-r-requires : goal.narrow_fields-r-requires

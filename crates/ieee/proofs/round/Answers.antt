@@ -1,7 +1,7 @@
 -- Whole already from the field 1075 on, and else the whole number below the sign.
 use Rattle.ieee.proofs.Integral.{round_of_nan, whole_already, neg_round}
 use Rattle.ieee.proofs.Fields.{by_fields}
-use Rattle.ieee.proofs.Nan.{told, is_nan_lem}
+use Rattle.ieee.proofs.Nan.{told, told_nan}
 use Rattle.ieee.specs.Rounding.{round_of}
 use lib.Ieee.{binary64, to_bits, in_float, of_int}
 use Rattle.std.proofs.Common.{◌^◌, true, false, sym, ap, ◌∙◌, le→leb, le-leb}
@@ -11,7 +11,7 @@ use Rattle.ieee.proofs.round.Goals as goal
 
 pub returns-then-is_nan : goal.returns-then-is_nan
 returns-then-is_nan c =
-    let e = is_nan_lem c.args.x (sym c.is_nan.ensures.value ∙ c.if-is_nan.true) in
+    let e = told_nan c.args.x (sym c.is_nan.ensures.value ∙ c.if-is_nan.true) in
     e ∙ sym (ap round_of e ∙ round_of_nan)
 
 pub returns-then-e-ge-WHOLE : goal.returns-then-e-ge-WHOLE

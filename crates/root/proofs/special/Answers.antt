@@ -5,7 +5,7 @@ use lib.Ieee.{Float, inf, binary32, eq, lt, is_nan, of_bits}
 use Rattle.ieee.specs.Constants.{zero32}
 use Rattle.root.specs.Root.{special_of}
 use Rattle.root.specs.RootSteps.{IsSpecial, a_zero, plus_infinity, no_number, negative}
-use Rattle.ieee.proofs.Nan.{told, is_nan_lem, nan_read}
+use Rattle.ieee.proofs.Nan.{told, told_nan, nan_read}
 use Rattle.root.proofs.RootSpecial.{special_step, infinity_is, none_of_these}
 use Rattle.root.proofs.special.Goals as goal
 use Rattle.root.proofs.special.Goals.{then-is_nan-via-then-is_nan, then-is_nan-via-else-is_nan+then-x, then-is_nan-via-else-is_nan+else-x+then-x-2}
@@ -25,7 +25,7 @@ returns-then-is_nan c =
     let x = c.args.x in
     elim c.then-is_nan.branch [
       | then-is_nan-via-then-is_nan w ↦
-          let e = is_nan_lem x (sym c.is_nan.ensures.value ∙ w.if-is_nan.true) in
+          let e = told_nan x (sym c.is_nan.ensures.value ∙ w.if-is_nan.true) in
           ap Some e ∙ sym special_step.no_number ∙ ap special_of (sym e)
       | then-is_nan-via-else-is_nan+then-x w ↦ sym (special_step.a_zero x (told w.if-x.true))
       | then-is_nan-via-else-is_nan+else-x+then-x-2 w ↦

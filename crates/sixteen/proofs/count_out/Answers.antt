@@ -1,16 +1,23 @@
--- The lanes out of idle are counted from channel to channel.
-use Rattle.std.proofs.Common.{◌∙◌, arith, rules, tests}
-use Rattle.std.proofs.lemmas.Iterator.{YieldsList-from_slice, YieldsList-from_map}
-use Rattle.std.proofs.lemmas.Iterator.Consumers.{sum_by_from_yields_List, fits_by_from_yields_list}
-use Rattle.among.proofs.Laws.{counted}
-use Rattle.sixteen.proofs.Turns.{out_in, outs_channels, outs_few}
+-- The lanes are taken out of the channels, place by place.
+use mathlib.Core.Path.{refl, sym, ap, ◌∙◌}
+use native.Mathlib.Omega.{arith}
+use Rattle.std.proofs.lemmas.List.{get_or-map, length-map}
+use Rattle.lane.specs.Step.{new_lane}
+use Rattle.among.specs.Among.{outs}
+use Rattle.step.proofs.Fills.{fill_start, fill_turn, fill_end}
+use Rattle.sixteen.proofs.Turns.{lane_in}
 use Rattle.sixteen.proofs.count_out.Goals as goal
 
-pub sum-requires-clause-fits : goal.sum-requires-clause-fits
-sum-requires-clause-fits c = fits_by_from_yields_list out_in c.args.channels.now c.map.result _ (YieldsList-from_map _ out_in (YieldsList-from_slice c.args.channels.now cc) c.map.ensures.closure (λ x r q k. search (rules, tests, counted))) (omega (arith, outs_channels c.args.channels.now 0, outs_few c.args.channels.now, c.told-channels))
+pub loop-i-init : goal.loop-i-init
+loop-i-init c = fill_start refl (length-map c.args.channels.now lane_in ∙ c.told-channels)
+
+pub loop-i-preserved : goal.loop-i-preserved
+loop-i-preserved c =
+    let v = c.loop-i in
+    fill_turn v.invariant new_lane c.loop-i-test.true (sym (get_or-map lane_in c.args.channels.now _ _ new_lane (omega (arith, c.loop-i-test.true))))
 
 pub returns-clause-sized : goal.returns-clause-sized
 returns-clause-sized c = c.told-channels
 
 pub returns-clause-counted : goal.returns-clause-counted
-returns-clause-counted c = sum_by_from_yields_List out_in c.args.channels.now c.map.result _ c.sum.ensures.ran (YieldsList-from_map _ out_in (YieldsList-from_slice c.args.channels.now cc) c.map.ensures.closure (λ x r q k. search (rules, tests, counted))) ∙ outs_channels c.args.channels.now 0 ∙ (omega arith)
+returns-clause-counted c = c.count_out.ensures ∙ ap outs (fill_end c.loop-i.invariant c.loop-i-test.false)

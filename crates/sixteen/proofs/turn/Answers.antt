@@ -2,7 +2,7 @@
 use mathlib.Core.Path.{refl}
 use lib.ListN.{length}
 use Rattle.sixteen.proofs.Taken.{room_spoken, turn_told}
-use Rattle.sixteen.proofs.Channel.turn.Goals as goal
+use Rattle.sixteen.proofs.turn.Goals as goal
 
 pub put_answer-at-requires : goal.put_answer-at-requires
 put_answer-at-requires c = room_spoken _ (length c.args.text.now) c.args.at _ _ _ _ c.requires.2 c.pass-g.ensures.shown
