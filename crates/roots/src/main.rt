@@ -17,11 +17,11 @@ use std::process::ExitCode;
 const ROOM: usize = 768 * 21;
 
 // The number of i.
-fn rule(i: u64) -> u64
+fn rule(i: u32) -> u64
     requires { i < 1024 }
     ensures { result ≡ rule_of i }
 {
-    (64 * i).isqrt()
+    u64::from((64 * i).isqrt())
 }
 
 fn put_line(n: u64, text: &mut Text)
