@@ -50,9 +50,12 @@ impl<'a> Display for What<'a> {
     fn fmt<W: fmt::Write>(&self, f: &mut Formatter<W>) -> fmt::Result {
         let What(program, what) = self;
         let mut said = Cursor::new([0u8; 128]);
-        match write!(said, "{program}: {what}") {
-            Ok(()) => f.write_str(words(&said.into_inner())),
-            Err(_) => write!(f, "{program}: {what}"),
+        let fits = write!(said, "{program}: {what}").is_ok();
+        let end = said.position() as usize;
+        let room = said.into_inner();
+        match str::from_utf8(room.get(..end).unwrap_or(&[])) {
+            Ok(all) if fits => f.write_str(all),
+            _ => write!(f, "{program}: {what}"),
         }
     }
 }
